@@ -1,0 +1,248 @@
+-- Laws of digits: how many there are, the number that a row of digits writes and the digits of a number, each of the other; rows that are joined;
+-- half bytes one by one. "All below b" is said of every place, also past the end, where 0 stands.
+-- Assumes nothing.
+use Prim.Native.Nat.{ℕ, zero, suc, _+_, _-_, _*_, _/_, _%_, _^_, _≤_, _<_}
+use mathlib.Core.Path.{_≡_, refl, sym, ap, ap₂, _∙_}
+use mathlib.Core.Bool.{true}
+use mathlib.Core.List.{List, [], _∷_, _++_}
+use native.Mathlib.Nat.{add-assoc, add-comm, add-zero, zero-add, suc-add, mul-comm, mul-assoc, add-mul, mul-one, one-mul, zero-mul}
+use native.Mathlib.Nat.{pow-zero, pow-suc, pow-succ', one-le-pow, mul-le-mul-right, suc-mul, zero-lt-suc}
+use native.Mathlib.Nat.{mod-lt, mod-eq-of-lt, mod-one, div-eq-of-lt, div-add-mod', div-div-eq-div-mul, add-mul-div-right, add-mul-mod-self-right, mul-add-mod-self-right, mul-add-div-right}
+use native.Mathlib.Omega.{arith}
+use borrow.Author.Tests.{ltb-true, lt-ltb}
+use lib.Dec.{ltb}
+use lib.Pow.{pow-add}
+use lib.ListN.{length, take, drop, getD, length-append}
+use lib.Seq.{take-at, drop-at, take-nil, drop-nil, ext-getD}
+use Rattle.base.specs.Lists.{every}
+use Rattle.base.specs.Digits.{value, digits, halves}
+use Rattle.base.proofs.ListLaws.{every-from, every-all}
+
+-- ---- all below b
+
+pub all-below : (b : ℕ) (xs : List ℕ) → 0 < b → every (λ x. ltb x b) xs ≡ true → (k : ℕ) → getD xs k 0 < b
+all-below b xs p e k = ltb-true (getD xs k 0) b (every-all (λ x. ltb x b) (lt-ltb 0 b p) xs e k)
+
+pub below-all : (b : ℕ) (xs : List ℕ) → ((k : ℕ) → k < length xs → getD xs k 0 < b) → every (λ x. ltb x b) xs ≡ true
+below-all b xs h = every-from (λ x. ltb x b) xs (λ k l. lt-ltb (getD xs k 0) b (h k l))
+
+pub positive-pow : {b : ℕ} → 0 < b → (n : ℕ) → 0 < b ^ n
+positive-pow {b} p n = one-le-pow n b p
+
+-- ---- value
+
+pub length-digits : (b n v : ℕ) → length (digits b n v) ≡ n
+unfolding digits
+length-digits b zero v = refl
+length-digits b (suc n) v = ap suc (length-digits b n v)
+
+value-step : (x p q r s : ℕ) → x * (p * q) + (r * q + s) ≡ (x * p + r) * q + s
+value-step x p q r s = simp (add-mul, mul-assoc, add-assoc)
+
+pub value-append : (b : ℕ) (xs ys : List ℕ) → value b (xs ++ ys) ≡ value b xs * b ^ length ys + value b ys
+unfolding value
+value-append b [] ys = rw (zero-mul, zero-add)
+value-append b (x ∷ xs) ys =
+    rw (length-append xs ys, pow-add b (length xs) (length ys), value-append b xs ys)
+    (value-step x (b ^ length xs) (b ^ length ys) (value b xs) (value b ys))
+
+-- one digit more
+pub value-snoc : (b : ℕ) (xs : List ℕ) (x : ℕ) → value b (xs ++ (x ∷ [])) ≡ value b xs * b + x
+unfolding value
+value-snoc b xs x =
+    let one : b ^ 1 ≡ b = pow-suc b 0 ∙ ap (λ (p : ℕ). p * b) (pow-zero b) ∙ one-mul b in
+    let none : x * b ^ 0 ≡ x = ap (λ (p : ℕ). x * p) (pow-zero b) ∙ mul-one x in
+    value-append b xs (x ∷ []) ∙ rw (one, none, add-zero x)
+
+-- the number that two digits write
+pub value-two : (b x y : ℕ) → value b (x ∷ y ∷ []) ≡ x * b + y
+unfolding value
+value-two b x y = value-snoc b (x ∷ []) y ∙ ap (λ (v : ℕ). v * b + y) (value-snoc b [] x ∙ rw (zero-mul b, zero-add x))
+
+pub value-first-two : (b : ℕ) (xs : List ℕ) → 2 ≤ length xs → value b (take 2 xs) ≡ getD xs 0 0 * b + getD xs 1 0
+value-first-two b [] h = absurd (omega arith)
+value-first-two b (x ∷ []) h = absurd (omega arith)
+value-first-two b (x ∷ y ∷ xs) h = value-two b x y
+
+top-below : (x b q w : ℕ) → x < b → w < q → x * q + w < b * q
+top-below x b q w l m =
+    let g : suc x * q ≤ b * q = mul-le-mul-right q l in
+    let e : suc x * q ≡ x * q + q = suc-mul x q in
+    omega arith
+
+-- digits below b write a number below b to the power of their number
+pub value-below : (b : ℕ) (xs : List ℕ) → ((k : ℕ) → getD xs k 0 < b) → value b xs < b ^ length xs
+unfolding value
+value-below b [] h = rw (pow-zero b) (zero-lt-suc 0)
+value-below b (x ∷ xs) h =
+    rw (pow-succ' b (length xs)) (top-below x b (b ^ length xs) (value b xs) (h 0) (value-below b xs (λ k. h (suc k))))
+
+-- ---- digits
+
+pub digits-append : (b m n v : ℕ) → digits b (m + n) v ≡ digits b m (v / b ^ n) ++ digits b n v
+unfolding digits
+digits-append b zero n v = ap (λ (k : ℕ). digits b k v) (zero-add n)
+digits-append b (suc m) n v =
+    ap (λ (k : ℕ). digits b k v) (suc-add m n)
+    ∙ ap₂ (λ (x : ℕ) (xs : List ℕ). x ∷ xs)
+    (ap (λ (p : ℕ). v / p % b) (pow-add b m n ∙ mul-comm (b ^ m) (b ^ n)) ∙ ap (λ (d : ℕ). d % b) (sym (div-div-eq-div-mul v (b ^ n) (b ^ m))))
+    (digits-append b m n v)
+
+pub take-digits : (b m n v : ℕ) → take m (digits b (m + n) v) ≡ digits b m (v / b ^ n)
+take-digits b m n v = rw (digits-append b m n v) (take-at (digits b m (v / b ^ n)) (digits b n v) m (length-digits b m (v / b ^ n)))
+
+pub drop-digits : (b m n v : ℕ) → drop m (digits b (m + n) v) ≡ digits b n v
+drop-digits b m n v = rw (digits-append b m n v) (drop-at (digits b m (v / b ^ n)) (digits b n v) m (length-digits b m (v / b ^ n)))
+
+-- the last n digits see nothing of what is a multiple of b to the power n
+pub digits-add-multiple : (b n v w : ℕ) → 0 < b → digits b n (v + w * b ^ n) ≡ digits b n v
+unfolding digits
+digits-add-multiple b zero v w p = refl
+digits-add-multiple b (suc n) v w p =
+    rw (pow-suc b n, mul-comm (b ^ n) b, ← mul-assoc w b (b ^ n))
+    (ap₂ (λ (x : ℕ) (xs : List ℕ). x ∷ xs)
+    (ap (λ (d : ℕ). d % b) (add-mul-div-right v (w * b) (positive-pow p n)) ∙ add-mul-mod-self-right (v / b ^ n) w b)
+    (digits-add-multiple b n v (w * b) p))
+
+pub digits-mod : (b n v : ℕ) → 0 < b → digits b n (v % b ^ n) ≡ digits b n v
+digits-mod b n v p =
+    sym (digits-add-multiple b n (v % b ^ n) (v / b ^ n) p)
+    ∙ ap (digits b n) (add-comm (v % b ^ n) (v / b ^ n * b ^ n) ∙ div-add-mod' v (b ^ n))
+
+pub digits-below : (b n v : ℕ) → 0 < b → (k : ℕ) → getD (digits b n v) k 0 < b
+unfolding digits
+digits-below b zero v p k = p
+digits-below b (suc n) v p zero = mod-lt (v / b ^ n) p
+digits-below b (suc n) v p (suc k) = digits-below b n v p k
+
+pub getD-digits : (b n v k : ℕ) → k < n → getD (digits b n v) k 0 ≡ v / b ^ (n - (k + 1)) % b
+unfolding digits
+getD-digits b zero v k h = absurd (omega arith)
+getD-digits b (suc n) v zero h = let e : n ≡ suc n - (0 + 1) = omega arith in ap (λ (j : ℕ). v / b ^ j % b) e
+getD-digits b (suc n) v (suc k) h =
+    let e : n - (k + 1) ≡ suc n - (suc k + 1) = omega arith in
+    let l : k < n = omega arith in
+    getD-digits b n v k l ∙ ap (λ (j : ℕ). v / b ^ j % b) e
+
+-- ---- one of the other
+
+-- a remainder in two parts
+pub mod-mul : (v q b : ℕ) → 0 < q → 0 < b → v % (q * b) ≡ v / q % b * q + v % q
+mod-mul v q b p r =
+    ap (λ (n : ℕ). n % (q * b)) whole
+    ∙ mul-add-mod-self-right (v / q / b) (q * b) (v / q % b * q + v % q)
+    ∙ mod-eq-of-lt (rw (mul-comm q b) (top-below (v / q % b) b q (v % q) (mod-lt (v / q) r) (mod-lt v p)))
+  where
+    whole : v ≡ v / q / b * (q * b) + (v / q % b * q + v % q)
+    whole =
+        sym (div-add-mod' v q)
+        ∙ ap (λ (d : ℕ). d * q + v % q) (sym (div-add-mod' (v / q) b))
+        ∙ simp (add-mul, mul-assoc, add-assoc, mul-comm q b)
+
+pub value-digits : (b n v : ℕ) → 0 < b → value b (digits b n v) ≡ v % b ^ n
+unfolding value digits
+value-digits b zero v p = rw (pow-zero b) (sym (mod-one v))
+value-digits b (suc n) v p =
+    rw (length-digits b n v, value-digits b n v p, pow-suc b n) (sym (mod-mul v (b ^ n) b (positive-pow p n) p))
+
+pub value-digits-below : (b n v : ℕ) → 0 < b → v < b ^ n → value b (digits b n v) ≡ v
+value-digits-below b n v p h = value-digits b n v p ∙ mod-eq-of-lt h
+
+head-digit : (x b q w : ℕ) → x < b → w < q → (x * q + w) / q % b ≡ x
+head-digit x b q w l m =
+    let p : 0 < q = omega arith in
+    ap (λ (d : ℕ). d % b) (mul-add-div-right p x w ∙ ap (λ (d : ℕ). x + d) (div-eq-of-lt m) ∙ add-zero x) ∙ mod-eq-of-lt l
+
+pub digits-value : (b : ℕ) (xs : List ℕ) → ((k : ℕ) → getD xs k 0 < b) → digits b (length xs) (value b xs) ≡ xs
+unfolding value digits
+digits-value b [] h = refl
+digits-value b (x ∷ xs) h =
+    let p : 0 < b = omega (arith, h 0) in
+    ap₂ (λ (y : ℕ) (ys : List ℕ). y ∷ ys)
+    (head-digit x b (b ^ length xs) (value b xs) (h 0) (value-below b xs (λ k. h (suc k))))
+    (ap (digits b (length xs)) (add-comm (x * b ^ length xs) (value b xs))
+    ∙ digits-add-multiple b (length xs) (value b xs) x p
+    ∙ digits-value b xs (λ k. h (suc k)))
+
+-- rows of one length that write one number are the same
+pub value-injective : (b : ℕ) (xs ys : List ℕ) → ((k : ℕ) → getD xs k 0 < b) → ((k : ℕ) → getD ys k 0 < b)
+    → length xs ≡ length ys → value b xs ≡ value b ys → xs ≡ ys
+value-injective b xs ys h g e v =
+    sym (digits-value b xs h) ∙ ap₂ (λ (n w : ℕ). digits b n w) e v ∙ digits-value b ys g
+
+-- ---- half bytes
+
+pub length-halves : (xs : List ℕ) → length (halves xs) ≡ 2 * length xs
+unfolding halves
+length-halves [] = refl
+length-halves (x ∷ xs) = let e = length-halves xs in omega arith
+
+pub halves-append : (xs ys : List ℕ) → halves (xs ++ ys) ≡ halves xs ++ halves ys
+unfolding halves
+halves-append [] ys = refl
+halves-append (x ∷ xs) ys = ap (λ (l : List ℕ). x / 16 ∷ x % 16 ∷ l) (halves-append xs ys)
+
+two-more : (n : ℕ) → 2 * suc n ≡ suc (suc (2 * n))
+two-more n = omega arith
+
+pub take-halves : (n : ℕ) (xs : List ℕ) → take (2 * n) (halves xs) ≡ halves (take n xs)
+unfolding halves
+take-halves zero xs = refl
+take-halves (suc n) [] = take-nil (2 * suc n)
+take-halves (suc n) (x ∷ xs) = rw (two-more n) (ap (λ (l : List ℕ). x / 16 ∷ x % 16 ∷ l) (take-halves n xs))
+
+pub drop-halves : (n : ℕ) (xs : List ℕ) → drop (2 * n) (halves xs) ≡ halves (drop n xs)
+unfolding halves
+drop-halves zero xs = refl
+drop-halves (suc n) [] = drop-nil (2 * suc n)
+drop-halves (suc n) (x ∷ xs) = rw (two-more n) (drop-halves n xs)
+
+-- the half byte at an even place is the high half of its byte, at an odd place the low half
+pub half-even : (xs : List ℕ) (k : ℕ) → k % 2 ≡ 0 → getD (halves xs) k 0 ≡ getD xs (k / 2) 0 / 16
+unfolding halves
+half-even [] k e = refl
+half-even (x ∷ xs) zero e = refl
+half-even (x ∷ xs) (suc zero) e = absurd (omega arith)
+half-even (x ∷ xs) (suc (suc k)) e =
+    let f : k % 2 ≡ 0 = omega arith in
+    let g : suc (k / 2) ≡ suc (suc k) / 2 = omega arith in
+    half-even xs k f ∙ ap (λ (j : ℕ). getD (x ∷ xs) j 0 / 16) g
+
+pub half-odd : (xs : List ℕ) (k : ℕ) → k % 2 ≡ 1 → getD (halves xs) k 0 ≡ getD xs (k / 2) 0 % 16
+unfolding halves
+half-odd [] k e = refl
+half-odd (x ∷ xs) zero e = absurd (omega arith)
+half-odd (x ∷ xs) (suc zero) e = refl
+half-odd (x ∷ xs) (suc (suc k)) e =
+    let f : k % 2 ≡ 1 = omega arith in
+    let g : suc (k / 2) ≡ suc (suc k) / 2 = omega arith in
+    half-odd xs k f ∙ ap (λ (j : ℕ). getD (x ∷ xs) j 0 % 16) g
+
+-- the half bytes of bytes are below 16
+pub halves-below : (xs : List ℕ) → ((k : ℕ) → getD xs k 0 < 256) → (k : ℕ) → getD (halves xs) k 0 < 16
+unfolding halves
+halves-below [] h k = omega arith
+halves-below (x ∷ xs) h zero = omega (arith, h 0)
+halves-below (x ∷ xs) h (suc zero) = omega arith
+halves-below (x ∷ xs) h (suc (suc k)) = halves-below xs (λ j. h (suc j)) k
+
+-- half bytes tell the bytes
+pub halves-injective : (xs ys : List ℕ) → halves xs ≡ halves ys → xs ≡ ys
+halves-injective xs ys e =
+    ext-getD 0 xs ys
+    (let l : 2 * length xs ≡ 2 * length ys = sym (length-halves xs) ∙ ap length e ∙ length-halves ys in omega arith)
+    (λ k b. byte k (at (2 * k)) (at (2 * k + 1)))
+  where
+    at : (j : ℕ) → getD (halves xs) j 0 ≡ getD (halves ys) j 0
+    at j = ap (λ (l : List ℕ). getD l j 0) e
+
+    byte : (k : ℕ) → getD (halves xs) (2 * k) 0 ≡ getD (halves ys) (2 * k) 0 → getD (halves xs) (2 * k + 1) 0 ≡ getD (halves ys) (2 * k + 1) 0
+        → getD xs k 0 ≡ getD ys k 0
+    byte k h g =
+        let e₀ : 2 * k / 2 ≡ k = omega arith in
+        let e₁ : (2 * k + 1) / 2 ≡ k = omega arith in
+        let p = rw e₀ at (half-even xs (2 * k) (omega arith)) in
+        let q = rw e₀ at (half-even ys (2 * k) (omega arith)) in
+        let r = rw e₁ at (half-odd xs (2 * k + 1) (omega arith)) in
+        let s = rw e₁ at (half-odd ys (2 * k + 1) (omega arith)) in
+        omega arith

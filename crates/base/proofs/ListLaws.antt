@@ -1,0 +1,244 @@
+-- Laws of lists of numbers: a test on every element and its elements one by one, lists of values, two lists compared, how often a number
+-- occurs, and what a writer leaves of its output.
+-- Assumes nothing.
+use Prim.Native.Nat.{ℕ, zero, suc, _+_, _≤_, _<_, zero-le, suc-le-suc}
+use mathlib.Core.Path.{_≡_, refl, sym, ap, ap₂, _∙_}
+use mathlib.Core.Bool.{Bool, true, false, cond, _&&_, true≢false, false≢true}
+use mathlib.Core.List.{List, [], _∷_, _++_}
+use native.Mathlib.Nat.{not-suc-le-zero, le-of-suc-le-suc, zero-lt-suc, add-zero, add-suc, zero-add, suc-add}
+use native.Mathlib.Numerals.{add-one}
+use native.Mathlib.Omega.{arith}
+use borrow.Author.Tests.{ltb-true, lt-ltb, eqb-true, eq-eqb}
+use lib.Dec.{eqb, ltb}
+use lib.ListN.{length, take, drop, getD, length-append, length-drop, take-append-drop}
+use lib.Seq.{take-suc, drop-cons, take-append-seam, drop-append-seam, ext-getD}
+use Rattle.base.specs.Lists.{every, count, valuesFrom, values, same, overlaid, eachOnce}
+
+-- ---- two tests at once
+
+pub and-left : (a b : Bool) → a && b ≡ true → a ≡ true
+and-left true b e = refl
+and-left false b e = e
+
+pub and-right : (a b : Bool) → a && b ≡ true → b ≡ true
+and-right true b e = e
+and-right false b e = absurd (false≢true e)
+
+pub and-both : {a b : Bool} → a ≡ true → b ≡ true → a && b ≡ true
+and-both {b = b} p q = ap (λ (t : Bool). t && b) p ∙ q
+
+pub and-true : (a : Bool) → a && true ≡ a
+and-true true = refl
+and-true false = refl
+
+pub and-false : (a : Bool) → a && false ≡ false
+and-false true = refl
+and-false false = refl
+
+pub and-assoc : (a b c : Bool) → a && b && c ≡ a && (b && c)
+and-assoc true b c = refl
+and-assoc false b c = refl
+
+-- what is not true is false
+pub not-true-false : (b : Bool) → (b ≡ true → ⊥) → b ≡ false
+not-true-false true h = absurd (h refl)
+not-true-false false h = refl
+
+-- a test holds or it does not
+pub true-false : (b : Bool) → b ≡ true → b ≡ false → ⊥
+true-false b p q = true≢false (sym p ∙ q)
+
+-- ---- a test on every element
+
+module _ (f : ℕ → Bool) where
+  -- each element passes
+  pub every-getD : (xs : List ℕ) → every f xs ≡ true → (k : ℕ) → k < length xs → f (getD xs k 0) ≡ true
+  unfolding every
+  every-getD [] e k h = absurd (not-suc-le-zero h)
+  every-getD (x ∷ xs) e zero h = and-left (f x) (every f xs) e
+  every-getD (x ∷ xs) e (suc k) h = every-getD xs (and-right (f x) (every f xs) e) k (le-of-suc-le-suc h)
+
+  -- where each element passes, the test passes at every one
+  pub every-from : (xs : List ℕ) → ((k : ℕ) → k < length xs → f (getD xs k 0) ≡ true) → every f xs ≡ true
+  unfolding every
+  every-from [] h = refl
+  every-from (x ∷ xs) h = and-both (h zero (zero-lt-suc (length xs))) (every-from xs (λ k l. h (suc k) (suc-le-suc l)))
+
+  -- one element that fails
+  pub every-refuted : (xs : List ℕ) (k : ℕ) → k < length xs → f (getD xs k 0) ≡ false → every f xs ≡ false
+  every-refuted xs k h e = not-true-false (every f xs) (λ t. true-false (f (getD xs k 0)) (every-getD xs t k h) e)
+
+  pub every-append : (xs ys : List ℕ) → every f (xs ++ ys) ≡ every f xs && every f ys
+  unfolding every
+  every-append [] ys = refl
+  every-append (x ∷ xs) ys = ap (λ (b : Bool). f x && b) (every-append xs ys) ∙ sym (and-assoc (f x) (every f xs) (every f ys))
+
+  -- the first elements and the others
+  pub every-split : (k : ℕ) (xs : List ℕ) → every f xs ≡ every f (take k xs) && every f (drop k xs)
+  every-split k xs = ap (every f) (sym (take-append-drop k xs)) ∙ every-append (take k xs) (drop k xs)
+
+  pub every-take : (k : ℕ) (xs : List ℕ) → every f xs ≡ true → every f (take k xs) ≡ true
+  every-take k xs e = and-left (every f (take k xs)) (every f (drop k xs)) (sym (every-split k xs) ∙ e)
+
+  pub every-drop : (k : ℕ) (xs : List ℕ) → every f xs ≡ true → every f (drop k xs) ≡ true
+  every-drop k xs e = and-right (every f (take k xs)) (every f (drop k xs)) (sym (every-split k xs) ∙ e)
+
+  -- one turn of a loop that goes on while the test passes: of the first k + 1 elements, and of those from k on
+  pub every-more : (xs : List ℕ) (k : ℕ) → k < length xs → every f (take (k + 1) xs) ≡ every f (take k xs) && f (getD xs k 0)
+  unfolding every
+  every-more xs k h =
+      rw (add-one k, take-suc xs k 0 h)
+      (every-append (take k xs) (getD xs k 0 ∷ [])
+      ∙ ap (λ (b : Bool). every f (take k xs) && b) (and-true (f (getD xs k 0))))
+
+  pub every-next : (xs : List ℕ) (k : ℕ) → k < length xs → every f (drop k xs) ≡ f (getD xs k 0) && every f (drop (k + 1) xs)
+  unfolding every
+  every-next xs k h = rw (add-one k, drop-cons xs k 0 h)
+
+  -- a test that 0 passes: every element passes, past the end too
+  pub every-all : f 0 ≡ true → (xs : List ℕ) → every f xs ≡ true → (k : ℕ) → f (getD xs k 0) ≡ true
+  unfolding every
+  every-all z [] e k = z
+  every-all z (x ∷ xs) e zero = and-left (f x) (every f xs) e
+  every-all z (x ∷ xs) e (suc k) = every-all z xs (and-right (f x) (every f xs) e) k
+
+-- two tests that agree on the elements
+pub every-ext : (f g : ℕ → Bool) (xs : List ℕ) → ((k : ℕ) → k < length xs → f (getD xs k 0) ≡ g (getD xs k 0)) → every f xs ≡ every g xs
+unfolding every
+every-ext f g [] h = refl
+every-ext f g (x ∷ xs) h =
+    ap₂ (λ (a b : Bool). a && b) (h zero (zero-lt-suc (length xs))) (every-ext f g xs (λ k l. h (suc k) (suc-le-suc l)))
+
+-- ---- values in a row
+
+pub length-values : (f : ℕ → ℕ) (i n : ℕ) → length (valuesFrom f i n) ≡ n
+unfolding valuesFrom
+length-values f i zero = refl
+length-values f i (suc n) = ap suc (length-values f (suc i) n)
+
+pub getD-valuesFrom : (f : ℕ → ℕ) (i n k : ℕ) → k < n → getD (valuesFrom f i n) k 0 ≡ f (i + k)
+unfolding valuesFrom
+getD-valuesFrom f i zero k h = absurd (not-suc-le-zero h)
+getD-valuesFrom f i (suc n) zero h = ap f (sym (add-zero i))
+getD-valuesFrom f i (suc n) (suc k) h =
+    getD-valuesFrom f (suc i) n k (le-of-suc-le-suc h) ∙ ap f (suc-add i k ∙ sym (add-suc i k))
+
+pub getD-values : (f : ℕ → ℕ) (n k : ℕ) → k < n → getD (values f n) k 0 ≡ f k
+getD-values f n k h = getD-valuesFrom f 0 n k h ∙ ap f (zero-add k)
+
+-- a list that has the values
+pub values-of : (f : ℕ → ℕ) (n : ℕ) (l : List ℕ) → length l ≡ n → ((k : ℕ) → k < n → getD l k 0 ≡ f k) → l ≡ values f n
+values-of f n l e h =
+    ext-getD 0 l (values f n) (e ∙ sym (length-values f 0 n))
+    (λ k b. let b′ : k < n = omega arith in h k b′ ∙ sym (getD-values f n k b′))
+
+pub values-ext : (f g : ℕ → ℕ) (n : ℕ) → ((k : ℕ) → k < n → f k ≡ g k) → values f n ≡ values g n
+values-ext f g n h = values-of g n (values f n) (length-values f 0 n) (λ k b. getD-values f n k b ∙ h k b)
+
+pub values-getD : (l : List ℕ) (n : ℕ) → length l ≡ n → values (λ k. getD l k 0) n ≡ l
+values-getD l n e = sym (values-of (λ k. getD l k 0) n l e (λ k b. refl))
+
+-- a test on the values, one by one
+pub every-values : (t : ℕ → Bool) (f : ℕ → ℕ) (n : ℕ) → every t (values f n) ≡ true → (k : ℕ) → k < n → t (f k) ≡ true
+every-values t f n e k h =
+    let l : k < length (values f n) = rw (length-values f 0 n) h in
+    ap t (sym (getD-values f n k h)) ∙ every-getD t (values f n) e k l
+
+pub values-every : (t : ℕ → Bool) (f : ℕ → ℕ) (n : ℕ) → ((k : ℕ) → k < n → t (f k) ≡ true) → every t (values f n) ≡ true
+values-every t f n h =
+    every-from t (values f n)
+    (λ k l. let b : k < n = rw (length-values f 0 n) at l in ap t (getD-values f n k b) ∙ h k b)
+
+-- ---- two lists compared
+
+pub same-true : (xs ys : List ℕ) → same xs ys ≡ true → xs ≡ ys
+unfolding same
+same-true [] [] e = refl
+same-true [] (y ∷ ys) e = absurd (false≢true e)
+same-true (x ∷ xs) [] e = absurd (false≢true e)
+same-true (x ∷ xs) (y ∷ ys) e =
+    ap₂ (λ (z : ℕ) (zs : List ℕ). z ∷ zs) (eqb-true x y (and-left (eqb x y) (same xs ys) e)) (same-true xs ys (and-right (eqb x y) (same xs ys) e))
+
+pub same-refl : (xs : List ℕ) → same xs xs ≡ true
+unfolding same
+same-refl [] = refl
+same-refl (x ∷ xs) = and-both (eq-eqb x x refl) (same-refl xs)
+
+pub same-of : {xs ys : List ℕ} → xs ≡ ys → same xs ys ≡ true
+same-of {xs} e = ap (same xs) (sym e) ∙ same-refl xs
+
+pub same-false : (xs ys : List ℕ) → (xs ≡ ys → ⊥) → same xs ys ≡ false
+same-false xs ys h = not-true-false (same xs ys) (λ t. h (same-true xs ys t))
+
+-- lists that differ at a place
+pub same-refuted : (xs ys : List ℕ) (k : ℕ) → (getD xs k 0 ≡ getD ys k 0 → ⊥) → same xs ys ≡ false
+same-refuted xs ys k h = same-false xs ys (λ e. h (ap (λ (l : List ℕ). getD l k 0) e))
+
+-- ---- how often a number occurs
+
+pub count-append : (a : ℕ) (xs ys : List ℕ) → count a (xs ++ ys) ≡ count a xs + count a ys
+unfolding count
+count-append a [] ys = sym (zero-add (count a ys))
+count-append a (x ∷ xs) ys = go (eqb x a) (count-append a xs ys)
+  where
+    go : (b : Bool) → count a (xs ++ ys) ≡ count a xs + count a ys
+        → cond b (suc (count a (xs ++ ys))) (count a (xs ++ ys)) ≡ cond b (suc (count a xs)) (count a xs) + count a ys
+    go true e = omega arith
+    go false e = e
+
+-- one more element
+pub count-more : (a : ℕ) (xs : List ℕ) (k : ℕ) → k < length xs
+    → count a (take (k + 1) xs) ≡ cond (eqb (getD xs k 0) a) (count a (take k xs) + 1) (count a (take k xs))
+unfolding count
+count-more a xs k h = rw (add-one k, take-suc xs k 0 h) (count-append a (take k xs) (getD xs k 0 ∷ []) ∙ go (eqb (getD xs k 0) a))
+  where
+    go : (b : Bool) → count a (take k xs) + cond b 1 0 ≡ cond b (count a (take k xs) + 1) (count a (take k xs))
+    go true = refl
+    go false = omega arith
+
+-- no number occurs more often than the list is long
+pub count-le : (a : ℕ) (xs : List ℕ) → count a xs ≤ length xs
+unfolding count
+count-le a [] = zero-le
+count-le a (x ∷ xs) = go (eqb x a) (count-le a xs)
+  where
+    go : (b : Bool) → count a xs ≤ length xs → cond b (suc (count a xs)) (count a xs) ≤ suc (length xs)
+    go true e = omega arith
+    go false e = omega arith
+
+-- ---- the numbers 0 to n - 1, each once
+
+pub once-below : (n : ℕ) (xs : List ℕ) → eachOnce n xs ≡ true → (k : ℕ) → k < length xs → getD xs k 0 < n
+unfolding eachOnce
+once-below n xs e k h =
+    ltb-true (getD xs k 0) n
+    (every-getD (λ x. ltb x n) xs
+    (and-left (every (λ x. ltb x n) xs) (every (λ a. eqb (count a xs) 1) (values (λ a. a) n)) e) k h)
+
+pub once-counts : (n : ℕ) (xs : List ℕ) → eachOnce n xs ≡ true → (a : ℕ) → a < n → count a xs ≡ 1
+unfolding eachOnce
+once-counts n xs e a h =
+    eqb-true (count a xs) 1
+    (every-values (λ a. eqb (count a xs) 1) (λ a. a) n
+    (and-right (every (λ x. ltb x n) xs) (every (λ a. eqb (count a xs) 1) (values (λ a. a) n)) e) a h)
+
+pub once-from : (n : ℕ) (xs : List ℕ) → ((k : ℕ) → k < length xs → getD xs k 0 < n) → ((a : ℕ) → a < n → count a xs ≡ 1)
+    → eachOnce n xs ≡ true
+unfolding eachOnce
+once-from n xs below counts =
+    and-both (every-from (λ x. ltb x n) xs (λ k h. lt-ltb (getD xs k 0) n (below k h)))
+    (values-every (λ a. eqb (count a xs) 1) (λ a. a) n (λ a h. eq-eqb (count a xs) 1 (counts a h)))
+
+-- ---- what a writer leaves
+
+pub length-overlaid : (bytes out : List ℕ) → length bytes ≤ length out → length (overlaid bytes out) ≡ length out
+unfolding overlaid
+length-overlaid bytes out h = omega (arith, length-append bytes (drop (length bytes) out), length-drop (length bytes) out)
+
+pub take-overlaid : (bytes out : List ℕ) → take (length bytes) (overlaid bytes out) ≡ bytes
+unfolding overlaid
+take-overlaid bytes out = take-append-seam bytes (drop (length bytes) out)
+
+pub drop-overlaid : (bytes out : List ℕ) → drop (length bytes) (overlaid bytes out) ≡ drop (length bytes) out
+unfolding overlaid
+drop-overlaid bytes out = drop-append-seam bytes (drop (length bytes) out)

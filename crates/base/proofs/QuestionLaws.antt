@@ -1,0 +1,78 @@
+-- Laws of numbered questions: one step for a question that is passed, one for a question that is not; what answer 0 tells; lists in a row.
+-- Assumes nothing.
+use Prim.Native.Nat.{ℕ, zero, suc}
+use mathlib.Core.Path.{_≡_, refl, sym, ap, _∙_, subst}
+use mathlib.Core.Bool.{Bool, true, false, cond, not, _&&_}
+use mathlib.Core.List.{List, [], _∷_, _++_}
+use lib.Dec.{T, eqb}
+use Rattle.base.specs.Questions.{Question, _else_, firstNo, granted}
+
+-- the head's test is passed: the answer is that of the rest
+pub passes : {b : Bool} (n : ℕ) (qs : List Question) → b ≡ true → firstNo ((b else n) ∷ qs) ≡ firstNo qs
+unfolding firstNo
+passes n qs e = ap (λ (b : Bool). cond b (firstNo qs) n) e
+
+-- it is not: the answer is the head's number
+pub fails : {b : Bool} (n : ℕ) (qs : List Question) → b ≡ false → firstNo ((b else n) ∷ qs) ≡ n
+unfolding firstNo
+fails n qs e = ap (λ (b : Bool). cond b (firstNo qs) n) e
+
+-- every question is passed
+abbrev pub Passed : List Question → Type 0
+Passed [] = Unit {0}
+Passed (q ∷ qs) = (q .passed ≡ true) × Passed qs
+
+-- no question's number is 0
+abbrev pub numbered : List Question → Bool
+numbered [] = true
+numbered (q ∷ qs) = not (eqb (q .number) 0) && numbered qs
+
+pub passed-answers : (qs : List Question) → Passed qs → firstNo qs ≡ 0
+unfolding firstNo
+passed-answers [] p = refl
+passed-answers (q ∷ qs) p = ap (λ (b : Bool). cond b (firstNo qs) (q .number)) (p .0) ∙ passed-answers qs (p .1)
+
+head-numbered : (a b : Bool) → T (a && b) → T a
+head-numbered true b t = tt
+head-numbered false b t = t
+
+rest-numbered : (a b : Bool) → T (a && b) → T b
+rest-numbered true b t = t
+rest-numbered false b t = absurd t
+
+nonzero : (n : ℕ) → T (not (eqb n 0)) → n ≡ 0 → ⊥
+nonzero n t e = subst (λ (m : ℕ). T (not (eqb m 0))) e t
+
+-- answer 0: every question is passed
+pub answers-passed : (qs : List Question) → T (numbered qs) → firstNo qs ≡ 0 → Passed qs
+answers-passed [] t e = tt
+answers-passed (q ∷ qs) t e =
+    go (q .passed) refl (λ d. answers-passed qs (rest-numbered (not (eqb (q .number) 0)) (numbered qs) t) d)
+  where
+    go : (b : Bool) → q .passed ≡ b → (firstNo qs ≡ 0 → Passed qs) → (q .passed ≡ true) × Passed qs
+    go true h rest = (h, rest (sym (passes (q .number) qs h) ∙ e))
+    go false h rest = absurd (nonzero (q .number) (head-numbered (not (eqb (q .number) 0)) (numbered qs) t) (sym (fails (q .number) qs h) ∙ e))
+
+-- two lists in a row: the answer of the first, or where that is 0 of the second
+pub in-a-row : (ps qs : List Question) → T (numbered ps) → firstNo (ps ++ qs) ≡ granted (firstNo ps) (firstNo qs) (firstNo ps)
+unfolding firstNo granted
+in-a-row [] qs t = refl
+in-a-row (p ∷ ps) qs t =
+    go (p .passed) (p .number) (head-numbered (not (eqb (p .number) 0)) (numbered ps) t)
+    (in-a-row ps qs (rest-numbered (not (eqb (p .number) 0)) (numbered ps) t))
+  where
+    go : (b : Bool) (n : ℕ) → T (not (eqb n 0)) → firstNo (ps ++ qs) ≡ granted (firstNo ps) (firstNo qs) (firstNo ps)
+        → cond b (firstNo (ps ++ qs)) n ≡ granted (cond b (firstNo ps) n) (firstNo qs) (cond b (firstNo ps) n)
+    go true n h e = e
+    go false zero h e = absurd h
+    go false (suc n) h e = refl
+
+-- what is given on answer 0, and on a refusal
+pub granted-zero {ℓ} : {A : Type ℓ} {n : ℕ} (a b : A) → n ≡ 0 → granted n a b ≡ a
+unfolding granted
+granted-zero a b e = ap (λ n. granted n a b) e
+
+pub granted-refused {ℓ} : {A : Type ℓ} {n : ℕ} (a b : A) → (n ≡ 0 → ⊥) → granted n a b ≡ b
+unfolding granted
+granted-refused {n = zero} a b h = absurd (h refl)
+granted-refused {n = suc n} a b h = refl

@@ -1,0 +1,41 @@
+-- Lists of numbers: a test on every element, how often a number occurs, the values of a function in a row, two lists compared, and what a
+-- writer leaves of its output. Assumes nothing.
+use Prim.Native.Nat.{ℕ, zero, suc, _+_}
+use mathlib.Core.Bool.{Bool, true, false, cond, _&&_}
+use mathlib.Core.List.{List, [], _∷_, _++_}
+use lib.Dec.{eqb, ltb}
+use lib.ListN.{length, drop}
+
+-- the test passes at every element
+unfoldable pub every : (ℕ → Bool) → List ℕ → Bool
+every f [] = true
+every f (x ∷ xs) = f x && every f xs
+
+-- how often a number occurs
+unfoldable pub count : ℕ → List ℕ → ℕ
+count a [] = 0
+count a (x ∷ xs) = cond (eqb x a) (suc (count a xs)) (count a xs)
+
+-- f i, f (i + 1), ..: n values in a row
+unfoldable pub valuesFrom : (ℕ → ℕ) → ℕ → ℕ → List ℕ
+valuesFrom f i zero = []
+valuesFrom f i (suc n) = f i ∷ valuesFrom f (suc i) n
+
+-- f 0, f 1, .., f (n - 1)
+abbrev pub values : (ℕ → ℕ) → ℕ → List ℕ
+values f n = valuesFrom f 0 n
+
+-- two lists are the same
+unfoldable pub same : List ℕ → List ℕ → Bool
+same [] [] = true
+same [] (y ∷ ys) = false
+same (x ∷ xs) [] = false
+same (x ∷ xs) (y ∷ ys) = eqb x y && same xs ys
+
+-- the bytes stand in the first places of the output; the rest is as it was
+unfoldable pub overlaid : List ℕ → List ℕ → List ℕ
+overlaid bytes out = bytes ++ drop (length bytes) out
+
+-- the numbers 0 to n - 1, each once
+unfoldable pub eachOnce : ℕ → List ℕ → Bool
+eachOnce n xs = every (λ x. ltb x n) xs && every (λ a. eqb (count a xs) 1) (values (λ a. a) n)
