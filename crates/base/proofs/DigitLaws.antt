@@ -13,7 +13,7 @@ use borrow.Author.Tests.{ltb-true, lt-ltb}
 use lib.Dec.{ltb}
 use lib.Pow.{pow-add}
 use lib.ListN.{length, take, drop, getD, length-append}
-use lib.Seq.{take-at, drop-at, take-nil, drop-nil, ext-getD}
+use lib.Seq.{take-at, drop-at, take-nil, drop-nil, ext-getD, getD-drop}
 use Rattle.base.specs.Lists.{every}
 use Rattle.base.specs.Digits.{value, digits, halves}
 use Rattle.base.proofs.ListLaws.{every-from, every-all}
@@ -25,6 +25,21 @@ all-below b xs p e k = ltb-true (getD xs k 0) b (every-all (λ x. ltb x b) (lt-l
 
 pub below-all : (b : ℕ) (xs : List ℕ) → ((k : ℕ) → k < length xs → getD xs k 0 < b) → every (λ x. ltb x b) xs ≡ true
 below-all b xs h = every-from (λ x. ltb x b) xs (λ k l. lt-ltb (getD xs k 0) b (h k l))
+
+-- parts of such a row, and two such rows joined
+pub take-below : {b : ℕ} (n : ℕ) (xs : List ℕ) → ((k : ℕ) → getD xs k 0 < b) → (k : ℕ) → getD (take n xs) k 0 < b
+take-below zero xs h k = omega (arith, h k)
+take-below (suc n) [] h k = h k
+take-below (suc n) (x ∷ xs) h zero = h zero
+take-below (suc n) (x ∷ xs) h (suc k) = take-below n xs (λ j. h (suc j)) k
+
+pub drop-below : {b : ℕ} (n : ℕ) (xs : List ℕ) → ((k : ℕ) → getD xs k 0 < b) → (k : ℕ) → getD (drop n xs) k 0 < b
+drop-below n xs h k = rw (getD-drop n xs k 0) (h (n + k))
+
+pub append-below : {b : ℕ} (xs ys : List ℕ) → ((k : ℕ) → getD xs k 0 < b) → ((k : ℕ) → getD ys k 0 < b) → (k : ℕ) → getD (xs ++ ys) k 0 < b
+append-below [] ys h g k = g k
+append-below (x ∷ xs) ys h g zero = h zero
+append-below (x ∷ xs) ys h g (suc k) = append-below xs ys (λ j. h (suc j)) g k
 
 pub positive-pow : {b : ℕ} → 0 < b → (n : ℕ) → 0 < b ^ n
 positive-pow {b} p n = one-le-pow n b p

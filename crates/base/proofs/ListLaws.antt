@@ -10,8 +10,8 @@ use native.Mathlib.Numerals.{add-one}
 use native.Mathlib.Omega.{arith}
 use borrow.Author.Tests.{ltb-true, lt-ltb, eqb-true, eq-eqb}
 use lib.Dec.{eqb, ltb}
-use lib.ListN.{length, take, drop, getD, length-append, length-drop, take-append-drop}
-use lib.Seq.{take-suc, drop-cons, take-append-seam, drop-append-seam, ext-getD}
+use lib.ListN.{length, take, drop, getD, set, length-append, length-drop, take-append-drop}
+use lib.Seq.{take-suc, drop-cons, length-take-le, getD-take, drop-nil, take-length, set-at, append-snoc, take-append-seam, drop-append-seam, ext-getD}
 use Rattle.base.specs.Lists.{every, count, valuesFrom, values, same, overlaid, eachOnce}
 
 -- ---- two tests at once
@@ -94,6 +94,23 @@ module _ (f : ℕ → Bool) where
   pub every-next : (xs : List ℕ) (k : ℕ) → k < length xs → every f (drop k xs) ≡ f (getD xs k 0) && every f (drop (k + 1) xs)
   unfolding every
   every-next xs k h = rw (add-one k, drop-cons xs k 0 h)
+
+  -- the same for a loop over the first n: it goes on while the test passes, and stops where it fails
+  pub every-step : (xs : List ℕ) (k : ℕ) → k < length xs → every f (take k xs) ≡ true → f (getD xs k 0) ≡ true → every f (take (k + 1) xs) ≡ true
+  every-step xs k h e t = every-more xs k h ∙ and-both e t
+
+  pub every-stop : (xs : List ℕ) (n k : ℕ) → k < n → n ≤ length xs → f (getD xs k 0) ≡ false → every f (take n xs) ≡ false
+  every-stop xs n k h l e =
+      let m : length (take n xs) ≡ n = length-take-le n xs l in
+      every-refuted (take n xs) k (omega arith) (ap f (getD-take n xs k 0 h) ∙ e)
+
+  -- a rest of at most one element, and a test that 0 passes
+  pub every-last : f 0 ≡ true → (xs : List ℕ) (n : ℕ) → length xs ≤ n + 1 → every f (drop n xs) ≡ f (getD xs n 0)
+  unfolding every
+  every-last z [] n h = ap (every f) (drop-nil n) ∙ sym z
+  every-last z (x ∷ []) zero h = and-true (f x)
+  every-last z (x ∷ y ∷ xs) zero h = absurd (omega arith)
+  every-last z (x ∷ xs) (suc n) h = every-last z xs n (omega arith)
 
   -- a test that 0 passes: every element passes, past the end too
   pub every-all : f 0 ≡ true → (xs : List ℕ) → every f xs ≡ true → (k : ℕ) → f (getD xs k 0) ≡ true
@@ -230,6 +247,18 @@ once-from n xs below counts =
     (values-every (λ a. eqb (count a xs) 1) (λ a. a) n (λ a h. eq-eqb (count a xs) 1 (counts a h)))
 
 -- ---- what a writer leaves
+
+-- a loop that writes byte after byte: the first i bytes are written, the others are as they were
+pub overlay-step : (bytes out : List ℕ) (i : ℕ) → i < length bytes → i < length out
+    → set (take i bytes ++ drop i out) i (getD bytes i 0) ≡ take (i + 1) bytes ++ drop (i + 1) out
+overlay-step bytes out i p q =
+    rw (add-one i, drop-cons out i 0 q, take-suc bytes i 0 p)
+    (set-at (take i bytes) (getD out i 0) (drop (suc i) out) (getD bytes i 0) i (length-take-le i bytes (omega arith))
+    ∙ sym (append-snoc (take i bytes) (getD bytes i 0) (drop (suc i) out)))
+
+pub overlay-whole : (bytes out : List ℕ) (i : ℕ) → i ≡ length bytes → take i bytes ++ drop i out ≡ overlaid bytes out
+unfolding overlaid
+overlay-whole bytes out i e = rw (e, take-length bytes)
 
 pub length-overlaid : (bytes out : List ℕ) → length bytes ≤ length out → length (overlaid bytes out) ≡ length out
 unfolding overlaid

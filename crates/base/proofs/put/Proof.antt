@@ -1,27 +1,16 @@
 -- `base::put` meets its contract. The loop's invariant: the first i bytes of the output are the input's, the others are as they were.
 -- Assumes nothing.
-use Prim.Native.Nat.{ℕ, zero, suc, _+_, _-_, _≤_, _<_, min}
-use mathlib.Core.Path.{_≡_, refl, sym, ap, ap₂, _∙_}
+use Prim.Native.Nat.{ℕ, zero, suc, _-_, _≤_, min}
+use mathlib.Core.Path.{_≡_, refl, ap, _∙_}
 use mathlib.Core.List.{List, [], _∷_, _++_}
 use mathlib.Core.Logic.{⊎-elim}
 use native.Mathlib.Nat.{zero-min, min-zero, suc-min-suc}
 use native.Mathlib.Omega.{arith}
-use native.Mathlib.Numerals.{add-one}
 use lib.ListN.{length, take, drop, getD, set, length-take, length-set}
-use lib.Seq.{drop-cons, set-at, take-suc, append-snoc, length-take-le, take-all}
 use Rattle.base.specs.Lists.{overlaid}
+use Rattle.base.proofs.ListLaws.{overlay-step}
 use Rattle.base.proofs.put.Statement.{statement}
 use Rattle.base.proofs.put.Tie as tie
-use Rattle.base.proofs.put.Reads as reads
-use Rattle.base.proofs.put.Lts as lts
-
--- one more byte of the input
-one-more : (from out : List ℕ) (i : ℕ) → i < length from → i < length out
-    → set (take i from ++ drop i out) i (getD from i 0) ≡ take (i + 1) from ++ drop (i + 1) out
-one-more from out i p q =
-    rw (add-one i, drop-cons out i 0 q, take-suc from i 0 p)
-    (set-at (take i from) (getD out i 0) (drop (suc i) out) (getD from i 0) i (length-take-le i from (omega arith))
-    ∙ sym (append-snoc (take i from) (getD from i 0) (drop (suc i) out)))
 
 -- taking more than there is takes all
 front : (m : ℕ) (l : List ℕ) → take (min m (length l)) l ≡ take m l
@@ -64,7 +53,7 @@ loop-again c =
       omega arith,
       simp length-set (l .inv .2),
       ap (λ (o : List ℕ). set o (l .i) (getD (a .from .now) (l .i) 0)) (l .inv .3)
-          ∙ one-more (a .from .now) (a .out .now) (l .i) (omega arith) (omega arith),
+          ∙ overlay-step (a .from .now) (a .out .now) (l .i) (omega arith) (omega arith),
     )
 
 same-length : tie.Need-same-length Inv-loop μ-loop

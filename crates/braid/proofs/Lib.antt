@@ -1,0 +1,12 @@
+pub mod WordLaws
+pub mod ReadLaws
+pub mod WriteLaws
+pub mod RoundTrip
+pub mod LetterLaws
+pub mod ReductionLaws
+pub mod CancellationLaws
+pub mod StackLaws
+pub mod ReducerLaws
+pub mod ReducedWord
+pub mod WrongPrograms
+pub mod WordSlips

@@ -1,0 +1,161 @@
+-- Word files there and back: the file of any list of at most 10,000 letters is accepted and reads back as that list; an accepted file is the file of
+-- its letters; and what a writer of words left in its output, as many bytes as it reports, is the word's file.
+-- Assumes nothing.
+use Prim.Native.Nat.{ℕ, zero, suc, _+_, _*_, _/_, _%_, _≤_, _<_}
+use mathlib.Core.Path.{_≡_, refl, sym, ap, ap₂, _∙_}
+use mathlib.Core.Bool.{true}
+use mathlib.Core.List.{List, [], _∷_, _++_}
+use native.Mathlib.Nat.{suc-ne-zero}
+use native.Mathlib.Omega.{arith}
+use borrow.Author.Tests.{le-leb, eq-eqb, eqb-true}
+use lib.Dec.{eqb, lit<}
+use lib.ListN.{length, take, drop, getD, length-drop, take-append-drop}
+use lib.Seq.{length-take-le, take-at}
+use Rattle.base.specs.Questions.{Question, firstNo}
+use Rattle.base.specs.Lists.{every, overlaid}
+use Rattle.base.specs.Digits.{value, digits, halves}
+use Rattle.base.proofs.QuestionLaws.{passed-answers, granted-zero, granted-refused}
+use Rattle.base.proofs.ListLaws.{and-left, and-both, take-overlaid}
+use Rattle.base.proofs.DigitLaws.{length-digits, value-digits-below, digits-value, take-below}
+use Rattle.braid.specs.Letters.{isLetter}
+use Rattle.braid.specs.Words.{stated, needed, codes, filler, wordQuestions, wordAnswer, letters, packed, wordFile, Wrote}
+use Rattle.braid.proofs.WordLaws.{letters-below, length-wordFile, wordFile-rest}
+use Rattle.braid.proofs.ReadLaws.{letters-accepted, accepted-long, accepted-number, accepted-length, accepted-letters, accepted-filler, length-codes}
+
+-- ---- packed codes, and the half bytes of the packed codes
+
+high-half : (a b : ℕ) → b < 15 → (a * 16 + b) / 16 ≡ a
+high-half a b h = omega arith
+
+low-half : (a b : ℕ) → b < 15 → (a * 16 + b) % 16 ≡ b
+low-half a b h = omega arith
+
+halves-packed : (cs : List ℕ) → ((k : ℕ) → getD cs k 0 < 15) → take (length cs) (halves (packed cs)) ≡ cs
+unfolding halves packed
+halves-packed [] h = refl
+halves-packed (a ∷ []) h = let e : a * 16 / 16 ≡ a = omega arith in ap (λ (x : ℕ). x ∷ []) e
+halves-packed (a ∷ b ∷ cs) h =
+    λ i. high-half a b (h 1) i ∷ low-half a b (h 1) i ∷ halves-packed cs (λ k. h (suc (suc k))) i
+
+filler-packed : (cs : List ℕ) → every (λ h. eqb h 0) (drop (length cs) (halves (packed cs))) ≡ true
+unfolding halves packed every
+filler-packed [] = refl
+filler-packed (a ∷ []) = and-both (eq-eqb (a * 16 % 16) 0 (omega arith)) refl
+filler-packed (a ∷ b ∷ cs) = filler-packed cs
+
+packed-halves : (xs : List ℕ) (n : ℕ) → n ≤ 2 * length xs → 2 * length xs ≤ n + 1 → every (λ h. eqb h 0) (drop n (halves xs)) ≡ true
+    → packed (take n (halves xs)) ≡ xs
+unfolding halves packed every
+packed-halves [] zero l m e = refl
+packed-halves [] (suc n) l m e = refl
+packed-halves (x ∷ xs) zero l m e = absurd (omega arith)
+packed-halves (x ∷ []) (suc zero) l m e =
+    let z : x % 16 ≡ 0 = eqb-true (x % 16) 0 (and-left (eqb (x % 16) 0) true e) in
+    let w : x / 16 * 16 ≡ x = omega arith in
+    ap (λ (y : ℕ). y ∷ []) w
+packed-halves (x ∷ y ∷ xs) (suc zero) l m e = absurd (omega arith)
+packed-halves (x ∷ xs) (suc (suc n)) l m e =
+    let w : x / 16 * 16 + x % 16 ≡ x = omega arith in
+    ap₂ (λ (y : ℕ) (ys : List ℕ). y ∷ ys) w (packed-halves xs n (omega arith) (omega arith) e)
+
+-- ---- from letters to a file and back
+
+module _ (cs : List ℕ) (few : length cs ≤ 10000) where
+  pub file-short : length (wordFile cs) ≤ 5002
+  file-short = omega (arith, length-wordFile cs)
+
+  pub stated-wordFile : stated (wordFile cs) ≡ length cs
+  unfolding wordFile
+  stated-wordFile =
+      ap (value 256) (take-at (digits 256 2 (length cs)) (packed cs) 2 (length-digits 256 2 (length cs)))
+      ∙ value-digits-below 256 2 (length cs) (lit< tt) (omega arith)
+
+  pub codes-wordFile : every isLetter cs ≡ true → codes (wordFile cs) ≡ cs
+  unfolding codes
+  codes-wordFile e =
+      ap₂ (λ (n : ℕ) (l : List ℕ). take n (halves l)) stated-wordFile (wordFile-rest cs) ∙ halves-packed cs (letters-below cs e)
+
+  filler-wordFile : every (λ h. eqb h 0) (filler (wordFile cs)) ≡ true
+  unfolding filler
+  filler-wordFile =
+      ap₂ (λ (n : ℕ) (l : List ℕ). every (λ h. eqb h 0) (drop n (halves l))) stated-wordFile (wordFile-rest cs) ∙ filler-packed cs
+
+  -- the file is accepted
+  pub wordFile-accepted : every isLetter cs ≡ true → wordAnswer (wordFile cs) ≡ 0
+  unfolding wordAnswer
+  wordFile-accepted e =
+      let l = length-wordFile cs in
+      let s = stated-wordFile in
+      passed-answers (wordQuestions (wordFile cs)) (
+        le-leb 2 (length (wordFile cs)) (omega arith),
+        (
+          le-leb (stated (wordFile cs)) 10000 (omega arith),
+          (
+            eq-eqb (length (wordFile cs)) (needed (stated (wordFile cs))) (l ∙ ap needed (sym s)),
+            (ap (every isLetter) (codes-wordFile e) ∙ e, (filler-wordFile, tt)),
+          ),
+        ),
+      )
+
+  -- and reads back
+  pub letters-wordFile : every isLetter cs ≡ true → letters (wordFile cs) ≡ cs
+  letters-wordFile e = letters-accepted (wordFile cs) (wordFile-accepted e) ∙ codes-wordFile e
+
+-- ---- from a file to letters and back
+
+module _ (file : List ℕ) where
+  -- the letters of any file, of a refused one too, are letters, at most 10,000
+  pub letters-are : every isLetter (letters file) ≡ true
+  unfolding letters every
+  letters-are = go (wordAnswer file) refl
+    where
+      go : (m : ℕ) → wordAnswer file ≡ m → every isLetter (letters file) ≡ true
+      go zero e = ap (every isLetter) (letters-accepted file e) ∙ accepted-letters file e
+      go (suc m) e = ap (every isLetter) (granted-refused (codes file) [] (λ q. suc-ne-zero m (sym e ∙ q)))
+
+  pub letters-few : length (letters file) ≤ 10000
+  unfolding letters
+  letters-few = go (wordAnswer file) refl
+    where
+      go : (m : ℕ) → wordAnswer file ≡ m → length (letters file) ≤ 10000
+      go zero e = omega (arith, ap length (letters-accepted file e), length-codes file (accepted-length file e), accepted-number file e)
+      go (suc m) e = omega (arith, ap length (granted-refused (codes file) [] (λ q. suc-ne-zero m (sym e ∙ q))))
+
+  -- an accepted file of bytes is the file of its letters
+  pub wordFile-letters : ((k : ℕ) → getD file k 0 < 256) → wordAnswer file ≡ 0 → wordFile (letters file) ≡ file
+  unfolding wordFile codes filler
+  wordFile-letters h e =
+      ap wordFile (letters-accepted file e)
+      ∙ ap₂ (λ (xs ys : List ℕ). xs ++ ys) (ap (digits 256 2) (length-codes file (accepted-length file e)) ∙ head) rest
+      ∙ take-append-drop 2 file
+    where
+      head : digits 256 2 (stated file) ≡ take 2 file
+      head =
+          ap (λ (n : ℕ). digits 256 n (stated file)) (sym (length-take-le 2 file (accepted-long file e)))
+          ∙ digits-value 256 (take 2 file) (take-below 2 file h)
+
+      rest : packed (codes file) ≡ drop 2 file
+      rest =
+          let l = accepted-length file e in
+          let d = length-drop 2 file in
+          packed-halves (drop 2 file) (stated file) (omega arith) (omega arith) (accepted-filler file e)
+
+-- ---- what a writer of words left
+
+module _ {questions : List Question} {file before after : List ℕ} {answer bytes : ℕ} (w : Wrote questions file before after answer bytes) where
+  -- on answer 0 the output's first bytes, as many as are reported, are the file
+  pub wrote-file : firstNo questions ≡ 0 → take bytes after ≡ file
+  wrote-file e =
+      ap₂ (λ (n : ℕ) (l : List ℕ). take n l) (w .bytes-is ∙ granted-zero (length file) 0 e) (w .output-is ∙ granted-zero (overlaid file before) before e)
+      ∙ take-overlaid file before
+
+  -- on a refusal the output is as it was
+  pub wrote-nothing : (firstNo questions ≡ 0 → ⊥) → after ≡ before
+  wrote-nothing h = w .output-is ∙ granted-refused (overlaid file before) before h
+
+-- a word that was written reads back
+pub written-letters : {questions : List Question} {before after : List ℕ} {answer bytes : ℕ} (cs : List ℕ) → length cs ≤ 10000
+    → every isLetter cs ≡ true → Wrote questions (wordFile cs) before after answer bytes → firstNo questions ≡ 0
+    → (wordAnswer (take bytes after) ≡ 0) × (letters (take bytes after) ≡ cs)
+written-letters cs few e w a =
+    (ap wordAnswer (wrote-file w a) ∙ wordFile-accepted cs few e, ap letters (wrote-file w a) ∙ letters-wordFile cs few e)

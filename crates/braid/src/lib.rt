@@ -1,0 +1,35 @@
+// Braid words: reading and writing word files (signatures).
+mod read; // read.rt: the word reader
+mod reduce; // reduce.rt: free reduction
+mod write; // write.rt: the writer of words from codes
+
+pub use read::code_part;
+pub use read::half;
+pub use read::is_letter;
+pub use read::letter_at;
+pub use read::read_word;
+pub use reduce::free_reduce;
+pub use write::write_word;
+
+// A word has at most so many letters, and its file at most so many bytes.
+pub const MAX_LETTERS: usize = 10000;
+
+pub const MAX_BYTES: usize = 5002;
+
+// What the word reader gives: the number of the first question answered no, 0 if there is none, and the number of letters, 0 on a refusal.
+pub struct Word {
+    pub answer: u8,
+    pub letters: usize,
+}
+
+// The letter at a place: whether one is left there, and its code, 0 where none is.
+pub struct Letter {
+    pub left: bool,
+    pub code: u8,
+}
+
+// What a writer of words gives: its answer, and the number of the file's bytes, 0 on a refusal.
+pub struct Written {
+    pub answer: u8,
+    pub bytes: usize,
+}

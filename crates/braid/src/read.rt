@@ -1,0 +1,129 @@
+// The word reader: the questions of a word file in the paper's order, the part that holds its codes, and the letter at a place.
+use crate::Letter;
+use crate::MAX_LETTERS;
+use crate::Word;
+ghost use Prim.Native.Nat.{_+_, _*_, _≤_};
+ghost use mathlib.Core.Path.{_≡_};
+ghost use lib.Dec.{eqb};
+ghost use lib.ListN.{length, take, drop, getD};
+ghost use Rattle.base.specs.Lists.{every};
+ghost use Rattle.base.specs.Digits.{halves};
+ghost use Rattle.braid.specs.Letters.{isLetter};
+ghost use Rattle.braid.specs.Words.{stated, wordAnswer, codePart, Read, LetterAt};
+
+// The half byte at a place, the high half of a byte before the low one; 0 past the end.
+pub fn half(bytes: &[u8], k: usize) -> u8
+    ensures { λ r. ⌜ r ≡ getD (halves (now (bytes .entry))) k 0 ⌝ }
+{
+    let at = k / 2;
+    if bytes.len() <= at {
+        return 0;
+    }
+    if k % 2 == 0 {
+        return bytes[at] / 16;
+    }
+    bytes[at] % 16
+}
+
+// Is the code a letter's: b1 to b7, or an inverse?
+pub fn is_letter(c: u8) -> bool
+    ensures { λ r. ⌜ r ≡ isLetter c ⌝ }
+{
+    c <= 6 || (8 <= c && c <= 14)
+}
+
+// The number of letters that a file states in its first two bytes.
+fn number(file: &[u8]) -> usize
+    requires { ⌜ 2 ≤ length (now file) ⌝ }
+    ensures { λ r. ⌜ r ≡ stated (now (file .entry)) ⌝ }
+{
+    file[0] as usize * 256 + file[1] as usize
+}
+
+// Is every one of the first n half bytes a letter?
+fn all_letters(part: &[u8], n: usize) -> bool
+    requires { ⌜ n ≤ 2 * length (now part) ⌝ }
+    ensures { λ r. ⌜ r ≡ every isLetter (take n (halves (now (part .entry)))) ⌝ }
+{
+    let mut k = 0;
+    while k < n {
+        if !is_letter(half(part, k)) {
+            return false;
+        }
+        k += 1;
+    }
+    true
+}
+
+// Is the half byte after the first n 0, if there is one?
+fn is_filled(part: &[u8], n: usize) -> bool
+    requires { ⌜ 2 * length (now part) ≤ n + 1 ⌝ }
+    ensures { λ r. ⌜ r ≡ every (λ h. eqb h 0) (drop n (halves (now (part .entry)))) ⌝ }
+{
+    half(part, n) == 0
+}
+
+// The number of the first question that a word file fails, 9 to 13; 0 where it fails none.
+fn word_answer(file: &[u8]) -> u8
+    ensures { λ r. ⌜ r ≡ wordAnswer (now (file .entry)) ⌝ }
+{
+    if file.len() < 2 {
+        return 9;
+    }
+    let n = number(file);
+    if MAX_LETTERS < n {
+        return 10;
+    }
+    if file.len() != 2 + (n + 1) / 2 {
+        return 11;
+    }
+    let part = &file[2..];
+    let lettered = all_letters(part, n);
+    let filled = is_filled(part, n);
+    if !lettered {
+        return 12;
+    }
+    if !filled {
+        return 13;
+    }
+    0
+}
+
+// The word reader: the answer, and how many letters the word has.
+pub fn read_word(file: &[u8]) -> Word
+    ensures { λ r. ⌜ Read (now (file .entry)) (r .answer) (r .letters) ⌝ }
+{
+    let answer = word_answer(file);
+    if answer != 0 {
+        return Word { answer, letters: 0 };
+    }
+    let letters = number(file);
+    Word { answer: 0, letters }
+}
+
+// The part of the file that holds the codes; empty on a refusal.
+pub fn code_part(file: &[u8]) -> &[u8]
+    ensures { λ r. ⌜ now r ≡ codePart (now (file .entry)) ⌝ }
+{
+    let w = read_word(file);
+    if w.answer == 0 {
+        return &file[2..];
+    }
+    &file[..0]
+}
+
+// The letter at a place, counted from 0.
+pub fn letter_at(file: &[u8], place: usize) -> Letter
+    ensures { λ r. ⌜ LetterAt (now (file .entry)) place (r .left) (r .code) ⌝ }
+{
+    let w = read_word(file);
+    if place < w.letters {
+        let part = &file[2..];
+        let code = half(part, place);
+        return Letter { left: true, code };
+    }
+    Letter {
+        left: false,
+        code: 0,
+    }
+}

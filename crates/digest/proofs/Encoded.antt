@@ -1,0 +1,64 @@
+-- The braid of a digest: it grows by one half byte's braid at a time, has at most 20 letters for each, and is made of letters, so that what the
+-- encoder writes is an accepted word. Assumes nothing.
+use Prim.Native.Nat.{ℕ, zero, suc, _+_, _*_, _≤_, _<_}
+use mathlib.Core.Path.{_≡_, refl, sym, ap, _∙_, subst}
+use mathlib.Core.Bool.{Bool, true}
+use mathlib.Core.List.{List, [], _∷_, _++_, append-assoc, append-nil}
+use native.Mathlib.Omega.{arith}
+use native.Mathlib.Numerals.{add-one}
+use lib.ListN.{length, take, getD, length-append}
+use lib.Seq.{take-suc}
+use Rattle.base.specs.Lists.{every}
+use Rattle.base.specs.Digits.{halves}
+use Rattle.base.proofs.ListLaws.{and-both, every-append}
+use Rattle.base.proofs.DigitLaws.{length-halves, halves-below}
+use Rattle.braid.specs.Letters.{isLetter}
+use Rattle.braid.specs.Words.{wordFile, wordAnswer, letters}
+use Rattle.braid.proofs.RoundTrip.{wordFile-accepted, letters-wordFile}
+use Rattle.digest.specs.Digest.{halfByteBraid, braidOf, encoded}
+use Rattle.digest.proofs.HalfByte.{braid-short, braid-letters}
+
+braidOf-append : (hs ks : List ℕ) → braidOf (hs ++ ks) ≡ braidOf hs ++ braidOf ks
+unfolding braidOf
+braidOf-append [] ks = refl
+braidOf-append (h ∷ hs) ks = ap (λ (w : List ℕ). halfByteBraid h ++ w) (braidOf-append hs ks) ∙ sym (append-assoc (halfByteBraid h) (braidOf hs) (braidOf ks))
+
+-- one more half byte
+pub braidOf-more : (hs : List ℕ) (k : ℕ) → k < length hs → braidOf (take (k + 1) hs) ≡ braidOf (take k hs) ++ halfByteBraid (getD hs k 0)
+unfolding braidOf
+braidOf-more hs k p =
+    ap (λ (n : ℕ). braidOf (take n hs)) (add-one k) ∙ ap braidOf (take-suc hs k 0 p) ∙ braidOf-append (take k hs) (getD hs k 0 ∷ [])
+    ∙ ap (λ (w : List ℕ). braidOf (take k hs) ++ w) (append-nil (halfByteBraid (getD hs k 0)))
+
+pub braidOf-none : braidOf [] ≡ []
+unfolding braidOf
+braidOf-none = refl
+
+module _ where
+  -- of half bytes: short, and made of letters
+  short : (hs : List ℕ) → ((k : ℕ) → getD hs k 0 < 16) → length (braidOf hs) ≤ 20 * length hs
+  unfolding braidOf
+  short [] b = omega arith
+  short (h ∷ hs) b =
+      simp length-append (omega (arith, braid-short h (b 0), short hs (λ k. b (suc k))))
+
+  lettered : (hs : List ℕ) → ((k : ℕ) → getD hs k 0 < 16) → every isLetter (braidOf hs) ≡ true
+  unfolding braidOf every
+  lettered [] b = refl
+  lettered (h ∷ hs) b =
+      every-append isLetter (halfByteBraid h) (braidOf hs) ∙ and-both (braid-letters h (b 0)) (lettered hs (λ k. b (suc k)))
+
+pub encoded-short : (digest : List ℕ) → ((k : ℕ) → getD digest k 0 < 256) → length digest ≡ 32 → length (encoded digest) ≤ 1280
+unfolding encoded
+encoded-short digest b e = omega (arith, short (halves digest) (halves-below digest b), length-halves digest)
+
+pub encoded-letters : (digest : List ℕ) → ((k : ℕ) → getD digest k 0 < 256) → every isLetter (encoded digest) ≡ true
+unfolding encoded
+encoded-letters digest b = lettered (halves digest) (halves-below digest b)
+
+-- what the encoder writes is an accepted word, with the digest's braid as its letters
+pub encoded-accepted : (digest : List ℕ) → ((k : ℕ) → getD digest k 0 < 256) → length digest ≡ 32 → wordAnswer (wordFile (encoded digest)) ≡ 0
+encoded-accepted digest b e = wordFile-accepted (encoded digest) (omega (arith, encoded-short digest b e)) (encoded-letters digest b)
+
+pub encoded-read : (digest : List ℕ) → ((k : ℕ) → getD digest k 0 < 256) → length digest ≡ 32 → letters (wordFile (encoded digest)) ≡ encoded digest
+encoded-read digest b e = letters-wordFile (encoded digest) (omega (arith, encoded-short digest b e)) (encoded-letters digest b)

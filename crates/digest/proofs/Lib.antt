@@ -1,0 +1,2 @@
+pub mod HalfByte
+pub mod Encoded

@@ -1,0 +1,44 @@
+-- A digest as a braid: each half byte of 32 bytes, high half first, becomes a power of a pure braid generator. Nothing is cancelled.
+-- Assumes nothing.
+use Prim.Native.Nat.{ℕ, zero, suc, _+_, _*_, _-_, _/_, _%_}
+use mathlib.Core.List.{List, [], _∷_, _++_, map, reverse}
+use lib.Dec.{eqb}
+use lib.ListN.{length, replicate}
+use Rattle.base.specs.Questions.{Question, _else_}
+use Rattle.base.specs.Lists.{valuesFrom}
+use Rattle.base.specs.Digits.{halves}
+use Rattle.braid.specs.Words.{roomQuestion}
+
+-- the low two bits 0, 1, 2, 3 select l = 7, 5, 3, 1
+abbrev pub strandOf : ℕ → ℕ
+strandOf h = 7 - 2 * (h % 4)
+
+-- the high two bits plus 1 are p
+abbrev pub powerOf : ℕ → ℕ
+powerOf h = h / 4 + 1
+
+-- the codes of b_(l+1) up to b7: l up to 6, since a code is the generator's number less one
+abbrev pub above : ℕ → List ℕ
+above l = valuesFrom (λ c. c) l (7 - l)
+
+-- b7 down to b_(l+1), then b_l 2 × p times, then the inverses of b_(l+1) up to b7
+unfoldable pub halfByteBraid : ℕ → List ℕ
+halfByteBraid h =
+    reverse (above (strandOf h)) ++ (replicate (2 * powerOf h) (strandOf h - 1) ++ map (λ c. c + 8) (above (strandOf h)))
+
+-- the braids of half bytes, in a row
+unfoldable pub braidOf : List ℕ → List ℕ
+braidOf [] = []
+braidOf (h ∷ hs) = halfByteBraid h ++ braidOf hs
+
+-- the braid of a digest
+unfoldable pub encoded : List ℕ → List ℕ
+encoded digest = braidOf (halves digest)
+
+-- Digest: 8
+abbrev pub digestQuestions : List ℕ → List Question
+digestQuestions digest = (eqb (length digest) 32 else 8) ∷ []
+
+-- Encoder alone: 15, 8
+abbrev pub encoderQuestions : ℕ → List ℕ → List Question
+encoderQuestions room digest = roomQuestion room ∷ digestQuestions digest

@@ -1,0 +1,7 @@
+pub mod Ring
+pub mod Xor
+pub mod Laws
+pub mod ReciprocalLaws
+pub mod TableLaws
+pub mod Field
+pub mod GivesLaws

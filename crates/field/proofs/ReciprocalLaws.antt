@@ -1,0 +1,60 @@
+-- The reciprocal as the first element that passes a test: it is found if there is one, it is below the size, and it is the only one.
+-- For every degree from 1 on and every polynomial of that degree. Assumes nothing.
+use Prim.Native.Nat.{ℕ, zero, suc, _+_, _^_, _≤_, _<_}
+use mathlib.Core.Path.{_≡_, refl, sym, ap, _∙_}
+use mathlib.Core.Bool.{Bool, true, false, cond, false≢true}
+use native.Mathlib.Omega.{arith}
+use borrow.Author.Tests.{eqb-true, eq-eqb}
+use lib.Dec.{eqb}
+use lib.Arith.{lt-of-le-ne}
+use lib.Pow.{pow-pos}
+use Rattle.field.specs.Polynomial.{times, first, reciprocalOf}
+use Rattle.field.proofs.Laws.{Degree, one-times, times-right-comm}
+
+passes-at : (f : ℕ → Bool) (i r : ℕ) (t : Bool) → f i ≡ t → (f i ≡ false → f r ≡ true) → f (cond t i r) ≡ true
+passes-at f i r true e h = e
+passes-at f i r false e h = h e
+
+-- a number that passes is not one that fails
+apart : (f : ℕ → Bool) (i b : ℕ) → f i ≡ false → f b ≡ true → i ≡ b → ⊥
+apart f i b z e q = false≢true (sym z ∙ ap f q ∙ e)
+
+-- among k numbers from i on, one passes: the first that does passes
+pub first-passes : (f : ℕ → Bool) (i k b : ℕ) → i ≤ b → b < i + k → f b ≡ true → f (first f i k) ≡ true
+unfolding first
+first-passes f i zero b l h e = let z : ⊥ = omega arith in absurd z
+first-passes f i (suc k) b l h e =
+    passes-at f i (first f (suc i) k) (f i) refl
+    (λ z. first-passes f (suc i) k b (lt-of-le-ne l (apart f i b z e)) (omega arith) e)
+
+choice-below : (t : Bool) (i r m : ℕ) → i < m → r < m → cond t i r < m
+choice-below true i r m h k = h
+choice-below false i r m h k = k
+
+-- the search stays below a bound of all its numbers
+pub first-below : (f : ℕ → Bool) (i k m : ℕ) → 0 < m → i + k ≤ m → first f i k < m
+unfolding first
+first-below f i zero m p h = p
+first-below f i (suc k) m p h = choice-below (f i) i (first f (suc i) k) m (omega arith) (first-below f (suc i) k m p (omega arith))
+
+pub reciprocal-below : (n p a : ℕ) → reciprocalOf n p a < 2 ^ n
+unfolding reciprocalOf
+reciprocal-below n p a = first-below (λ b. eqb (times n p a b) 1) 0 (2 ^ n) (2 ^ n) (pow-pos n) (omega arith)
+
+-- where some element's product with a is 1, the reciprocal's is
+pub times-reciprocal : (n p a b : ℕ) → b < 2 ^ n → times n p a b ≡ 1 → times n p a (reciprocalOf n p a) ≡ 1
+unfolding reciprocalOf
+times-reciprocal n p a b h e =
+    let f : ℕ → Bool = λ c. eqb (times n p a c) 1 in
+    eqb-true (times n p a (first f 0 (2 ^ n))) 1
+    (first-passes f 0 (2 ^ n) b (omega arith) (omega arith) (eq-eqb (times n p a b) 1 e))
+
+-- and it is that element
+pub reciprocal-unique : {n p : ℕ} → Degree n p → (a b : ℕ) → b < 2 ^ n → times n p a b ≡ 1 → reciprocalOf n p a ≡ b
+reciprocal-unique {n} {p} degree a b h e =
+    let r = reciprocalOf n p a in
+    sym (one-times degree r (reciprocal-below n p a))
+    ∙ ap (λ (x : ℕ). times n p x r) (sym e)
+    ∙ times-right-comm degree a b r
+    ∙ ap (λ (x : ℕ). times n p x b) (times-reciprocal n p a b h e)
+    ∙ one-times degree b h

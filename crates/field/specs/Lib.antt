@@ -1,0 +1,3 @@
+pub mod Binary
+pub mod Polynomial
+pub mod Gf32

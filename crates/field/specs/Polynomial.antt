@@ -1,0 +1,28 @@
+-- Polynomials over two elements as numbers, bit k being the coefficient of x^k, and their products reduced by a polynomial p of degree n.
+-- Assumes nothing.
+use Prim.Native.Nat.{ℕ, zero, suc, _*_, _/_, _%_, _^_}
+use mathlib.Core.Bool.{Bool, true, false, cond}
+use lib.Dec.{eqb, ltb}
+use lib.Bits.{bitXor}
+
+-- x times a, reduced by p: where the degree reaches n, p is taken away
+unfoldable pub timesX : ℕ → ℕ → ℕ → ℕ
+timesX n p a = cond (ltb (a * 2) (2 ^ n)) (a * 2) (bitXor (a * 2) p)
+
+-- the product of a and the polynomial of b's k low bits, by Horner's rule: a × b = x (a × (b / x)) + b₀ a
+unfoldable pub horner : ℕ → ℕ → ℕ → ℕ → ℕ → ℕ
+horner n p a zero b = 0
+horner n p a (suc k) b = bitXor (timesX n p (horner n p a k (b / 2))) (cond (eqb (b % 2) 1) (a % 2 ^ n) 0)
+
+-- the product of the n low bits of a and of b, reduced by p
+unfoldable pub times : ℕ → ℕ → ℕ → ℕ → ℕ
+times n p a b = horner n p a n b
+
+-- the first of the numbers i, i + 1, .. (k of them) that passes the test; 0 if none does
+unfoldable pub first : (ℕ → Bool) → ℕ → ℕ → ℕ
+first f i zero = 0
+first f i (suc k) = cond (f i) i (first f (suc i) k)
+
+-- the reciprocal of a: the element whose product with a is 1
+unfoldable pub reciprocalOf : ℕ → ℕ → ℕ → ℕ
+reciprocalOf n p a = first (λ b. eqb (times n p a b) 1) 0 (2 ^ n)

@@ -1,0 +1,45 @@
+//! The digest as a braid (document 01; it departs from source 000, section 5.1, in the choice of the
+//! generators and in that nothing is cancelled between half bytes).
+
+use crate::bits;
+use crate::letter::Letter;
+use crate::questions::{first_no, first_refusal};
+use crate::word::{room_answer, write_file, Written};
+
+/// The bytes of a digest.
+const DIGEST_BYTES: usize = 32;
+
+/// The codes of the braid of one half byte: the power p of the pure braid generator of source 003, section 9,
+/// equation (11), for strands l and 8. It is b7 down to b_(l+1), then b_l 2 × p times, then the inverses of
+/// b_(l+1) up to b7.
+pub fn half_byte_braid(half: u8) -> Vec<u8> {
+    let l = match half % 4 {
+        0 => 7,
+        1 => 5,
+        2 => 3,
+        _ => 1,
+    };
+    let p = usize::from(half / 4) + 1;
+    let down = (l + 1..=7).rev().map(|generator| Letter { generator, inverse: false });
+    let core = std::iter::repeat_n(Letter { generator: l, inverse: false }, 2 * p);
+    let up = (l + 1..=7).map(|generator| Letter { generator, inverse: true });
+    down.chain(core).chain(up).map(Letter::code).collect()
+}
+
+/// The codes of a digest's braid: those of its half bytes, high half first, one after another.
+pub fn digest_braid(digest: &[u8]) -> Vec<u8> {
+    bits::numbers(&bits::of_bytes(digest), 4).into_iter().flat_map(half_byte_braid).collect()
+}
+
+/// The answer to a digest's question: 8, or 0.
+pub fn digest_answer(digest: &[u8]) -> u8 {
+    first_no(&[(8, |length: &usize| *length == DIGEST_BYTES)], &digest.len())
+}
+
+/// The encoder, used alone: writes the whole braid as a word file. Answers: 15, 8.
+pub fn encode_digest(digest: &[u8], out: &mut [u8]) -> Written {
+    match first_refusal(&[room_answer(out), digest_answer(digest)]) {
+        0 => write_file(&digest_braid(digest), out),
+        answer => Written::refusal(answer),
+    }
+}

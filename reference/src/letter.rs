@@ -1,0 +1,34 @@
+//! Letters: the Artin generators b1 to b7 and their inverses (document 01, "Letters and pairs").
+
+/// A letter: a generator's number, 1 to 7, and whether it is the inverse.
+#[derive(Clone, Copy, Debug, PartialEq, Eq)]
+pub struct Letter {
+    pub generator: usize,
+    pub inverse: bool,
+}
+
+impl Letter {
+    /// The letter of a code: the high one of four bits is 1 for an inverse, the low three are the generator's
+    /// number less one. Codes 7 and 15 and all above are no letters.
+    pub fn from_code(code: u8) -> Option<Letter> {
+        let generator = usize::from(code % 8) + 1;
+        let inverse = code / 8 == 1;
+        (code < 16 && generator <= 7).then_some(Letter { generator, inverse })
+    }
+
+    /// The letter's code.
+    pub fn code(self) -> u8 {
+        let sign = if self.inverse { 8 } else { 0 };
+        sign + (self.generator as u8 - 1)
+    }
+
+    /// The same generator with the other sign.
+    pub fn inverted(self) -> Letter {
+        Letter { inverse: !self.inverse, ..self }
+    }
+}
+
+/// Is the code a letter? (Question 12.)
+pub fn is_letter(code: u8) -> bool {
+    Letter::from_code(code).is_some()
+}

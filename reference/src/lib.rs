@@ -1,0 +1,46 @@
+//! A second, independent road to the operations of document 01 ("Loan-slip signatures: braid words, keys and
+//! moves"), to run beside another implementation.
+//!
+//! It is written for plainness, not speed, and takes another way wherever there is one:
+//!
+//! - the field multiplies the two bit strings as polynomials and divides by x^5 + x^2 + 1, without tables;
+//!   a reciprocal is found by Euclid's algorithm on polynomials ([`field`]);
+//! - a letter acts on a pair as a whole coloured Burau matrix, by the general matrix product ([`pair`]);
+//! - files are packed and unpacked over an explicit string of bits ([`bits`]);
+//! - free reduction removes the first cancelling neighbours, again and again ([`reduce`]);
+//! - the questions stand in lists, in the paper's order, and the answer is the number of the first one
+//!   answered no ([`questions`]).
+//!
+//! Answers are the paper's numbers, 0 for success. On a refusal lent buffers and pairs keep their bytes,
+//! returned numbers, keys and pairs are zeros, and a yes or no is no.
+//!
+//! The functions that mirror the exported interface are gathered here; each layer's own definitions stand in
+//! its module. The verdict and the rewriter have their places above [`pair`], [`key`], [`digest`] and
+//! [`word`], beside [`cloak`] and [`reduce`].
+
+pub mod bits;
+pub mod cloak;
+pub mod digest;
+pub mod field;
+pub mod key;
+pub mod letter;
+pub mod matrix;
+pub mod pair;
+pub mod questions;
+pub mod reduce;
+pub mod word;
+
+pub use cloak::{cloaks, Cloak};
+pub use digest::encode_digest;
+pub use field::{product, reciprocal, Element};
+pub use key::{read_key, write_key, Key};
+pub use matrix::{matrix_product, Matrix};
+pub use pair::{multiply, start, Pair};
+pub use reduce::free_reduce;
+pub use word::{code_part, letter_at, letters, read_word, write_word, Word, WordReader, Written};
+
+/// N, the number of strands (document 01, head).
+pub const STRANDS: usize = 8;
+
+/// q, the number of field elements (document 01, head).
+pub const FIELD_SIZE: u8 = 32;

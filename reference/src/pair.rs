@@ -1,0 +1,113 @@
+//! Pairs and E-multiplication (document 01, "Letters and pairs"; source 003, sections 2 and 3).
+//!
+//! Source 003 gives each letter an 8 by 8 coloured Burau matrix in the variables t_1 to t_8. A pair (M, σ)
+//! times a letter is (M · CB, σ · σ_i), where CB is the letter's matrix with t_k taken as the T-value of the
+//! label σ(k), and σ_i changes i and i + 1. Document 01 says the same by columns.
+
+use crate::field::{inverse, is_element};
+use crate::letter::{is_letter, Letter};
+use crate::matrix::{at, identity, matrix_product, Matrix};
+use crate::questions::{first_no, is_each_label_once, Question};
+use crate::STRANDS;
+
+/// A list of eight labels, one for each position.
+pub type Labels = [u8; STRANDS];
+
+/// T-values by label.
+pub type TValues = [u8; STRANDS];
+
+/// An 8 by 8 matrix and a list of labels.
+#[derive(Clone, Copy, Debug, PartialEq, Eq)]
+pub struct Pair {
+    pub matrix: Matrix,
+    pub labels: Labels,
+}
+
+impl Pair {
+    /// The pair of a refusal: all zeros.
+    pub const ZEROS: Pair = Pair { matrix: [0; 64], labels: [0; STRANDS] };
+}
+
+/// The starting pair: the identity matrix with the list 0 to 7.
+pub fn start() -> Pair {
+    Pair { matrix: identity(), labels: [0, 1, 2, 3, 4, 5, 6, 7] }
+}
+
+/// The T-values by position: that of the label which stands there.
+fn permuted(t_values: &TValues, labels: &Labels) -> TValues {
+    labels.map(|label| t_values[usize::from(label)])
+}
+
+/// The coloured Burau matrix of a letter (source 003, section 2, equations (2) and (3) and the one after
+/// them), for values t_1 to t_8. It is the identity but for row i, which holds t_i, t_i, 1 for b_i, and
+/// 1, 1/t_(i+1), 1/t_(i+1) for its inverse, in columns i - 1, i, i + 1. For i = 1 the first of the three is
+/// left out. Minus signs change nothing in this field.
+pub fn coloured_burau(letter: Letter, t: &TValues) -> Matrix {
+    let i = letter.generator;
+    let (left, middle, right) = if letter.inverse {
+        let s = inverse(t[i]);
+        (1, s, s)
+    } else {
+        (t[i - 1], t[i - 1], 1)
+    };
+    let mut matrix = identity();
+    if i > 1 {
+        matrix[at(i, i - 1)] = left;
+    }
+    matrix[at(i, i)] = middle;
+    matrix[at(i, i + 1)] = right;
+    matrix
+}
+
+/// The permutation that changes positions i and i + 1, counted from 1, as a list counted from 0.
+fn transposition(i: usize) -> [usize; STRANDS] {
+    let mut places = [0, 1, 2, 3, 4, 5, 6, 7];
+    places.swap(i - 1, i);
+    places
+}
+
+/// A list of labels after a permutation of the positions: first the permutation, then the list.
+fn composed(labels: &Labels, places: [usize; STRANDS]) -> Labels {
+    places.map(|place| labels[place])
+}
+
+/// A pair times one letter.
+pub fn e_multiplied(pair: &Pair, t_values: &TValues, letter: Letter) -> Pair {
+    let burau = coloured_burau(letter, &permuted(t_values, &pair.labels));
+    Pair {
+        matrix: matrix_product(&pair.matrix, &burau),
+        labels: composed(&pair.labels, transposition(letter.generator)),
+    }
+}
+
+/// A pair carried by a word: times its letters, first to last. The codes are letters.
+pub fn carried(pair: &Pair, t_values: &TValues, codes: &[u8]) -> Pair {
+    codes
+        .iter()
+        .filter_map(|code| Letter::from_code(*code))
+        .fold(*pair, |pair, letter| e_multiplied(&pair, t_values, letter))
+}
+
+/// What the multiplier is asked about.
+struct Step {
+    pair: Pair,
+    t_values: TValues,
+    letter: u8,
+}
+
+/// The questions of the multiplier, used alone.
+const QUESTIONS: [Question<Step>; 4] = [
+    (17, |step| step.t_values.iter().chain(&step.pair.matrix).all(|n| is_element(*n))),
+    (4, |step| !step.t_values.contains(&0)),
+    (6, |step| is_each_label_once(&step.pair.labels)),
+    (12, |step| is_letter(step.letter)),
+];
+
+/// The multiplier, used alone: one letter changes the lent pair. Answers: 17, 4, 6, 12.
+pub fn multiply(pair: &mut Pair, t_values: &TValues, letter: u8) -> u8 {
+    let answer = first_no(&QUESTIONS, &Step { pair: *pair, t_values: *t_values, letter });
+    if answer == 0 {
+        *pair = carried(pair, t_values, &[letter]);
+    }
+    answer
+}

@@ -1,0 +1,438 @@
+//! Laws that hold for all inputs, by brute force where the inputs are few and on seeded random ones where
+//! they are many.
+
+mod common;
+
+use common::{hex, key_with_t_values, Random, PLAIN_LIST};
+use reference::digest::digest_braid;
+use reference::matrix::{at, identity};
+use reference::pair::carried;
+use reference::reduce::{cancels, freely_reduced};
+use reference::{
+    cloaks, encode_digest, free_reduce, letters, matrix_product, multiply, product, read_key, read_word,
+    reciprocal, write_key, write_word, Pair, WordReader,
+};
+
+const ROUNDS: usize = 200;
+
+/// The product of two elements, which must be one.
+fn times(left: u8, right: u8) -> u8 {
+    let element = product(left, right);
+    assert_eq!(element.answer, 0);
+    assert!(element.value < 32);
+    element.value
+}
+
+/// The code of b_i, or of its inverse.
+fn letter(generator: usize, inverse: bool) -> u8 {
+    generator as u8 - 1 + if inverse { 8 } else { 0 }
+}
+
+/// The inverse word: the inverse letters in the other order.
+fn inverted(word: &[u8]) -> Vec<u8> {
+    word.iter().rev().map(|code| code ^ 8).collect()
+}
+
+/// Do two words carry the same random pairs to the same pairs?
+fn assert_equal_braids(random: &mut Random, left: &[u8], right: &[u8]) {
+    let (pair, t_values) = (random.pair(), random.t_values());
+    assert_eq!(carried(&pair, &t_values, left), carried(&pair, &t_values, right), "{left:X?} {right:X?}");
+}
+
+// ---- The field ----
+
+#[test]
+fn field_laws() {
+    for a in 0..32 {
+        assert_eq!(times(1, a), a);
+        assert_eq!(times(0, a), 0);
+        for b in 0..32 {
+            assert_eq!(times(a, b), times(b, a));
+            assert_eq!(times(a, b) == 0, a == 0 || b == 0);
+            for c in 0..32 {
+                assert_eq!(times(times(a, b), c), times(a, times(b, c)));
+                assert_eq!(times(a, b ^ c), times(a, b) ^ times(a, c));
+            }
+        }
+    }
+}
+
+/// Times x is a shift, and x^5 is x^2 + 1: with the laws above this fixes every product.
+#[test]
+fn times_x() {
+    for a in 0..32 {
+        let shifted = 2 * a;
+        assert_eq!(times(2, a), if shifted < 32 { shifted } else { shifted ^ 0b10_0101 });
+    }
+}
+
+#[test]
+fn reciprocals() {
+    for a in 1..32 {
+        let element = reciprocal(a);
+        assert_eq!((element.answer, times(a, element.value)), (0, 1));
+    }
+}
+
+#[test]
+fn numbers_that_are_no_elements() {
+    for a in 0..=255 {
+        assert_eq!(reciprocal(a).answer, [0, 4, 17][usize::from(a == 0) + 2 * usize::from(a > 31)]);
+        for b in 0..=255 {
+            assert_eq!(product(a, b).answer, if a > 31 || b > 31 { 17 } else { 0 });
+        }
+    }
+}
+
+// ---- Matrices and pairs ----
+
+#[test]
+fn matrix_laws() {
+    let mut random = Random(1);
+    for _ in 0..ROUNDS {
+        let (a, b, c) = (random.elements(), random.elements(), random.elements());
+        assert_eq!(matrix_product(&a, &identity()), a);
+        assert_eq!(matrix_product(&identity(), &a), a);
+        assert_eq!(matrix_product(&matrix_product(&a, &b), &c), matrix_product(&a, &matrix_product(&b, &c)));
+    }
+}
+
+/// A letter in the words of document 01: columns gain multiples of the old column i.
+fn by_columns(pair: &Pair, t_values: &[u8; 8], i: usize, inverse: bool) -> Pair {
+    let mut result = *pair;
+    let t_value = |position: usize| t_values[usize::from(pair.labels[position - 1])];
+    let (left, middle, right) = if inverse {
+        let s = reciprocal(t_value(i + 1)).value;
+        (1, s, s)
+    } else {
+        (t_value(i), t_value(i), 1)
+    };
+    for row in 1..=8 {
+        let old = pair.matrix[at(row, i)];
+        if i > 1 {
+            result.matrix[at(row, i - 1)] ^= times(left, old);
+        }
+        result.matrix[at(row, i + 1)] ^= times(right, old);
+        result.matrix[at(row, i)] = times(middle, old);
+    }
+    result.labels.swap(i - 1, i);
+    result
+}
+
+#[test]
+fn letters_change_columns_as_document_01_says() {
+    let mut random = Random(2);
+    for _ in 0..ROUNDS {
+        for i in 1..=7 {
+            for inverse in [false, true] {
+                let (mut pair, t_values) = (random.pair(), random.t_values());
+                let expected = by_columns(&pair, &t_values, i, inverse);
+                assert_eq!(multiply(&mut pair, &t_values, letter(i, inverse)), 0);
+                assert_eq!(pair, expected);
+            }
+        }
+    }
+}
+
+/// A letter acts on the right, so a matrix from the left goes through: what the verdict rests on.
+#[test]
+fn matrices_from_the_left_go_through() {
+    let mut random = Random(3);
+    for _ in 0..ROUNDS {
+        let (pair, t_values, word) = (random.pair(), random.t_values(), random.word(9));
+        let left = random.elements();
+        let moved = Pair { matrix: matrix_product(&left, &pair.matrix), ..pair };
+        let after = carried(&pair, &t_values, &word);
+        let expected = Pair { matrix: matrix_product(&left, &after.matrix), ..after };
+        assert_eq!(carried(&moved, &t_values, &word), expected);
+    }
+}
+
+#[test]
+fn cancellation() {
+    let mut random = Random(4);
+    for _ in 0..ROUNDS {
+        for i in 1..=7 {
+            assert_equal_braids(&mut random, &[letter(i, false), letter(i, true)], &[]);
+            assert_equal_braids(&mut random, &[letter(i, true), letter(i, false)], &[]);
+        }
+    }
+}
+
+#[test]
+fn far_commutation() {
+    let mut random = Random(5);
+    for _ in 0..ROUNDS / 10 {
+        for (i, j) in (1..=7).flat_map(|i| (1..=7).map(move |j| (i, j))).filter(|(i, j)| i + 2 <= *j) {
+            for (a, b) in [(false, false), (false, true), (true, false), (true, true)] {
+                let (left, right) = (letter(i, a), letter(j, b));
+                assert_equal_braids(&mut random, &[left, right], &[right, left]);
+            }
+        }
+    }
+}
+
+#[test]
+fn braid_relation() {
+    let mut random = Random(6);
+    for _ in 0..ROUNDS {
+        for i in 1..=6 {
+            for inverse in [false, true] {
+                let (j, k) = (letter(i, inverse), letter(i + 1, inverse));
+                assert_equal_braids(&mut random, &[j, k, j], &[k, j, k]);
+            }
+        }
+    }
+}
+
+/// Source 003, appendix A: y_i = b_i .. b_7 satisfy y_j y_i = y_i y_(j-1) y_7⁻¹ for i < j.
+#[test]
+fn y_generators_of_source_003() {
+    let y = |i: u8| (i - 1..7).collect::<Vec<u8>>();
+    let mut random = Random(7);
+    for j in 2..=7 {
+        for i in 1..j {
+            let right = [y(i), y(j - 1), inverted(&y(7))].concat();
+            assert_equal_braids(&mut random, &[y(j), y(i)].concat(), &right);
+        }
+    }
+}
+
+/// The pure braid generator of source 003, section 9, equation (11).
+fn pure(i: u8, j: u8) -> Vec<u8> {
+    let down: Vec<u8> = (i + 1..j).rev().map(|generator| generator - 1).collect();
+    [down.clone(), vec![i - 1, i - 1], inverted(&down)].concat()
+}
+
+/// The first three relations after equation (11) of source 003. (The fourth there cannot hold as printed:
+/// its two sides differ in positive letters less inverse ones.)
+#[test]
+fn pure_braid_relations_of_source_003() {
+    let mut random = Random(8);
+    for (r, s, i, j) in quadruples() {
+        let left = [inverted(&pure(r, s)), pure(i, j), pure(r, s)].concat();
+        let conjugated = |by: Vec<u8>| [by.clone(), pure(i, j), inverted(&by)].concat();
+        if i < r && s < j || s < i {
+            assert_equal_braids(&mut random, &left, &pure(i, j));
+        } else if r < i && i == s {
+            assert_equal_braids(&mut random, &left, &conjugated(pure(r, j)));
+        } else if r == i && s < j {
+            assert_equal_braids(&mut random, &left, &conjugated([pure(r, j), pure(s, j)].concat()));
+        }
+    }
+}
+
+/// All r < s and i < j among the eight strands.
+fn quadruples() -> Vec<(u8, u8, u8, u8)> {
+    let pairs = || (1..=8).flat_map(|a| (a + 1..=8).map(move |b| (a, b)));
+    pairs().flat_map(|(r, s)| pairs().map(move |(i, j)| (r, s, i, j))).collect()
+}
+
+// ---- Words ----
+
+#[test]
+fn words_come_back() {
+    let mut random = Random(9);
+    for length in (0..ROUNDS).chain([4_999, 5_000, 9_999, 10_000]) {
+        let codes = random.word(length);
+        let mut out = vec![0x55; 5_002];
+        let written = write_word(&codes, &mut out);
+        assert_eq!((written.answer, written.bytes), (0, 2 + length.div_ceil(2)));
+        assert!(out[written.bytes..].iter().all(|byte| *byte == 0x55));
+        let file = &out[..written.bytes];
+        assert_eq!(read_word(file).letters, length);
+        assert_eq!(letters(file), codes);
+        let (_, mut reader) = WordReader::open(file);
+        let walked: Vec<u8> = std::iter::from_fn(|| reader.next_letter()).collect();
+        assert_eq!(walked, codes);
+    }
+}
+
+/// Random short files: an accepted one is written back byte for byte, a refused one has no letters.
+#[test]
+fn word_files_come_back() {
+    let mut random = Random(10);
+    let (mut accepted, mut answers) = (0, [0; 14]);
+    for _ in 0..20_000 {
+        let (number, length) = (random.below(5) as u8, random.below(5));
+        let mut file = vec![0, number];
+        file.extend((0..length).map(|_| random.below(256) as u8));
+        let word = read_word(&file);
+        answers[usize::from(word.answer)] += 1;
+        assert_eq!(letters(&file).len(), word.letters);
+        if word.answer == 0 {
+            accepted += 1;
+            let mut out = vec![0; 5_002];
+            assert_eq!(write_word(&letters(&file), &mut out).bytes, file.len());
+            assert_eq!(out[..file.len()], file);
+        }
+    }
+    assert!(accepted > 1_000 && answers[11] > 0 && answers[12] > 0 && answers[13] > 0);
+}
+
+// ---- Free reduction ----
+
+/// A word with many cancelling neighbours.
+fn tangled(random: &mut Random, rounds: usize) -> Vec<u8> {
+    let mut word = random.word(12);
+    for _ in 0..rounds {
+        let place = random.below(word.len() as u64 + 1);
+        let code = random.letter();
+        word.splice(place..place, [code, code ^ 8]);
+    }
+    word
+}
+
+#[test]
+fn free_reduction_is_unique() {
+    let mut random = Random(11);
+    for _ in 0..ROUNDS {
+        let word = tangled(&mut random, 40);
+        let reduced = freely_reduced(&word);
+        assert!(reduced.windows(2).all(|two| !cancels(two[0], two[1])));
+        assert_eq!(freely_reduced(&reduced), reduced);
+        let mut other = word.clone();
+        loop {
+            let places: Vec<usize> =
+                (1..other.len()).filter(|place| cancels(other[place - 1], other[*place])).collect();
+            let Some(place) = places.get(random.below(places.len().max(1) as u64)) else { break };
+            other.drain(place - 1..=*place);
+        }
+        assert_eq!(other, reduced, "another order of removal");
+    }
+}
+
+#[test]
+fn free_reduction_carries_the_same_pairs() {
+    let mut random = Random(12);
+    for _ in 0..ROUNDS {
+        let word = tangled(&mut random, 20);
+        assert_equal_braids(&mut random, &word, &freely_reduced(&word));
+    }
+}
+
+#[test]
+fn cancelling_letters() {
+    for (first, second) in (0..=255).flat_map(|first| (0..=255).map(move |second| (first, second))) {
+        let opposite = first < 15 && first % 8 != 7 && first ^ second == 8;
+        assert_eq!(cancels(first, second), opposite, "{first} {second}");
+    }
+}
+
+// ---- Keys ----
+
+#[test]
+fn keys_come_back() {
+    let mut random = Random(13);
+    for _ in 0..ROUNDS {
+        let mut t_values = random.t_values();
+        t_values[..2].copy_from_slice(&[1, 1]);
+        let labels = random.labels();
+        let (first, second) = (random.elements::<57>(), random.elements::<57>());
+        let mut file = vec![0x55; 85];
+        assert_eq!(write_key(&t_values, &labels, &first, &second, &mut file), 0);
+        assert_eq!(file[83..], [0x55, 0x55]);
+        let key = read_key(&file[..83]);
+        assert_eq!((key.answer, key.t_values, key.pair.labels), (0, t_values, labels));
+        for (matrix, entries) in [(key.pair.matrix, first), (key.second, second)] {
+            assert_eq!(matrix[..56], entries[..56]);
+            assert_eq!(matrix[56..63], [0; 7]);
+            assert_eq!(matrix[63], entries[56]);
+        }
+    }
+}
+
+/// Random matrix bytes with the filler cleared: an accepted file is written back byte for byte.
+#[test]
+fn key_files_come_back() {
+    let mut random = Random(14);
+    for _ in 0..ROUNDS {
+        let mut file = key_with_t_values("08 44 32 14 C7");
+        for place in (8..44).chain(47..83) {
+            file[place] = random.below(256) as u8;
+        }
+        file[43] &= 0xF8;
+        file[82] &= 0xF8;
+        let key = read_key(&file);
+        assert_eq!(key.answer, 0);
+        let entries = |matrix: &[u8; 64]| {
+            let mut entries = [0; 57];
+            entries[..56].copy_from_slice(&matrix[..56]);
+            entries[56] = matrix[63];
+            entries
+        };
+        let mut out = vec![0; 83];
+        let (first, second) = (entries(&key.pair.matrix), entries(&key.second));
+        assert_eq!(write_key(&key.t_values, &key.pair.labels, &first, &second, &mut out), 0);
+        assert_eq!(out, file);
+    }
+}
+
+/// Every single bit of filler is asked about, and no other bit of the matrices.
+#[test]
+fn filler_of_keys() {
+    for bit in 0..664 {
+        let mut file = key_with_t_values("08 44 32 14 C7");
+        file[bit / 8] ^= 0x80 >> (bit % 8);
+        let answer = read_key(&file).answer;
+        let filler = (349..352).contains(&bit) || (661..664).contains(&bit);
+        assert_eq!(answer == 7, filler, "{bit}");
+        if (64..349).contains(&bit) || (376..661).contains(&bit) {
+            assert_eq!(answer, 0, "{bit}");
+        }
+    }
+}
+
+// ---- Digests and cloaks ----
+
+/// A digest's braid is pure, it is the braid of its halves, and its word file is accepted.
+#[test]
+fn digest_braids() {
+    let mut random = Random(15);
+    for _ in 0..ROUNDS / 4 {
+        let digest = [0; 32].map(|_: u8| random.below(256) as u8);
+        let mut out = vec![0; 5_002];
+        let written = encode_digest(&digest, &mut out);
+        assert_eq!(written.answer, 0);
+        let codes = letters(&out[..written.bytes]);
+        assert_eq!(codes, digest_braid(&digest));
+        assert_eq!(codes, [digest_braid(&digest[..11]), digest_braid(&digest[11..])].concat());
+        let pair = random.pair();
+        assert_eq!(carried(&pair, &random.t_values(), &codes).labels, pair.labels);
+    }
+}
+
+/// Source 003, proposition 4.2, and source 000, section 5.2: w b_i b_i w⁻¹ cloaks for a list if w takes
+/// labels 0 and 1 to positions i and i + 1; so do its inverse, its powers and its free reduction.
+#[test]
+fn cloaking_elements() {
+    let mut random = Random(16);
+    let key = key_with_t_values("08 44 32 14 C7");
+    let mut found = 0;
+    while found < 20 {
+        let (list, w, i) = (random.labels(), random.word(10), random.below(7) as u8);
+        let reached = carried(&Pair { labels: list, ..reference::start() }, &[1; 8], &w).labels;
+        if reached[usize::from(i)] > 1 || reached[usize::from(i) + 1] > 1 {
+            continue;
+        }
+        found += 1;
+        let element = [w.clone(), vec![i, i], inverted(&w)].concat();
+        let mut out = vec![0; 5_002];
+        for word in [element.clone(), inverted(&element), element.repeat(3)] {
+            let bytes = write_word(&word, &mut out).bytes;
+            let file = out[..bytes].to_vec();
+            assert!(cloaks(&key, &list, &file).yes);
+            let bytes = free_reduce(&file, &mut out).bytes;
+            assert!(cloaks(&key, &list, &out[..bytes]).yes);
+        }
+    }
+    assert!(cloaks(&key, &PLAIN_LIST, &hex("00 02 88")).yes);
+}
+
+/// b1 b1 5,000 times: as long as a word may be.
+#[test]
+fn longest_cloaking_word() {
+    let mut word = hex("27 10");
+    word.resize(5_002, 0);
+    assert!(cloaks(&key_with_t_values("08 44 32 14 C7"), &PLAIN_LIST, &word).yes);
+}

@@ -1,0 +1,724 @@
+//! The worked examples of the papers. What is expected is typed from them, or follows from them by the
+//! reasoning written beside it; none of it was computed by the code under test.
+
+mod common;
+
+use common::{file, hex, key_with_t_values, plain_key, PACKED_IDENTITY, PLAIN_LIST, PLAIN_T_VALUES};
+use reference::digest::half_byte_braid;
+use reference::letter::{is_letter, Letter};
+use reference::{
+    cloaks, code_part, encode_digest, free_reduce, letter_at, letters, matrix_product, multiply, product,
+    read_key, read_word, reciprocal, start, write_key, write_word, Cloak, Element, Pair, Word, WordReader,
+    Written,
+};
+
+/// The file that a writer of words left, with what it reported; the rest of the output must be untouched.
+fn output(write: impl Fn(&mut [u8]) -> Written) -> Vec<u8> {
+    let mut out = vec![0xAA; 5_010];
+    let written = write(&mut out);
+    assert_eq!(written.answer, 0);
+    assert!(out[written.bytes..].iter().all(|byte| *byte == 0xAA), "bytes past the word changed");
+    out.truncate(written.bytes);
+    out
+}
+
+/// A writer of words must refuse with this number, report 0 bytes and leave the output alone.
+fn refuses(expected: u8, size: usize, write: impl Fn(&mut [u8]) -> Written) {
+    let mut out = vec![0xAA; size];
+    assert_eq!(write(&mut out), Written { answer: expected, bytes: 0 });
+    assert!(out.iter().all(|byte| *byte == 0xAA), "a refusal changed the output");
+}
+
+/// The starting pair carried by letters written as in source 004: 3 is b3, -3 its inverse.
+fn carried(t_values: &[u8; 8], braid: &[i8]) -> Pair {
+    carried_from(start(), t_values, braid)
+}
+
+fn carried_from(mut pair: Pair, t_values: &[u8; 8], braid: &[i8]) -> Pair {
+    for letter in braid {
+        assert_eq!(multiply(&mut pair, t_values, code(*letter)), 0);
+    }
+    pair
+}
+
+fn code(letter: i8) -> u8 {
+    letter.unsigned_abs() - 1 + if letter < 0 { 8 } else { 0 }
+}
+
+fn codes(braid: &[i8]) -> Vec<u8> {
+    braid.iter().map(|letter| code(*letter)).collect()
+}
+
+/// Eight rows of eight as one run of 64.
+fn rows(rows: [[u8; 8]; 8]) -> [u8; 64] {
+    let mut matrix = [0; 64];
+    matrix.copy_from_slice(&rows.concat());
+    matrix
+}
+
+fn yes(key: &[u8], list: [u8; 8], word: &[u8]) -> bool {
+    let Cloak { answer, yes } = cloaks(key, &list, word);
+    assert_eq!(answer, 0);
+    yes
+}
+
+// ---- The field (document 01, "The field" and the slips) ----
+
+#[test]
+fn products_and_reciprocals_of_the_slips() {
+    assert_eq!(product(16, 2), Element { answer: 0, value: 5 });
+    assert_eq!(product(31, 31), Element { answer: 0, value: 18 });
+    assert_eq!(reciprocal(3), Element { answer: 0, value: 28 });
+}
+
+/// x (x^4 + x) = x^5 + x^2 = 1, so 2 and 18 are reciprocal; (x^2 + x + 1)(x^3 + x^2) = x^5 + x^2 = 1, so 7 and
+/// 12 are; 31 × 31 = 18 is half of 1, so the reciprocal of 31 is 2 × 31 = 27.
+#[test]
+fn products_that_follow_by_hand() {
+    assert_eq!(product(2, 18).value, 1);
+    assert_eq!(reciprocal(2).value, 18);
+    assert_eq!(reciprocal(7).value, 12);
+    assert_eq!(product(2, 31).value, 27);
+    assert_eq!(reciprocal(31).value, 27);
+    assert_eq!(reciprocal(28).value, 3);
+    assert_eq!(reciprocal(1), Element { answer: 0, value: 1 });
+    assert_eq!(product(0, 31), Element { answer: 0, value: 0 });
+}
+
+#[test]
+fn field_refusals() {
+    for (left, right) in [(32, 0), (0, 32), (255, 255), (31, 32)] {
+        assert_eq!(product(left, right), Element { answer: 17, value: 0 });
+    }
+    assert_eq!(reciprocal(32), Element { answer: 17, value: 0 });
+    assert_eq!(reciprocal(255), Element { answer: 17, value: 0 });
+    assert_eq!(reciprocal(0), Element { answer: 4, value: 0 });
+}
+
+// ---- Letters and pairs (document 01; source 003, section 2; source 004, sections 5.2, 6.4 and 8.4) ----
+
+#[test]
+fn codes_of_letters() {
+    for generator in 1..=7 {
+        let letter = Letter { generator, inverse: false };
+        assert_eq!(letter.code(), generator as u8 - 1);
+        assert_eq!(letter.inverted().code(), generator as u8 + 7);
+        assert_eq!(Letter::from_code(letter.code()), Some(letter));
+        assert_eq!(Letter::from_code(letter.inverted().code()), Some(letter.inverted()));
+    }
+    for code in [7, 15, 16, 23, 24, 200, 255] {
+        assert!(!is_letter(code));
+    }
+}
+
+#[test]
+fn starting_pair() {
+    let expected = rows([
+        [1, 0, 0, 0, 0, 0, 0, 0],
+        [0, 1, 0, 0, 0, 0, 0, 0],
+        [0, 0, 1, 0, 0, 0, 0, 0],
+        [0, 0, 0, 1, 0, 0, 0, 0],
+        [0, 0, 0, 0, 1, 0, 0, 0],
+        [0, 0, 0, 0, 0, 1, 0, 0],
+        [0, 0, 0, 0, 0, 0, 1, 0],
+        [0, 0, 0, 0, 0, 0, 0, 1],
+    ]);
+    assert_eq!(start(), Pair { matrix: expected, labels: PLAIN_LIST });
+}
+
+/// The starting pair with one row and the list replaced: a word in one generator changes no other row.
+fn start_with_row(row: usize, entries: [u8; 8], labels: [u8; 8]) -> Pair {
+    let mut pair = Pair { labels, ..start() };
+    pair.matrix[8 * (row - 1)..8 * row].copy_from_slice(&entries);
+    pair
+}
+
+#[test]
+fn b3_from_the_start() {
+    let swapped = [0, 1, 3, 2, 4, 5, 6, 7];
+    let t = &PLAIN_T_VALUES;
+    assert_eq!(carried(t, &[3]), start_with_row(3, [0, 2, 2, 1, 0, 0, 0, 0], swapped));
+    assert_eq!(carried(t, &[-3]), start_with_row(3, [0, 1, 28, 28, 0, 0, 0, 0], swapped));
+    assert_eq!(carried(t, &[3, 3]), start_with_row(3, [0, 4, 6, 3, 0, 0, 0, 0], PLAIN_LIST));
+}
+
+/// The first and last generators: b1 has no column to its left; 1/7 is 12 (see above).
+#[test]
+fn generators_at_the_edges() {
+    let t = &PLAIN_T_VALUES;
+    let first = [1, 0, 2, 3, 4, 5, 6, 7];
+    let last = [0, 1, 2, 3, 4, 5, 7, 6];
+    assert_eq!(carried(t, &[1]), start_with_row(1, [1, 1, 0, 0, 0, 0, 0, 0], first));
+    assert_eq!(carried(t, &[-1]), start_with_row(1, [1, 1, 0, 0, 0, 0, 0, 0], first));
+    assert_eq!(carried(t, &[7]), start_with_row(7, [0, 0, 0, 0, 0, 6, 6, 1], last));
+    assert_eq!(carried(t, &[-7]), start_with_row(7, [0, 0, 0, 0, 0, 1, 12, 12], last));
+}
+
+/// Source 004, section 8.4, less one (document 01), and section 5.2 on its three strands: 2 3 1, less one.
+#[test]
+fn permutations_of_source_004() {
+    assert_eq!(carried(&PLAIN_T_VALUES, &[-3, 6, 4, -1, 2]).labels, [1, 3, 0, 4, 2, 6, 5, 7]);
+    assert_eq!(carried(&PLAIN_T_VALUES, &[-1, 2]).labels, [1, 2, 0, 3, 4, 5, 6, 7]);
+}
+
+/// Source 004, section 6.4: T-values 14 1 8 1 and b3 b1⁻¹ on four strands. Only products with 0 and 1 occur,
+/// so the field does not matter. The last matrix there prints 0 8 8 0 where the one before it has t3 t3 1.
+#[test]
+fn e_multiplication_of_source_004() {
+    let t_values = [14, 1, 8, 1, 9, 9, 9, 9];
+    let mut expected = Pair { labels: [1, 0, 3, 2, 4, 5, 6, 7], ..start() };
+    expected.matrix[..8].copy_from_slice(&[1, 1, 0, 0, 0, 0, 0, 0]);
+    expected.matrix[16..24].copy_from_slice(&[0, 8, 8, 1, 0, 0, 0, 0]);
+    assert_eq!(carried(&t_values, &[3, -1]), expected);
+}
+
+/// Source 004, section 8.4: the matrix of b3⁻¹ b6 b4 b1⁻¹ b2 is there, in its T-values,
+/// (1 + t1)/t2, t1/t2, 1/t2; t1, t1, 1; t1, t1, (1 + t3)/t4 + 1, t3/t4, 1/t4; 0, 0, t3, t3, 1; and so on.
+/// Its field is another, so smaller T-values stand here, with 1/3 = 28 (document 01) and
+/// 22 × 28 = 17, 23 × 28 = 17 + 28 = 13, 2 × 28 = 29 by hand.
+#[test]
+fn matrix_of_source_004() {
+    let labels = [1, 3, 0, 4, 2, 6, 5, 7];
+    let like_004 = rows([
+        [13, 17, 28, 0, 0, 0, 0, 0],
+        [22, 22, 1, 0, 0, 0, 0, 0],
+        [22, 22, 12, 12, 1, 0, 0, 0],
+        [0, 0, 12, 12, 1, 0, 0, 0],
+        [0, 0, 0, 0, 1, 0, 0, 0],
+        [0, 0, 0, 0, 8, 8, 1, 0],
+        [0, 0, 0, 0, 0, 0, 1, 0],
+        [0, 0, 0, 0, 0, 0, 0, 1],
+    ]);
+    let plain = rows([
+        [0, 1, 1, 0, 0, 0, 0, 0],
+        [1, 1, 1, 0, 0, 0, 0, 0],
+        [1, 1, 0, 29, 28, 0, 0, 0],
+        [0, 0, 2, 2, 1, 0, 0, 0],
+        [0, 0, 0, 0, 1, 0, 0, 0],
+        [0, 0, 0, 0, 5, 5, 1, 0],
+        [0, 0, 0, 0, 0, 0, 1, 0],
+        [0, 0, 0, 0, 0, 0, 0, 1],
+    ]);
+    let braid = [-3, 6, 4, -1, 2];
+    assert_eq!(carried(&[22, 3, 12, 1, 1, 8, 15, 9], &braid), Pair { matrix: like_004, labels });
+    assert_eq!(carried(&PLAIN_T_VALUES, &braid), Pair { matrix: plain, labels });
+}
+
+/// Source 003, section 2: the matrix of b3 b3 is the letter's matrix at t3 = 2 times the one at t3 = 3, since
+/// the first letter swaps the labels; document 01 gives its third row. In the other order the row is
+/// 3 + 3 × 2 = 5, 3 × 2 = 6, 1 + 3 = 2.
+#[test]
+fn product_of_two_letter_matrices() {
+    let at_two = start_with_row(3, [0, 2, 2, 1, 0, 0, 0, 0], PLAIN_LIST).matrix;
+    let at_three = start_with_row(3, [0, 3, 3, 1, 0, 0, 0, 0], PLAIN_LIST).matrix;
+    let both = start_with_row(3, [0, 4, 6, 3, 0, 0, 0, 0], PLAIN_LIST).matrix;
+    let other = start_with_row(3, [0, 5, 6, 2, 0, 0, 0, 0], PLAIN_LIST).matrix;
+    assert_eq!(matrix_product(&at_two, &at_three), both);
+    assert_eq!(matrix_product(&at_three, &at_two), other);
+}
+
+#[test]
+fn multiplier_refusals_in_order() {
+    let mut bad_entry = start();
+    bad_entry.matrix[63] = 32;
+    bad_entry.labels = [0; 8];
+    let mut bad_labels = start();
+    bad_labels.labels = [0, 1, 2, 3, 4, 5, 6, 8];
+    let mut zero_t_value = PLAIN_T_VALUES;
+    zero_t_value[7] = 0;
+    let mut high_t_value = zero_t_value;
+    high_t_value[0] = 32;
+    for (pair, t_values, letter, expected) in [
+        (bad_entry, zero_t_value, 7, 17),
+        (bad_labels, high_t_value, 7, 17),
+        (bad_labels, zero_t_value, 7, 4),
+        (bad_labels, PLAIN_T_VALUES, 7, 6),
+        (Pair { labels: [0; 8], ..start() }, PLAIN_T_VALUES, 0, 6),
+        (start(), PLAIN_T_VALUES, 7, 12),
+        (start(), PLAIN_T_VALUES, 15, 12),
+        (start(), PLAIN_T_VALUES, 16, 12),
+        (start(), PLAIN_T_VALUES, 255, 12),
+    ] {
+        let mut lent = pair;
+        assert_eq!(multiply(&mut lent, &t_values, letter), expected);
+        assert_eq!(lent, pair, "a refusal changed the pair");
+    }
+}
+
+/// The first two T-values need not be 1 for the multiplier: t1 = 5 gives b1 the row 5, 1.
+#[test]
+fn multiplier_does_not_ask_question_5() {
+    let first = [1, 0, 2, 3, 4, 5, 6, 7];
+    let t_values = [5, 9, 2, 3, 4, 5, 6, 7];
+    assert_eq!(carried(&t_values, &[1]), start_with_row(1, [5, 1, 0, 0, 0, 0, 0, 0], first));
+}
+
+// ---- Words (document 01, "Files"; source 000, sections 10 and 10.2) ----
+
+const SEVEN: &str = "00 07 09 23 C5 E0";
+
+#[test]
+fn word_of_source_000_is_read() {
+    let word = hex(SEVEN);
+    let expected = codes(&[1, -2, 3, 4, -5, 6, -7]);
+    assert_eq!(expected, [0x0, 0x9, 0x2, 0x3, 0xC, 0x5, 0xE]);
+    assert_eq!(read_word(&word), Word { answer: 0, letters: 7 });
+    assert_eq!(letters(&word), expected);
+    assert_eq!(code_part(&word), hex("09 23 C5 E0"));
+    assert_eq!(code_part(&word).as_ptr(), word[2..].as_ptr(), "a part of the caller's file");
+    assert_eq!(letter_at(&word, 0), Some(0));
+    assert_eq!(letter_at(&word, 6), Some(0xE));
+    assert_eq!(letter_at(&word, 7), None, "filler is no b1");
+}
+
+#[test]
+fn word_of_source_000_is_written() {
+    assert_eq!(output(|out| write_word(&codes(&[1, -2, 3, 4, -5, 6, -7]), out)), hex(SEVEN));
+}
+
+#[test]
+fn reader_walks_and_stays() {
+    let word = hex(SEVEN);
+    let (answer, mut reader) = WordReader::open(&word);
+    assert_eq!((answer, reader.letters()), (0, 7));
+    for (place, expected) in [0x0, 0x9, 0x2, 0x3, 0xC, 0x5, 0xE].into_iter().enumerate() {
+        assert_eq!(reader.place(), place);
+        assert_eq!(reader.next_letter(), Some(expected));
+    }
+    for _ in 0..3 {
+        assert_eq!(reader.next_letter(), None);
+        assert_eq!(reader.place(), 7);
+    }
+    assert_eq!(reader.code_part(), hex("09 23 C5 E0"));
+}
+
+#[test]
+fn refused_reader_has_no_letters() {
+    let word = hex("00 03 01 07");
+    let (answer, mut reader) = WordReader::open(&word);
+    assert_eq!((answer, reader.letters(), reader.place()), (13, 0, 0));
+    assert_eq!(reader.next_letter(), None);
+    assert_eq!(reader.place(), 0);
+    assert!(reader.code_part().is_empty());
+}
+
+/// Source 000, section 10: 255 is 00 FF and 256 is 01 00. b1 has code 0.
+#[test]
+fn numbers_of_source_000() {
+    for (length, head) in
+        [(255_usize, "00 FF"), (256, "01 00"), (10_000, "27 10"), (0, "00 00"), (1, "00 01")]
+    {
+        let mut expected = hex(head);
+        expected.resize(2 + length.div_ceil(2), 0);
+        assert_eq!(output(|out| write_word(&vec![0; length], out)), expected);
+        assert_eq!(read_word(&expected), Word { answer: 0, letters: length });
+        assert_eq!(letters(&expected), vec![0; length]);
+    }
+}
+
+/// Source 004, section 5.2: the braid 1 3 -2 3 -1, in our packing: codes 0 2 9 2 8.
+#[test]
+fn braid_of_source_004() {
+    let word = hex("00 05 02 92 80");
+    assert_eq!(letters(&word), codes(&[1, 3, -2, 3, -1]));
+    assert_eq!(output(|out| write_word(&codes(&[1, 3, -2, 3, -1]), out)), word);
+}
+
+#[test]
+fn word_refusals_in_order() {
+    let mut long = hex("27 11");
+    long.resize(2 + 5_001, 0x77);
+    let mut most = hex("27 10");
+    most.resize(5_002, 0x77);
+    let mut too_long = hex("27 10");
+    too_long.resize(5_003, 0);
+    for (word, expected) in [
+        (hex(""), 9),
+        (hex("FF"), 9),
+        (hex("27 11"), 10),
+        (hex("FF FF"), 10),
+        (long, 10),
+        (too_long, 11),
+        (hex("27 10"), 11),
+        (hex("00 00 00"), 11),
+        (hex("00 00 77"), 11),
+        (hex("00 01"), 11),
+        (hex("00 01 77 77"), 11),
+        (hex("00 02 07 00"), 11),
+        (most, 12),
+        (hex("00 02 07"), 12),
+        (hex("00 02 F0"), 12),
+        (hex("00 01 7F"), 12),
+        (hex("00 01 70"), 12),
+        (hex("00 03 01 F7"), 12),
+        (hex("00 01 07"), 13),
+        (hex("00 01 01"), 13),
+        (hex("00 01 08"), 13),
+        (hex("00 01 0F"), 13),
+        (hex("00 07 09 23 C5 E1"), 13),
+    ] {
+        assert_eq!(read_word(&word), Word { answer: expected, letters: 0 }, "{word:02X?}");
+        assert!(code_part(&word).is_empty());
+        assert!(letters(&word).is_empty());
+        assert_eq!(letter_at(&word, 0), None);
+        assert_eq!(WordReader::open(&word).0, expected);
+        refuses(expected, 5_002, |out| free_reduce(&word, out));
+        assert_eq!(cloaks(&plain_key(), &PLAIN_LIST, &word), Cloak { answer: expected, yes: false });
+    }
+}
+
+#[test]
+fn word_writer_refusals_in_order() {
+    refuses(15, 5_001, |out| write_word(&[7; 10_001], out));
+    refuses(15, 0, |out| write_word(&[], out));
+    refuses(10, 5_002, |out| write_word(&[7; 10_001], out));
+    for code in [7, 15, 16, 0x80, 255] {
+        refuses(12, 5_002, |out| write_word(&[0, code], out));
+    }
+}
+
+// ---- Keys (document 01, "Files"; source 000, section 10.1) ----
+
+/// The identity's 57 entries.
+fn identity_entries() -> [u8; 57] {
+    let mut entries = [0; 57];
+    for place in [0, 9, 18, 27, 36, 45, 54, 56] {
+        entries[place] = 1;
+    }
+    entries
+}
+
+#[test]
+fn plain_key_is_read() {
+    let key = read_key(&plain_key());
+    assert_eq!(key.answer, 0);
+    assert_eq!(key.t_values, PLAIN_T_VALUES);
+    assert_eq!(key.pair, start());
+    assert_eq!(key.second, start().matrix);
+}
+
+#[test]
+fn plain_key_is_written() {
+    let mut out = vec![0xAA; 90];
+    let entries = identity_entries();
+    assert_eq!(write_key(&PLAIN_T_VALUES, &PLAIN_LIST, &entries, &entries, &mut out), 0);
+    assert_eq!(out[..83], plain_key());
+    assert_eq!(out[..8], hex("08 00 20 08 44 32 14 C7"));
+    assert_eq!(out[44..47], hex("05 39 77"));
+    assert!(out[83..].iter().all(|byte| *byte == 0xAA));
+}
+
+/// Source 000, section 11.1: the key has 664 bits, that is 83 bytes.
+#[test]
+fn plain_key_has_83_bytes() {
+    assert_eq!(plain_key().len() * 8, 664);
+    assert_eq!(hex(PACKED_IDENTITY).len() * 8, 57 * 5 + 3);
+}
+
+/// Entries 16, 1, 16, 1, .. are the bits 10000 00001 again and again: forty bits are 80 60 18 06 01. The last
+/// of the 57 is 16, so 10000, and three zero bits follow it.
+#[test]
+fn every_entry_has_its_place() {
+    let mut first = [0; 57];
+    for (place, entry) in first.iter_mut().enumerate() {
+        *entry = if place % 2 == 0 { 16 } else { 1 };
+    }
+    let packed = format!("{} 80", "80 60 18 06 01 ".repeat(7));
+    let expected = hex(&format!("08 00 20 08 44 32 14 C7 {packed} FA C6 88 {PACKED_IDENTITY}"));
+    let mut out = vec![0; 83];
+    let reversed = [7, 6, 5, 4, 3, 2, 1, 0];
+    assert_eq!(write_key(&PLAIN_T_VALUES, &reversed, &first, &identity_entries(), &mut out), 0);
+    assert_eq!(out, expected);
+    let key = read_key(&expected);
+    assert_eq!(key.pair.labels, reversed);
+    assert_eq!(key.pair.matrix[..56], first[..56]);
+    assert_eq!(key.pair.matrix[56..], [0, 0, 0, 0, 0, 0, 0, 16]);
+    assert_eq!(key.second, start().matrix);
+}
+
+#[test]
+fn key_refusals_in_order() {
+    let refused = |file: &[u8], expected: u8| {
+        let key = read_key(file);
+        assert_eq!(key.answer, expected);
+        assert_eq!((key.t_values, key.pair, key.second), ([0; 8], Pair::ZEROS, [0; 64]));
+        assert_eq!(cloaks(file, &[], &[]), Cloak { answer: expected, yes: false });
+    };
+    refused(&[], 1);
+    refused(&[8; 82], 1);
+    refused(&[8; 84], 1);
+    let mut file = vec![0xFF; 83];
+    refused(&file, 2);
+    file[0] = 8;
+    refused(&file, 3);
+    file[1] = 0;
+    refused(&file, 3);
+    file[2] = 32;
+    file[1] = 1;
+    refused(&file, 3);
+    file[1] = 0;
+    file[3..8].copy_from_slice(&hex("08 44 32 14 C0")); // 1 1 2 3 4 5 6 0
+    refused(&file, 4);
+    file[3] = 0x10; // 2 1 2 3 4 5 6 0
+    refused(&file, 4);
+    file[7] = 0xC7;
+    refused(&file, 5);
+    file[3..8].copy_from_slice(&hex("08 84 32 14 C7")); // 1 2 2 3 4 5 6 7
+    refused(&file, 5);
+    file[3..8].copy_from_slice(&hex("08 44 32 14 C7"));
+    refused(&file, 6);
+    file[44..47].copy_from_slice(&hex("05 39 76")); // 0 1 2 3 4 5 6 6
+    refused(&file, 6);
+    file[44..47].copy_from_slice(&hex("05 39 77"));
+    refused(&file, 7);
+    file[43] = 0xF8;
+    refused(&file, 7);
+    file[82] = 0xF9;
+    refused(&file, 7);
+    file[82] = 0xF8;
+    file[43] = 0xFC;
+    refused(&file, 7);
+    file[43] = 0xF8;
+    let key = read_key(&file);
+    assert_eq!((key.answer, key.second[0], key.second[55], key.second[63]), (0, 31, 31, 31));
+    assert_eq!((key.second[56], key.pair.matrix[62]), (0, 0), "no test is made of the matrices");
+}
+
+#[test]
+fn key_writer_refusals_in_order() {
+    let good = identity_entries();
+    let mut bad = good;
+    bad[56] = 32;
+    let zero = [2, 1, 0, 3, 4, 5, 6, 7];
+    let high = [2, 1, 0, 3, 4, 5, 6, 32];
+    let not_one = [1, 2, 2, 3, 4, 5, 6, 7];
+    let twice = [0, 0, 2, 3, 4, 5, 6, 7];
+    let eight = [8, 1, 2, 3, 4, 5, 6, 7];
+    for (t_values, labels, first, second, size, expected) in [
+        (zero, twice, bad, bad, 82, 16),
+        (zero, twice, bad, good, 83, 17),
+        (zero, twice, good, bad, 83, 17),
+        (high, twice, good, good, 83, 17),
+        (zero, twice, good, good, 83, 4),
+        (not_one, twice, good, good, 83, 5),
+        ([3, 1, 2, 3, 4, 5, 6, 7], twice, good, good, 83, 5),
+        (PLAIN_T_VALUES, twice, good, good, 83, 6),
+        (PLAIN_T_VALUES, eight, good, good, 83, 6),
+    ] {
+        let mut out = vec![0xAA; size];
+        assert_eq!(write_key(&t_values, &labels, &first, &second, &mut out), expected);
+        assert!(out.iter().all(|byte| *byte == 0xAA), "a refusal changed the output");
+    }
+}
+
+// ---- The digest as a braid (document 01) ----
+
+/// The braid of every half byte, by document 01's rule; 6 is its slip.
+const HALF_BYTES: [&[u8]; 16] = [
+    &[6, 6],
+    &[6, 5, 4, 4, 0xD, 0xE],
+    &[6, 5, 4, 3, 2, 2, 0xB, 0xC, 0xD, 0xE],
+    &[6, 5, 4, 3, 2, 1, 0, 0, 9, 0xA, 0xB, 0xC, 0xD, 0xE],
+    &[6, 6, 6, 6],
+    &[6, 5, 4, 4, 4, 4, 0xD, 0xE],
+    &[6, 5, 4, 3, 2, 2, 2, 2, 0xB, 0xC, 0xD, 0xE],
+    &[6, 5, 4, 3, 2, 1, 0, 0, 0, 0, 9, 0xA, 0xB, 0xC, 0xD, 0xE],
+    &[6, 6, 6, 6, 6, 6],
+    &[6, 5, 4, 4, 4, 4, 4, 4, 0xD, 0xE],
+    &[6, 5, 4, 3, 2, 2, 2, 2, 2, 2, 0xB, 0xC, 0xD, 0xE],
+    &[6, 5, 4, 3, 2, 1, 0, 0, 0, 0, 0, 0, 9, 0xA, 0xB, 0xC, 0xD, 0xE],
+    &[6, 6, 6, 6, 6, 6, 6, 6],
+    &[6, 5, 4, 4, 4, 4, 4, 4, 4, 4, 0xD, 0xE],
+    &[6, 5, 4, 3, 2, 2, 2, 2, 2, 2, 2, 2, 0xB, 0xC, 0xD, 0xE],
+    &[6, 5, 4, 3, 2, 1, 0, 0, 0, 0, 0, 0, 0, 0, 9, 0xA, 0xB, 0xC, 0xD, 0xE],
+];
+
+#[test]
+fn braids_of_half_bytes() {
+    for (half, expected) in (0..16).zip(HALF_BYTES) {
+        assert_eq!(half_byte_braid(half), expected);
+    }
+}
+
+#[test]
+fn digests_as_words() {
+    let every = "66 65 44 DE 65 43 22 BC DE 65 43 21 00 9A BC DE \
+                 66 66 65 44 44 DE 65 43 22 22 BC DE 65 43 21 00 00 9A BC DE \
+                 66 66 66 65 44 44 44 DE 65 43 22 22 22 BC DE 65 43 21 00 00 00 9A BC DE \
+                 66 66 66 66 65 44 44 44 44 DE 65 43 22 22 22 22 BC DE 65 43 21 00 00 00 00 9A BC DE ";
+    let half_bytes_1234 = format!("65 44 DE 65 43 22 BC DE 65 43 21 00 9A BC DE 66 66 {}", "66 ".repeat(60));
+    for (digest, number, braid, times) in [
+        ("00 ".repeat(32), "00 80", "66 ", 64),
+        ("66 ".repeat(32), "03 00", "65 43 22 22 BC DE ", 64),
+        ("FF ".repeat(32), "05 00", "65 43 21 00 00 00 00 9A BC DE ", 64),
+        ("30 ".repeat(32), "02 00", "65 43 21 00 9A BC DE 66 ", 32),
+        ("03 ".repeat(32), "02 00", "66 65 43 21 00 9A BC DE ", 32),
+        ("01 23 45 67 89 AB CD EF ".repeat(4), "02 C0", every, 4),
+        (format!("12 34 {}", "00 ".repeat(30)), "00 9A", &half_bytes_1234, 1),
+    ] {
+        let expected = hex(&format!("{number} {}", braid.repeat(times)));
+        assert_eq!(output(|out| encode_digest(&hex(&digest), out)), expected);
+    }
+}
+
+#[test]
+fn encoder_refusals_in_order() {
+    refuses(15, 5_001, |out| encode_digest(&[0; 31], out));
+    for length in [0, 31, 33, 64] {
+        refuses(8, 5_002, |out| encode_digest(&vec![0; length], out));
+    }
+}
+
+// ---- Free reduction (source 000, section 5.1; source 004, section 8.4) ----
+
+#[test]
+fn free_reductions() {
+    for (word, expected) in [
+        ("00 04 01 92", "00 02 02"), // b1 b2 b2⁻¹ b3 is b1 b3 (000)
+        ("00 02 08", "00 00"),       // the slip of kind 1
+        ("00 02 80", "00 00"),       // the inverse first (000)
+        ("00 04 01 98", "00 00"),    // b1 b2 b2⁻¹ b1⁻¹: the outer letters become neighbours
+        ("00 03 08 00", "00 01 00"), // b1 b1⁻¹ b1
+        ("00 06 01 2A 98", "00 00"), // b1 b2 b3 b3⁻¹ b2⁻¹ b1⁻¹
+        ("00 00", "00 00"),
+        (SEVEN, SEVEN),
+        // g35 g47 g37 (004): 4 3 3 -4 6 5 4 4 -5 -6 6 5 4 3 3 -4 -5 -6
+        ("00 12 32 2B 54 33 CD 54 32 2B CD", "00 0E 32 2B 54 33 32 2B CD"),
+    ] {
+        assert_eq!(output(|out| free_reduce(&hex(word), out)), hex(expected));
+    }
+}
+
+#[test]
+fn free_reduction_of_the_longest_word() {
+    let mut word = vec![0; 5_000];
+    word.resize(10_000, 8);
+    assert_eq!(output(|out| free_reduce(&file(&word), out)), hex("00 00"));
+}
+
+#[test]
+fn free_reduction_refusals_in_order() {
+    refuses(15, 5_001, |out| free_reduce(&[], out));
+    refuses(15, 5_001, |out| free_reduce(&hex("00 00"), out));
+    refuses(9, 5_002, |out| free_reduce(&[], out));
+    refuses(12, 5_002, |out| free_reduce(&hex("00 01 7F"), out));
+    refuses(13, 5_002, |out| free_reduce(&hex("00 01 07"), out));
+}
+
+// ---- Cloaking (document 01; source 003, section 4 and appendix A; source 004, section 8.4) ----
+
+#[test]
+fn cloaking_slips() {
+    assert!(yes(&plain_key(), PLAIN_LIST, &hex("00 02 00")));
+    assert!(!yes(&plain_key(), PLAIN_LIST, &hex("00 02 22")));
+    assert!(yes(&plain_key(), PLAIN_LIST, &hex("00 00")));
+}
+
+/// b_i b_i cloaks where both labels have T-value 1 (source 000, section 5.2), wherever they stand; an odd
+/// number of letters never does, since the list cannot come back.
+#[test]
+fn cloaking_follows_the_labels() {
+    assert!(yes(&plain_key(), [2, 3, 0, 1, 4, 5, 6, 7], &hex("00 02 22")));
+    assert!(yes(&plain_key(), [2, 3, 1, 0, 4, 5, 6, 7], &hex("00 02 AA")));
+    assert!(!yes(&plain_key(), [2, 1, 0, 3, 4, 5, 6, 7], &hex("00 02 00")));
+    assert!(!yes(&plain_key(), PLAIN_LIST, &hex("00 01 00")));
+    assert!(!yes(&plain_key(), PLAIN_LIST, &hex("00 03 00 00")));
+    assert!(yes(&plain_key(), [7, 6, 5, 4, 3, 2, 1, 0], &hex("00 02 3B")));
+}
+
+/// Source 003, proposition 4.3: w, 2μ times, cloaks for 0 to 7 if the T-values of its μ strands have the
+/// product minus one, which is 1 in this field. 3 × 28 = 1 (document 01) serves for the products. The
+/// figures are those of appendix A. T-values are packed by hand.
+#[test]
+fn cores_of_source_003() {
+    for (packed, number, core, times) in [
+        ("08 44 32 14 C7", "00 04", "00", 2), // strands 1 2: b1, four times; 1 1 2 3 4 5 6 7
+        ("08 42 32 14 C7", "00 0C", "01", 6), // strands 1 2 3: b1 b2; 1 1 1 3 4 5 6 7
+        ("08 47 C2 14 C7", "00 18", "10 92", 6), // strands 1 3 4: b2 b1 b2⁻¹ b3; 1 1 3 28 4 5 6 7
+        ("08 44 32 0F 87", "00 3C", "CB A9 01 23 45", 6), // figure 2, strands 1 6 7; 1 1 2 3 4 3 28 7
+        ("08 44 32 14 27", "00 3C", "0D CB A1 23 45", 6), // figure 3, strands 1 2 7; 1 1 2 3 4 5 1 7
+        ("08 44 31 94 DC", "00 48", "BA 90 12 34 56 DC", 6), // figure 4, strands 1 5 8; 1 1 2 3 3 5 6 28
+        ("08 44 31 F0 C7", "00 30", "BA 90 12 34", 6), // strands 1 5 6; 1 1 2 3 3 28 6 7
+    ] {
+        let word = hex(&format!("{number} {}", format!("{core} ").repeat(times)));
+        assert!(yes(&key_with_t_values(packed), PLAIN_LIST, &word), "{core}");
+    }
+}
+
+/// Source 003, appendix A: a 4-core spliced into a 3-core, six times, with two identities of T-values.
+/// Figures 7 and 8 want t1 t5 t6 = 1 and t2 t3 t4 = -1, figure 9 wants t1 t4 t6 = 1 and t2 t3 t5 = -1.
+#[test]
+fn spliced_cores_of_source_003() {
+    for (packed, core) in [
+        ("08 47 C1 F0 C7", "BA 91 23 12 31 23 12 30 12 34"), // figure 7; 1 1 3 28 3 28 6 7
+        ("08 47 C1 F0 C7", "BA 92 34 23 42 34 23 40 12 34"), // figure 8
+        ("08 46 3E 70 C7", "A9 C2 34 23 42 34 23 40 12 34"), // figure 9; 1 1 3 3 28 28 6 7
+    ] {
+        let word = hex(&format!("00 78 {}", format!("{core} ").repeat(6)));
+        assert!(yes(&key_with_t_values(packed), PLAIN_LIST, &word), "{core}");
+    }
+}
+
+/// Where two neighbours have the same T-value t, b_i n times has the row t + .. + t^n, t^n, 1 + .. + t^(n-1). For
+/// t = 2 and n = 31 that is 0, 1, 0, since t^31 = 1 for all elements but zero: the matrix comes back, but 31
+/// letters do not bring the list back, and 62 do. T-values 1 1 2 2 4 5 6 7.
+#[test]
+fn list_counts_in_cloaking() {
+    let key = key_with_t_values("08 44 22 14 C7");
+    let once = hex(&format!("00 1F {}20", "22 ".repeat(15)));
+    let twice = hex(&format!("00 3E {}", "22 ".repeat(31)));
+    assert!(!yes(&key, PLAIN_LIST, &once));
+    assert!(yes(&key, PLAIN_LIST, &twice));
+    let swapped = Pair { labels: [0, 1, 3, 2, 4, 5, 6, 7], ..start() };
+    assert_eq!(carried(&[1, 1, 2, 2, 4, 5, 6, 7], &[3; 31]), swapped);
+}
+
+/// A positive letter's matrix has the determinant t. In (b1 b2), six times, each two of the three strands
+/// cross four times, so the determinant is (t1 t2 t3)^4 = 2^4 = 16 under the plain key: not the identity.
+#[test]
+fn core_without_its_identity_does_not_cloak() {
+    assert!(!yes(&plain_key(), PLAIN_LIST, &hex("00 0C 01 01 01 01 01 01")));
+}
+
+/// The cloaking element of source 004, section 8.4. As printed it has 39 letters, so its permutation is odd;
+/// the inverse half lacks one of three letters 4⁻¹. With it, labels 3 and 4 stand at positions 5 and 6 when
+/// b5 b5 comes, so it leaves every pair with that list if these two have the T-value 1.
+const CLOAK_OF_004: [i8; 40] = [
+    4, 5, 2, 3, 4, 4, 3, 3, -4, 6, 5, 4, 4, 4, 3, 3, -4, -5, -6, 5, 5, 6, 5, 4, -3, -3, -4, -4, -4, -5, -6,
+    4, -3, -3, -4, -4, -3, -2, -5, -4,
+];
+
+#[test]
+fn cloaking_element_of_source_004() {
+    let t_values = [22, 3, 12, 1, 1, 8, 15, 9];
+    let before = carried(&t_values, &[-3, 6, 4, -1, 2]);
+    assert_eq!(carried_from(before, &t_values, &CLOAK_OF_004), before);
+    let whole = hex("00 28 34 12 33 22 B5 43 33 22 BC D4 45 43 AA BB BC D3 AA BB A9 CB");
+    let printed = hex("00 27 34 12 33 22 B5 43 33 22 BC D4 45 43 AA BB CD 3A AB BA 9C B0");
+    assert_eq!(letters(&whole), codes(&CLOAK_OF_004));
+    // Under a key labels 0 and 1 have the T-value 1: they must stand at positions 2 and 4.
+    assert!(yes(&plain_key(), [2, 0, 3, 1, 4, 5, 6, 7], &whole));
+    assert!(yes(&plain_key(), [7, 1, 6, 0, 5, 4, 3, 2], &whole));
+    assert!(!yes(&plain_key(), [2, 0, 3, 1, 4, 5, 6, 7], &printed));
+}
+
+#[test]
+fn cloaking_refusals_in_order() {
+    let refused = |key: &[u8], list: &[u8], word: &[u8], expected: u8| {
+        assert_eq!(cloaks(key, list, word), Cloak { answer: expected, yes: false });
+    };
+    refused(&[], &[], &[], 1);
+    for list in ["", "00 01 02 03 04 05 06", "00 01 02 03 04 05 06 07 08", "00 01 02 03 04 05 06 06"] {
+        refused(&plain_key(), &hex(list), &[], 25);
+    }
+    refused(&plain_key(), &hex("01 02 03 04 05 06 07 08"), &hex("00 00"), 25);
+    refused(&plain_key(), &PLAIN_LIST, &[], 9);
+    refused(&plain_key(), &PLAIN_LIST, &hex("00 02 08 00"), 11);
+}
+
+#[test]
+fn a_room_of_5002_bytes_is_enough() {
+    let mut out = vec![0xAA; 5_002];
+    assert_eq!(write_word(&[], &mut out), Written { answer: 0, bytes: 2 });
+    assert_eq!(out[..3], hex("00 00 AA"));
+}
