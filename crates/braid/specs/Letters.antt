@@ -12,7 +12,7 @@ isPositive c = leb c 6
 abbrev pub isInverse : ℕ → Bool
 isInverse c = leb 8 c && leb c 14
 
--- 7 and 15 are no letters
+-- 7 and 15 are no letters, nor is any number over 15
 abbrev pub isLetter : ℕ → Bool
 isLetter c = isPositive c || isInverse c
 

@@ -84,12 +84,12 @@ pub record Wrote (questions : List Question) (file before after : List ℕ) (ans
   pub bytes-is : bytes ≡ granted (firstNo questions) (length file) 0
   pub output-is : after ≡ granted (firstNo questions) (overlaid file before) before
 
--- what the word reader gives: the first question failed, and the number of letters, 0 on a refusal
+-- what the word reader gives: the number of the first question failed, or 0; and the number of letters, 0 on a refusal
 pub record Read (file : List ℕ) (answer count : ℕ) : Type 0 where
   pub answer-is : answer ≡ wordAnswer file
   pub count-is : count ≡ length (letters file)
 
--- the letter at a place: whether one is left there, and its code; where none is left, the code beside it is 0
+-- the letter at a place: whether one is left there, and its code. The papers leave free what stands beside "none is left": it is 0 here
 pub record LetterAt (file : List ℕ) (place : ℕ) (left : Bool) (code : ℕ) : Type 0 where
   pub left-is : left ≡ ltb place (length (letters file))
   pub code-is : code ≡ getD (letters file) place 0

@@ -3,6 +3,7 @@
 use Prim.Native.Nat.{ℕ, _+_, _*_, _-_, _/_, _%_, _<_, _≤_}
 use mathlib.Core.Path.{_≡_, refl, sym, _∙_}
 use mathlib.Core.Bool.{Bool, true, false, false≢true, cond, _&&_, _||_, not}
+use mathlib.Core.List.{[], _∷_}
 use native.Mathlib.Omega.{arith}
 use native.Mathlib.Nat.{mod-eq-of-lt}
 use borrow.Author.Tests.{eqb-true, leb-true, lt-ltb, le-ltb}
@@ -11,11 +12,11 @@ use lib.ListN.{length, getD}
 use Rattle.base.specs.Lists.{every, valuesFrom, values}
 use Rattle.base.proofs.ListLaws.{and-left, and-right, every-values}
 use Rattle.braid.specs.Letters.{isLetter}
-use Rattle.digest.specs.Digest.{strandOf, halfByteBraid}
+use Rattle.digest.specs.Digest.{selected, halfByteBraid}
 
 -- generators above b_l, of those up to b7
 abbrev pub over : ℕ → ℕ
-over h = 7 - strandOf h
+over h = 7 - selected h
 
 -- where the inverses begin
 abbrev pub turn : ℕ → ℕ
@@ -38,6 +39,20 @@ placeRule h j = not (ltb j (length (halfByteBraid h))) || eqb (letterAt h j) (ge
 places : every (λ h. every (placeRule h) (values (λ j. j) 20)) (values (λ h. h) 16) ≡ true
 unfolding halfByteBraid valuesFrom every
 places = refl
+
+-- by the low two bits
+abbrev pub lowRule : ℕ → Bool
+lowRule h = eqb (getD (0 ∷ 2 ∷ 4 ∷ 6 ∷ []) (h % 4) 0) (over h) && leb (over h) 6
+
+low-bits : every lowRule (values (λ h. h) 16) ≡ true
+unfolding valuesFrom every
+low-bits = refl
+
+pub over-is : (h : ℕ) → h < 16 → getD (0 ∷ 2 ∷ 4 ∷ 6 ∷ []) (h % 4) 0 ≡ over h
+over-is h p = eqb-true _ _ (and-left _ _ (every-values lowRule (λ k. k) 16 low-bits h p))
+
+pub over-six : (h : ℕ) → h < 16 → over h ≤ 6
+over-six h p = leb-true _ _ (and-right (eqb (getD (0 ∷ 2 ∷ 4 ∷ 6 ∷ []) (h % 4) 0) (over h)) _ (every-values lowRule (λ k. k) 16 low-bits h p))
 
 rule : (h : ℕ) → h < 16 → lengthRule h ≡ true
 rule h p = every-values lengthRule (λ k. k) 16 lengths h p

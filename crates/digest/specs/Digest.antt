@@ -3,15 +3,15 @@
 use Prim.Native.Nat.{ℕ, zero, suc, _+_, _*_, _-_, _/_, _%_}
 use mathlib.Core.List.{List, [], _∷_, _++_, map, reverse}
 use lib.Dec.{eqb}
-use lib.ListN.{length, replicate}
+use lib.ListN.{length, getD, replicate}
 use Rattle.base.specs.Questions.{Question, _else_}
 use Rattle.base.specs.Lists.{valuesFrom}
 use Rattle.base.specs.Digits.{halves}
 use Rattle.braid.specs.Words.{roomQuestion}
 
--- the low two bits 0, 1, 2, 3 select l = 7, 5, 3, 1
-abbrev pub strandOf : ℕ → ℕ
-strandOf h = 7 - 2 * (h % 4)
+-- the low two bits 0, 1, 2, 3 select l = 7, 5, 3, 1, the number of a generator
+abbrev pub selected : ℕ → ℕ
+selected h = getD (7 ∷ 5 ∷ 3 ∷ 1 ∷ []) (h % 4) 0
 
 -- the high two bits plus 1 are p
 abbrev pub powerOf : ℕ → ℕ
@@ -24,7 +24,7 @@ above l = valuesFrom (λ c. c) l (7 - l)
 -- b7 down to b_(l+1), then b_l 2 × p times, then the inverses of b_(l+1) up to b7
 unfoldable pub halfByteBraid : ℕ → List ℕ
 halfByteBraid h =
-    reverse (above (strandOf h)) ++ (replicate (2 * powerOf h) (strandOf h - 1) ++ map (λ c. c + 8) (above (strandOf h)))
+    reverse (above (selected h)) ++ (replicate (2 * powerOf h) (selected h - 1) ++ map (λ c. c + 8) (above (selected h)))
 
 -- the braids of half bytes, in a row
 unfoldable pub braidOf : List ℕ → List ℕ

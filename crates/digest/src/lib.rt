@@ -5,14 +5,17 @@ ghost use Prim.Native.Nat.{_+_, _-_, _≤_, _<_};
 ghost use lib.ListN.{length, take, getD};
 ghost use Rattle.base.specs.Digits.{halves};
 ghost use Rattle.braid.specs.Words.{wordFile, Wrote};
-ghost use Rattle.digest.specs.Digest.{strandOf, halfByteBraid, encoded, encoderQuestions};
+ghost use Rattle.digest.specs.Digest.{selected, halfByteBraid, encoded, encoderQuestions};
 use braid::Written;
 
 // How many generators lie above b_l, of those up to b7: the low two bits 0, 1, 2, 3 select l = 7, 5, 3, 1.
-fn above_strand(h: u8) -> usize
-    ensures { λ r. ⌜ r ≡ 7 - strandOf h ⌝ }
+fn above_selected(h: u8) -> usize
+    requires { ⌜ h < 16 ⌝ }
+    ensures { λ r. ⌜ (r ≡ 7 - selected h) × (r ≤ 6) ⌝ }
 {
-    2 * (h % 4) as usize
+    let above = [0usize, 2, 4, 6];
+    let low = (h % 4) as usize;
+    above[low]
 }
 
 // How many letters the braid of a half byte has.
@@ -20,7 +23,7 @@ fn braid_len(h: u8) -> usize
     requires { ⌜ h < 16 ⌝ }
     ensures { λ r. ⌜ (r ≡ length (halfByteBraid h)) × (r ≤ 20) ⌝ }
 {
-    let above = above_strand(h);
+    let above = above_selected(h);
     let power = (h / 4) as usize + 1;
     2 * above + 2 * power
 }
@@ -30,7 +33,7 @@ fn braid_letter(h: u8, j: usize) -> u8
     requires { ⌜ (h < 16) × (j < length (halfByteBraid h)) ⌝ }
     ensures { λ r. ⌜ r ≡ getD (halfByteBraid h) j 0 ⌝ }
 {
-    let above = above_strand(h);
+    let above = above_selected(h);
     let turn = above + 2 * ((h / 4) as usize + 1);
     if j < above {
         return ((6 - j) % 256) as u8;

@@ -5,18 +5,17 @@ use mathlib.Core.Path.{_≡_}
 use mathlib.Core.Bool.{Bool, not}
 use mathlib.Core.List.{List, [], _∷_}
 use lib.Dec.{ltb, eqb}
-use lib.Bits.{bitXor}
 use Rattle.base.specs.Questions.{Question, _else_, firstNo, granted}
 use Rattle.base.specs.Lists.{values}
 use Rattle.field.specs.Binary.{Operations}
-use Rattle.field.specs.Polynomial.{times, reciprocalOf}
+use Rattle.field.specs.Polynomial.{polynomials}
 
--- x^5 + x^2 + 1
+-- the bits of x^5 + x^2 + 1
 abbrev pub modulus : ℕ
 modulus = 0b100101
 
 abbrev pub gf32 : Operations
-gf32 = record { size = 32; add = bitXor; mul = times 5 modulus; inv = reciprocalOf 5 modulus }
+gf32 = polynomials 5 modulus
 
 -- the table of products: entry 32 a + b is a × b
 abbrev pub products : List ℕ
@@ -26,8 +25,9 @@ products = values (λ k. gf32 .mul (k / 32) (k % 32)) 1024
 abbrev pub reciprocals : List ℕ
 reciprocals = values (λ k. gf32 .inv (suc k)) 31
 
+-- is the number an element of the field?
 abbrev pub isElement : ℕ → Bool
-isElement a = ltb a 32
+isElement a = ltb a (gf32 .size)
 
 -- Field product: 17
 abbrev pub productQuestions : ℕ → ℕ → List Question

@@ -4,6 +4,7 @@ use Prim.Native.Nat.{ℕ, zero, suc, _*_, _/_, _%_, _^_}
 use mathlib.Core.Bool.{Bool, true, false, cond}
 use lib.Dec.{eqb, ltb}
 use lib.Bits.{bitXor}
+use Rattle.field.specs.Binary.{Operations}
 
 -- x times a, reduced by p: where the degree reaches n, p is taken away
 unfoldable pub timesX : ℕ → ℕ → ℕ → ℕ
@@ -23,6 +24,10 @@ unfoldable pub first : (ℕ → Bool) → ℕ → ℕ → ℕ
 first f i zero = 0
 first f i (suc k) = cond (f i) i (first f (suc i) k)
 
--- the reciprocal of a: the element whose product with a is 1
+-- the reciprocal of a: the element whose product with a is 1; 0 where there is none
 unfoldable pub reciprocalOf : ℕ → ℕ → ℕ → ℕ
 reciprocalOf n p a = first (λ b. eqb (times n p a b) 1) 0 (2 ^ n)
+
+-- the polynomials of degree below n, reduced by p: elements 0 to 2^n - 1, with exclusive or for the sum
+abbrev pub polynomials : ℕ → ℕ → Operations
+polynomials n p = record { size = 2 ^ n; add = bitXor; mul = times n p; inv = reciprocalOf n p }

@@ -6,11 +6,11 @@ use Rattle.digest.proofs.braid_len.Statement.{statement}
 use Rattle.digest.proofs.braid_len.Tie as tie
 use Rattle.digest.proofs.braid_len.Reads as reads
 use Rattle.digest.proofs.braid_len.Lts as lts
-use Rattle.digest.proofs.above_strand.Reads as above-strand-reads
+use Rattle.digest.proofs.above_selected.Reads as above-selected-reads
 
 -- src/lib.rt:24:9
-above-strand-requires : tie.Need-above-strand-requires
-above-strand-requires c κs = search needs
+above-selected-requires : tie.Need-above-selected-requires
+above-selected-requires c κs = search needs
 
 -- src/lib.rt:25:17
 cast-power : tie.Need-cast-power
@@ -36,15 +36,15 @@ add-result c = search needs
 returns : tie.Need-returns
 returns c =
     let h = c .before .args .h in (
-      rw (c .above-strand .ensures) (braid-length h (c .before .pre)),
-      omega (arith, c .above-strand .ensures, braid-length h (c .before .pre), braid-short h (c .before .pre)),
+      rw (c .above-selected .ensures .0) (braid-length h (c .before .pre)),
+      omega (arith, c .above-selected .ensures .0, braid-length h (c .before .pre), braid-short h (c .before .pre)),
     )
 
 pub braid-len-spec : {M : Type 1} → statement M
 braid-len-spec =
     tie.close
     (tie.spec
-    above-strand-requires
+    above-selected-requires
     cast-power
     add-power
     mul-result

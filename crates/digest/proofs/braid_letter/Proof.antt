@@ -6,11 +6,11 @@ use Rattle.digest.proofs.braid_letter.Statement.{statement}
 use Rattle.digest.proofs.braid_letter.Tie as tie
 use Rattle.digest.proofs.braid_letter.Reads as reads
 use Rattle.digest.proofs.braid_letter.Lts as lts
-use Rattle.digest.proofs.above_strand.Reads as above-strand-reads
+use Rattle.digest.proofs.above_selected.Reads as above-selected-reads
 
 -- src/lib.rt:34:9
-above-strand-requires : tie.Need-above-strand-requires
-above-strand-requires c κs = search needs
+above-selected-requires : tie.Need-above-selected-requires
+above-selected-requires c κs = search needs
 
 -- src/lib.rt:35:29
 cast-turn : tie.Need-cast-turn
@@ -39,9 +39,9 @@ cast-result c = search needs
 -- src/lib.rt:37:9
 returns : tie.Need-returns
 returns c =
-    let a = c .before .above-strand in
+    let a = c .before .above-selected in
     let s = c .before .before in
-    going-down (s .args .h) (s .args .j) (a .result) (a .ensures) (s .pre .0) (s .pre .1) (c .if1 .taken)
+    going-down (s .args .h) (s .args .j) (a .result) (a .ensures .0) (s .pre .0) (s .pre .1) (c .if1 .taken)
 
 -- src/lib.rt:40:18
 sub-result-2 : tie.Need-sub-result-2
@@ -54,9 +54,9 @@ cast-result-2 c = search needs
 -- src/lib.rt:40:9
 returns-2 : tie.Need-returns-2
 returns-2 c =
-    let a = c .before .before .above-strand in
+    let a = c .before .before .above-selected in
     let s = c .before .before .before in
-    turning (s .args .h) (s .args .j) (a .result) (a .ensures) (s .pre .0) (s .pre .1) (c .before .if1 .left) (c .if2 .taken)
+    turning (s .args .h) (s .args .j) (a .result) (a .ensures .0) (s .pre .0) (s .pre .1) (c .before .if1 .left) (c .if2 .taken)
 
 -- src/lib.rt:42:7
 sub-result-3 : tie.Need-sub-result-3
@@ -65,9 +65,9 @@ sub-result-3 c = search needs
 -- src/lib.rt:42:7
 add-result : tie.Need-add-result
 add-result c =
-    let a = c .before .before .above-strand in
+    let a = c .before .before .above-selected in
     let s = c .before .before .before in
-    omega (arith, short (s .args .h) (s .args .j) (a .result) (a .ensures) (s .pre .0) (s .pre .1))
+    omega (arith, short (s .args .h) (s .args .j) (a .result) (a .ensures .0) (s .pre .0) (s .pre .1))
 
 -- src/lib.rt:42:5
 cast-result-3 : tie.Need-cast-result-3
@@ -76,15 +76,15 @@ cast-result-3 c = search needs
 -- src/lib.rt:30:1
 returns-3 : tie.Need-returns-3
 returns-3 c =
-    let a = c .before .before .above-strand in
+    let a = c .before .before .above-selected in
     let s = c .before .before .before in
-    going-up (s .args .h) (s .args .j) (a .result) (a .ensures) (s .pre .0) (s .pre .1) (c .if2 .left)
+    going-up (s .args .h) (s .args .j) (a .result) (a .ensures .0) (s .pre .0) (s .pre .1) (c .if2 .left)
 
 pub braid-letter-spec : {M : Type 1} → statement M
 braid-letter-spec =
     tie.close
     (tie.spec
-    above-strand-requires
+    above-selected-requires
     cast-turn
     add-turn
     mul-turn
