@@ -1,0 +1,14 @@
+pub mod LayoutLaws
+pub mod LabelLaws
+pub mod RowLaws
+pub mod RowBraid
+pub mod StepLaws
+pub mod BraidRelations
+pub mod WordLaws
+pub mod CancelLaws
+pub mod GoodLaws
+pub mod StoreLaws
+pub mod CarryLaws
+pub mod FillLaws
+pub mod MultiplierLaws
+pub mod WrongPrograms

@@ -1,0 +1,32 @@
+-- `action::multiplier::multiply` meets its contract. Assumes nothing.
+use mathlib.Core.Path.{sym, _∙_}
+use Rattle.action.proofs.MultiplierLaws.{refused, multiplied, granted-letter}
+use borrow.Author.Needs.{needs}
+use Rattle.action.proofs.multiplier.multiply.Statement.{statement}
+use Rattle.action.proofs.multiplier.multiply.Tie as tie
+
+multiplier-answer-requires : tie.Need-multiplier-answer-requires
+multiplier-answer-requires c κs = search needs
+
+zero-pair-requires : tie.Need-zero-pair-requires
+zero-pair-requires c κs = search needs
+
+returns : tie.Need-returns
+returns c =
+    let a = c .before .before .before .args in
+    refused (a .pair) (a .t-values .now) (a .letter) (c .before .before .multiplier-answer .ensures) (c .before .if1 .taken) (c .zero-pair .ensures)
+
+one-letter-requires : tie.Need-one-letter-requires
+one-letter-requires c κs =
+    let a = c .before .before .args in
+    granted-letter (a .pair) (a .t-values .now) (a .letter) (sym (c .before .multiplier-answer .ensures) ∙ c .if1 .left)
+
+returns-2 : tie.Need-returns-2
+returns-2 c =
+    let a = c .before .before .before .args in
+    multiplied (a .pair) (a .t-values .now) (a .letter) (c .before .before .multiplier-answer .ensures) (c .before .if1 .left) (c .one-letter .ensures)
+
+pub multiply-spec : {M : Type 1} → statement M
+multiply-spec =
+    tie.close
+    (tie.spec multiplier-answer-requires zero-pair-requires returns one-letter-requires returns-2)

@@ -1,0 +1,64 @@
+-- `action::word::reciprocals_by_label` meets its contract. The loop's invariant: the places before i are filled.
+-- Assumes nothing.
+use Prim.Native.Nat.{ℕ, _≤_, _-_}
+use mathlib.Core.Path.{_≡_, refl, ap}
+use mathlib.Core.List.{List}
+use native.Mathlib.Omega.{arith}
+use lib.ListN.{getD}
+use borrow.Author.Needs.{needs}
+use Rattle.field.specs.Gf32.{gf32}
+use Rattle.action.proofs.FillLaws.{Filled, filled-start, filled-next, filled-all, inv-zero, reciprocal-any}
+use Rattle.action.proofs.word.reciprocals_by_label.Statement.{statement}
+use Rattle.action.proofs.word.reciprocals_by_label.Tie as tie
+
+abbrev Inv-loop : tie.InvT-loop
+Inv-loop t-values list₀ i₀ list i = (i ≤ 8) × Filled (gf32 .inv) t-values i list
+
+abbrev μ-loop : tie.MeasureT-loop
+μ-loop t-values list₀ i₀ list i = 8 - i
+
+loop-holds : tie.Need-loop-holds Inv-loop μ-loop
+loop-holds c = (omega arith, filled-start (gf32 .inv) (c .before .args .t-values .now))
+
+shared-slice-read-t : tie.Need-shared-slice-read-t Inv-loop μ-loop
+shared-slice-read-t c = omega arith
+
+reciprocal-requires : tie.Need-reciprocal-requires Inv-loop μ-loop
+reciprocal-requires c κs = search needs
+
+array-write-list : tie.Need-array-write-list Inv-loop μ-loop
+array-write-list c = omega arith
+
+add-i : tie.Need-add-i Inv-loop μ-loop
+add-i c = omega arith
+
+loop-less : tie.Need-loop-less Inv-loop μ-loop
+loop-less c = omega arith
+
+loop-again : tie.Need-loop-again Inv-loop μ-loop
+loop-again c =
+    let l = c .before .before .before .loop in
+    let ts = c .before .before .before .before .before .args .t-values .now in
+    (omega arith, filled-next (gf32 .inv) ts (l .i) (l .list) _ (omega arith) (l .inv .1) (reciprocal-any (getD ts (l .i) 0) (c .reciprocal .ensures)))
+
+returns : tie.Need-returns Inv-loop μ-loop
+returns c =
+    let l = c .before .loop in
+    let ts = c .before .before .before .args .t-values .now in
+    let e : l .i ≡ 8 = omega arith in
+    filled-all (gf32 .inv) ts (l .list) inv-zero (c .before .before .before .pre) (rw e at (l .inv .1))
+
+pub reciprocals-by-label-spec : {M : Type 1} → statement M
+reciprocals-by-label-spec =
+    tie.close
+    (tie.spec
+    Inv-loop
+    μ-loop
+    loop-holds
+    shared-slice-read-t
+    reciprocal-requires
+    array-write-list
+    add-i
+    loop-less
+    loop-again
+    returns)

@@ -1,0 +1,5 @@
+pub mod Layout
+pub mod Action
+pub mod Good
+pub mod Multiplier
+pub mod Rows

@@ -1,0 +1,44 @@
+-- The multiplier used alone: its questions (17 for T-values and entries, then 4, 6, 12), and what it gives.
+-- Assumes nothing.
+use Prim.Native.Nat.{ℕ}
+use mathlib.Core.Path.{_≡_}
+use mathlib.Core.Bool.{Bool, not, _&&_}
+use mathlib.Core.List.{List, [], _∷_}
+use lib.Dec.{eqb}
+use lib.ListN.{replicate}
+use Rattle.base.specs.Questions.{Question, _else_, firstNo, granted}
+use Rattle.base.specs.Lists.{every, eachOnce}
+use Rattle.field.specs.Gf32.{gf32, isElement}
+use Rattle.braid.specs.Letters.{isLetter}
+use Rattle.action.specs.declared.Pair.{Pair}
+use Rattle.action.specs.Action.{pairOf, letterOn}
+
+-- The tests that keys and cloaking ask too. Are T-values or entries elements of the field?
+abbrev pub elements : List ℕ → Bool
+elements xs = every isElement xs
+
+-- is no T-value zero?
+abbrev pub nonzero : List ℕ → Bool
+nonzero ts = every (λ t. not (eqb t 0)) ts
+
+-- is the list 0 to 7, each once?
+abbrev pub isOrder : List ℕ → Bool
+isOrder labels = eachOnce 8 labels
+
+-- The multiplier alone: 17 for T-values and entries, then 4, 6, 12
+abbrev pub multiplierQuestions : Pair → List ℕ → ℕ → List Question
+multiplierQuestions p ts c =
+    (elements ts && elements (p .matrix) else 17)
+    ∷ (nonzero ts else 4)
+    ∷ (isOrder (p .labels) else 6)
+    ∷ (isLetter c else 12)
+    ∷ []
+
+-- the pair of a refusal
+unfoldable pub zeroPair : Pair
+zeroPair = pairOf (replicate 64 0) (replicate 8 0)
+
+-- an answer, and beside it the pair with the letter multiplied in, or zeros
+pub record Multiplies (p : Pair) (ts : List ℕ) (c : ℕ) (answer : ℕ) (after : Pair) : Type 0 where
+  pub answer-is : answer ≡ firstNo (multiplierQuestions p ts c)
+  pub pair-is : after ≡ granted (firstNo (multiplierQuestions p ts c)) (letterOn gf32 ts c p) zeroPair

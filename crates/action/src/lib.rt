@@ -1,0 +1,51 @@
+// E-multiplication: pairs of a matrix over GF(32) and a list of labels, and braid words multiplied into them.
+ghost use mathlib.Core.Path.{_≡_};
+ghost use Rattle.action.specs.Action.{start};
+
+mod letter; // letter.rt: one letter, in place
+mod multiplier; // multiplier.rt: the multiplier used alone
+mod product; // product.rt: the product of two matrices
+mod tests; // tests.rt: tests on T-values, entries and labels
+mod word; // word.rt: whole words
+
+pub use multiplier::multiply;
+pub use product::matrix_product;
+pub use tests::all_elements;
+pub use tests::all_nonzero;
+pub use tests::is_order;
+pub use word::carry;
+
+// An 8 by 8 matrix, row by row, and a list of eight labels.
+pub struct Pair {
+    pub matrix: [u8; 64],
+    pub labels: [u8; 8],
+}
+
+// What the multiplier gives: the number of the first question answered no, 0 if there is none, and the pair, all zeros on a refusal.
+pub struct Multiplied {
+    pub answer: u8,
+    pub pair: Pair,
+}
+
+impl Pair {
+    pub const STRANDS: usize = 8;
+
+    pub const LETTERS: usize = braid::MAX_LETTERS;
+
+    // The starting pair: the identity matrix with the list 0 to 7.
+    pub fn start() -> Pair
+        ensures { λ r. ⌜ r ≡ start ⌝ }
+    {
+        let mut matrix = [0u8; 64];
+        matrix[0] = 1;
+        matrix[9] = 1;
+        matrix[18] = 1;
+        matrix[27] = 1;
+        matrix[36] = 1;
+        matrix[45] = 1;
+        matrix[54] = 1;
+        matrix[63] = 1;
+        let labels = [0u8, 1, 2, 3, 4, 5, 6, 7];
+        Pair { matrix, labels }
+    }
+}

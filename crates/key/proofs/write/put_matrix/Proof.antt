@@ -1,0 +1,64 @@
+-- `key::write::put_matrix` meets its contract: seven groups of digits, and the last entry with the filler. Assumes nothing.
+use mathlib.Core.Path.{refl, sym}
+use native.Mathlib.Omega.{arith}
+use lib.Seq.{length-take-le}
+use Rattle.base.proofs.DigitLaws.{take-below}
+use Rattle.key.proofs.MatrixLaws.{packed-put}
+use borrow.Author.Needs.{needs}
+use Rattle.key.proofs.write.put_matrix.Statement.{statement}
+use Rattle.key.proofs.write.put_matrix.Tie as tie
+
+slice-aggregate-regroup : tie.Need-slice-aggregate-regroup
+slice-aggregate-regroup c = sym (length-take-le 56 (c .before .before .before .args .entries .now) (omega arith))
+
+slice-relend-prefix-regroup : tie.Need-slice-relend-prefix-regroup
+slice-relend-prefix-regroup c = search needs
+
+slice-aggregate-regroup-2 : tie.Need-slice-aggregate-regroup-2
+slice-aggregate-regroup-2 c = sym (length-take-le 35 (c .before .before .before .before .args .dst .now) (omega arith))
+
+regroup-requires : tie.Need-regroup-requires
+regroup-requires c κs =
+    let s = c .before .before .before .before in
+    let a = s .args in (
+      take-below 56 (a .entries .now) (s .pre .0),
+      length-take-le 56 (a .entries .now) (omega arith),
+      length-take-le 35 (a .dst .now) (omega arith),
+      omega arith,
+      refl,
+      omega arith,
+      omega arith,
+    )
+
+shared-slice-read-dst : tie.Need-shared-slice-read-dst
+shared-slice-read-dst c = search needs
+
+mul-dst : tie.Need-mul-dst
+mul-dst c = omega (arith, c .before .before .before .before .before .before .before .before .pre .0 56)
+
+slice-write-dst : tie.Need-slice-write-dst
+slice-write-dst c = search needs
+
+same-length : tie.Need-same-length
+same-length c = search needs
+
+returns : tie.Need-returns
+returns c =
+    let s = c .before .before .before .before .before .before .before .before in
+    let a = s .args in
+    packed-put (a .entries .now) (a .dst .now) (c .before .before .before .regroup .last .1 .1 .1 .0) (s .pre .1) (s .pre .2) (s .pre .0 56)
+    (c .before .before .before .regroup .ensures)
+
+pub put-matrix-spec : {M : Type 1} → statement M
+put-matrix-spec =
+    tie.close
+    (tie.spec
+    slice-aggregate-regroup
+    slice-relend-prefix-regroup
+    slice-aggregate-regroup-2
+    regroup-requires
+    shared-slice-read-dst
+    mul-dst
+    slice-write-dst
+    same-length
+    returns)

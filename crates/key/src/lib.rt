@@ -1,0 +1,87 @@
+// Key files: 83 bytes of N, q, eight T-values, the matrix of Pub(S), its list and the matrix of Pub(S'), read and written.
+ghost use mathlib.Core.Path.{_≡_};
+ghost use lib.ListN.{length};
+ghost use Rattle.key.specs.Keys.{keyOf, zeroKey, ReadsKey, keyFile, keyWriterQuestions, WroteKey};
+
+mod pack; // pack.rt: digits regrouped
+mod read; // read.rt: the parts of a key file, and its questions
+mod write; // write.rt: the bytes of a key file, and the writer's questions
+
+use action::Pair;
+
+// What a key file holds: T-values, the pair Pub(S), the matrix of Pub(S').
+pub struct Key {
+    pub t_values: [u8; 8],
+    pub pair: Pair,
+    pub second: [u8; 64],
+}
+
+// An answer, and beside it a key, which is all zeros on a refusal.
+pub struct KeyRead {
+    pub answer: u8,
+    pub key: Key,
+}
+
+fn zero_key() -> Key
+    ensures { λ r. ⌜ r ≡ zeroKey ⌝ }
+{
+    let matrix = [0u8; 64];
+    let labels = [0u8; 8];
+    let pair = Pair { matrix, labels };
+    let t_values = [0u8; 8];
+    let second = [0u8; 64];
+    Key {
+        t_values,
+        pair,
+        second,
+    }
+}
+
+// What a file of 83 bytes holds.
+fn key_of(file: &[u8]) -> Key
+    requires { ⌜ length (now file) ≡ 83 ⌝ }
+    ensures { λ r. ⌜ r ≡ keyOf (now (file .entry)) ⌝ }
+{
+    let matrix = read::matrix(&file[8..44]);
+    let labels = read::order(file);
+    let pair = Pair { matrix, labels };
+    let t_values = read::t_values(file);
+    let second = read::matrix(&file[47..83]);
+    Key {
+        t_values,
+        pair,
+        second,
+    }
+}
+
+// Reads a key file: questions 1 to 7.
+pub fn read_key(file: &[u8]) -> KeyRead
+    ensures { λ r. ⌜ ReadsKey (now (file .entry)) (r .answer) (r .key) ⌝ }
+{
+    let answer = read::answer(file);
+    if answer != 0 {
+        let key = zero_key();
+        return KeyRead { answer, key };
+    }
+    let key = key_of(file);
+    KeyRead { answer, key }
+}
+
+// Writes a key file from fixed arrays: questions 16, 17, 4, 5, 6. Bytes past the 83 do not change.
+pub fn write_key(
+    t_values: &[u8; 8],
+    labels: &[u8; 8],
+    first: &[u8; 57],
+    second: &[u8; 57],
+    out: &mut [u8],
+) -> u8
+    ensures { λ r. ⌜ WroteKey (keyWriterQuestions (length (now (out .entry))) (now («t_values» .entry)) (now (labels .entry)) (now (first .entry)) (now (second .entry))) (keyFile (now («t_values» .entry)) (now (labels .entry)) (now (first .entry)) (now (second .entry))) (now (out .entry)) (now (out .exit)) r ⌝ }
+{
+    let answer = write::answer(out.len(), t_values, labels, first, second);
+    if answer != 0 {
+        return answer;
+    }
+    let file = write::file(t_values, labels, first, second);
+    base::put(out, &file);
+    0
+}

@@ -1,0 +1,35 @@
+-- Cloaking: a word cloaks for a list when the identity matrix with that list, multiplied by the word under the key's T-values, comes back
+-- unchanged, list included. Assumes nothing.
+use Prim.Native.Nat.{ℕ}
+use mathlib.Core.Path.{_≡_}
+use mathlib.Core.Bool.{Bool, false, _&&_}
+use mathlib.Core.List.{List, [], _∷_, _++_}
+use lib.Dec.{eqb}
+use lib.ListN.{length}
+use Rattle.base.specs.Questions.{Question, _else_, firstNo, granted}
+use Rattle.base.specs.Lists.{same}
+use Rattle.field.specs.Gf32.{gf32}
+use Rattle.braid.specs.Words.{codes, wordQuestions}
+use Rattle.action.specs.declared.Pair.{Pair}
+use Rattle.key.specs.declared.Key.{Key}
+use Rattle.action.specs.Action.{wordOn, identityWith}
+use Rattle.action.specs.Multiplier.{isOrder}
+use Rattle.key.specs.Keys.{keyQuestions, keyOf}
+
+-- matrix and list are the same
+unfoldable pub samePair : Pair → Pair → Bool
+samePair p q = same (p .matrix) (q .matrix) && same (p .labels) (q .labels)
+
+-- the word comes back to the pair that it started from
+unfoldable pub comesBack : List ℕ → List ℕ → List ℕ → Bool
+comesBack ts order w = samePair (wordOn gf32 ts w (identityWith order)) (identityWith order)
+
+-- Cloaking: the key's questions, 25, the word's
+abbrev pub cloakQuestions : List ℕ → List ℕ → List ℕ → List Question
+cloakQuestions key order word =
+    keyQuestions key ++ ((eqb (length order) 8 && isOrder order else 25) ∷ wordQuestions word)
+
+-- an answer, and beside it yes or no, which is no on a refusal
+pub record Cloaks (key order word : List ℕ) (answer : ℕ) (yes : Bool) : Type 0 where
+  pub answer-is : answer ≡ firstNo (cloakQuestions key order word)
+  pub yes-is : yes ≡ granted (firstNo (cloakQuestions key order word)) (comesBack (keyOf key .«t_values») order (codes word)) false
