@@ -32,3 +32,13 @@ impl Letter {
 pub fn is_letter(code: u8) -> bool {
     Letter::from_code(code).is_some()
 }
+
+/// The letters of codes that are all letters.
+pub fn letters_of(codes: &[u8]) -> Vec<Letter> {
+    codes.iter().filter_map(|code| Letter::from_code(*code)).collect()
+}
+
+/// The codes of letters.
+pub fn codes_of(letters: &[Letter]) -> Vec<u8> {
+    letters.iter().map(|letter| letter.code()).collect()
+}

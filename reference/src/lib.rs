@@ -8,6 +8,8 @@
 //! - a letter acts on a pair as a whole coloured Burau matrix, by the general matrix product ([`pair`]);
 //! - files are packed and unpacked over an explicit string of bits ([`bits`]);
 //! - free reduction removes the first cancelling neighbours, again and again ([`reduce`]);
+//! - a move splices other letters into a run of letters, and the next one starts from what it left
+//!   ([`rewrite`](mod@rewrite));
 //! - the questions stand in lists, in the paper's order, and the answer is the number of the first one
 //!   answered no ([`questions`]).
 //!
@@ -15,8 +17,9 @@
 //! returned numbers, keys and pairs are zeros, and a yes or no is no.
 //!
 //! The functions that mirror the exported interface are gathered here; each layer's own definitions stand in
-//! its module. The verdict and the rewriter have their places above [`pair`], [`key`], [`digest`] and
-//! [`word`], beside [`cloak`] and [`reduce`].
+//! its module. The [`verdict`], the rewriter, [`cloak`] and [`reduce`] stand above [`pair`], [`key`],
+//! [`digest`] and [`word`]. What tests need besides, such as slips that the verdict accepts and move lists
+//! that the rewriter accepts, is in [`testkit`].
 
 pub mod bits;
 pub mod cloak;
@@ -28,6 +31,9 @@ pub mod matrix;
 pub mod pair;
 pub mod questions;
 pub mod reduce;
+pub mod rewrite;
+pub mod testkit;
+pub mod verdict;
 pub mod word;
 
 pub use cloak::{cloaks, Cloak};
@@ -37,6 +43,8 @@ pub use key::{read_key, write_key, Key};
 pub use matrix::{matrix_product, Matrix};
 pub use pair::{multiply, start, Pair};
 pub use reduce::free_reduce;
+pub use rewrite::rewrite;
+pub use verdict::verify;
 pub use word::{code_part, letter_at, letters, read_word, write_word, Word, WordReader, Written};
 
 /// N, the number of strands (document 01, head).

@@ -5,7 +5,7 @@
 //! label σ(k), and σ_i changes i and i + 1. Document 01 says the same by columns.
 
 use crate::field::{inverse, is_element};
-use crate::letter::{is_letter, Letter};
+use crate::letter::{is_letter, letters_of, Letter};
 use crate::matrix::{at, identity, matrix_product, Matrix};
 use crate::questions::{first_no, is_each_label_once, Question};
 use crate::STRANDS;
@@ -82,10 +82,7 @@ pub fn e_multiplied(pair: &Pair, t_values: &TValues, letter: Letter) -> Pair {
 
 /// A pair carried by a word: times its letters, first to last. The codes are letters.
 pub fn carried(pair: &Pair, t_values: &TValues, codes: &[u8]) -> Pair {
-    codes
-        .iter()
-        .filter_map(|code| Letter::from_code(*code))
-        .fold(*pair, |pair, letter| e_multiplied(&pair, t_values, letter))
+    letters_of(codes).into_iter().fold(*pair, |pair, letter| e_multiplied(&pair, t_values, letter))
 }
 
 /// What the multiplier is asked about.

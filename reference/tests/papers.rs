@@ -3,7 +3,9 @@
 
 mod common;
 
-use common::{file, hex, key_with_t_values, plain_key, PACKED_IDENTITY, PLAIN_LIST, PLAIN_T_VALUES};
+use common::{
+    file, hex, key_with_t_values, output, plain_key, refuses, PACKED_IDENTITY, PLAIN_LIST, PLAIN_T_VALUES,
+};
 use reference::digest::half_byte_braid;
 use reference::letter::{is_letter, Letter};
 use reference::{
@@ -11,23 +13,6 @@ use reference::{
     read_key, read_word, reciprocal, start, write_key, write_word, Cloak, Element, Pair, Word, WordReader,
     Written,
 };
-
-/// The file that a writer of words left, with what it reported; the rest of the output must be untouched.
-fn output(write: impl Fn(&mut [u8]) -> Written) -> Vec<u8> {
-    let mut out = vec![0xAA; 5_010];
-    let written = write(&mut out);
-    assert_eq!(written.answer, 0);
-    assert!(out[written.bytes..].iter().all(|byte| *byte == 0xAA), "bytes past the word changed");
-    out.truncate(written.bytes);
-    out
-}
-
-/// A writer of words must refuse with this number, report 0 bytes and leave the output alone.
-fn refuses(expected: u8, size: usize, write: impl Fn(&mut [u8]) -> Written) {
-    let mut out = vec![0xAA; size];
-    assert_eq!(write(&mut out), Written { answer: expected, bytes: 0 });
-    assert!(out.iter().all(|byte| *byte == 0xAA), "a refusal changed the output");
-}
 
 /// The starting pair carried by letters written as in source 004: 3 is b3, -3 its inverse.
 fn carried(t_values: &[u8; 8], braid: &[i8]) -> Pair {

@@ -9,6 +9,7 @@ pub use read::is_letter;
 pub use read::letter_at;
 pub use read::read_word;
 pub use reduce::free_reduce;
+pub use reduce::inverse;
 pub use write::write_word;
 
 // A word has at most so many letters, and its file at most so many bytes.

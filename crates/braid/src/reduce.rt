@@ -19,7 +19,7 @@ ghost use Rattle.braid.specs.Words.{codes, wordFile, Wrote};
 ghost use Rattle.braid.specs.Reduction.{reduced, Irreducible, reducerQuestions};
 
 // The code of the same generator with the other sign.
-fn inverse(c: u8) -> u8
+pub fn inverse(c: u8) -> u8
     ensures { λ r. ⌜ r ≡ opposite c ⌝ }
 {
     if 8 <= c { c - 8 } else { c + 8 }

@@ -15,6 +15,8 @@ use Rattle.action.specs.Layout.{entry, matrixOf}
 use Rattle.action.specs.Action.{wordOn, letterOn, shareOf, tValue, rowAfter, swapped, start, identity}
 use Rattle.key.specs.Keys.{keyFile, keyOf, tValues, packedMatrix, entries, fillerBits, labels, wholeMatrix}
 use Rattle.digest.specs.Digest.{halfByteBraid}
+use Rattle.moves.specs.Kinds.{move}
+use Rattle.moves.specs.Rewriting.{moveQuestions, wordAfter, rewritten, rewriterQuestions}
 use Rattle.verify.specs.Cloaking.{comesBack, samePair, Cloaks}
 
 -- T-values 1 1 2 3 4 5 6 7
@@ -37,6 +39,11 @@ row3 w =
     let m : List ℕ = wordOn gf32 plainTs w start .matrix in
     entry m 2 1 ∷ entry m 2 2 ∷ entry m 2 3 ∷ []
 
+-- a move list is accepted on a word, with an output of 5,002 bytes, and this is the new word's file
+pub record Rewrites (word moves new : List ℕ) : Type 0 where
+  pub accepted : firstNo (rewriterQuestions 5002 word moves) ≡ 0
+  pub file : wordFile (rewritten word moves) ≡ new
+
 pub record StarredSlips : Type 0 where
   pub product-16-2 : gf32 .mul 16 2 ≡ 5
   pub product-31-31 : gf32 .mul 31 31 ≡ 18
@@ -48,10 +55,12 @@ pub record StarredSlips : Type 0 where
   pub letter-b3-b3 : row3 (2 ∷ 2 ∷ []) ≡ 4 ∷ 6 ∷ 3 ∷ []
   pub b1-b1-cloaks : Cloaks plainKey plainOrder (0x00 ∷ 0x02 ∷ 0x00 ∷ []) 0 true
   pub b3-b3-does-not : Cloaks plainKey plainOrder (0x00 ∷ 0x02 ∷ 0x22 ∷ []) 0 false
+  pub kind-3 : Rewrites (0x00 ∷ 0x03 ∷ 0x01 ∷ 0x00 ∷ []) (0x00 ∷ 0x01 ∷ 0x00 ∷ 0x00 ∷ 0x03 ∷ []) (0x00 ∷ 0x03 ∷ 0x10 ∷ 0x10 ∷ [])
+  pub kind-1 : Rewrites (0x00 ∷ 0x02 ∷ 0x08 ∷ []) (0x00 ∷ 0x01 ∷ 0x00 ∷ 0x00 ∷ 0x01 ∷ []) (0x00 ∷ 0x00 ∷ [])
   pub half-byte-6 : halfByteBraid 6 ≡ 6 ∷ 5 ∷ 4 ∷ 3 ∷ 2 ∷ 2 ∷ 2 ∷ 2 ∷ 0xB ∷ 0xC ∷ 0xD ∷ 0xE ∷ []
 
 pub starred : StarredSlips
-unfolding valuesFrom every count same eachOnce firstNo granted value digits halves timesX horner times first reciprocalOf wordFile packed codes entry matrixOf wordOn letterOn shareOf tValue rowAfter swapped start identity halfByteBraid comesBack samePair keyFile keyOf tValues packedMatrix entries fillerBits labels wholeMatrix filler
+unfolding valuesFrom every count same eachOnce firstNo granted value digits halves timesX horner times first reciprocalOf wordFile packed codes entry matrixOf wordOn letterOn shareOf tValue rowAfter swapped start identity halfByteBraid comesBack samePair keyFile keyOf tValues packedMatrix entries fillerBits labels wholeMatrix filler move moveQuestions wordAfter
 starred =
     record {
       product-16-2 = refl;
@@ -64,5 +73,7 @@ starred =
       letter-b3-b3 = refl;
       b1-b1-cloaks = record { answer-is = refl; yes-is = refl };
       b3-b3-does-not = record { answer-is = refl; yes-is = refl };
+      kind-3 = record { accepted = refl; file = refl };
+      kind-1 = record { accepted = refl; file = refl };
       half-byte-6 = refl;
     }

@@ -13,7 +13,7 @@ fn reciprocal(name: &[u8], a: u8) {
     show::line(name, found.answer, &value);
 }
 
-pub fn products() {
+pub(crate) fn products() {
     product(b"16 x 2", 16, 2);
     product(b"31 x 31", 31, 31);
     product(b"2 x 18", 2, 18);
@@ -24,7 +24,7 @@ pub fn products() {
     product(b"255 x 255", 255, 255);
 }
 
-pub fn reciprocals() {
+pub(crate) fn reciprocals() {
     reciprocal(b"1 / 3", 3);
     reciprocal(b"1 / 31", 31);
     reciprocal(b"1 / 0", 0);

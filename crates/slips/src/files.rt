@@ -10,7 +10,7 @@ fn word(name: &[u8], file: &[u8]) {
     show::end();
 }
 
-pub fn words() {
+pub(crate) fn words() {
     word(b"word 00 07 09 23 c5 e0", b"\x00\x07\x09\x23\xC5\xE0");
     word(b"word 00 00", b"\x00\x00");
     word(b"word of no bytes", b"");
@@ -32,7 +32,7 @@ fn long_word(name: &[u8], high: u8, low: u8) {
     show::end();
 }
 
-pub fn long_words() {
+pub(crate) fn long_words() {
     long_word(b"word 00 ff, 128 bytes", 0x00, 0xFF);
     long_word(b"word 01 00, 128 bytes", 0x01, 0x00);
     long_word(b"word 01 01, 128 bytes", 0x01, 0x01);
@@ -48,7 +48,7 @@ fn letter(name: &[u8], file: &[u8], place: usize) {
     show::end();
 }
 
-pub fn letters() {
+pub(crate) fn letters() {
     let seven = b"\x00\x07\x09\x23\xC5\xE0";
     letter(b"letter at 0", seven, 0);
     letter(b"letter at 6", seven, 6);
@@ -66,7 +66,7 @@ fn write(name: &[u8], codes: &[u8]) {
     write_into(name, codes, &mut out);
 }
 
-pub fn written() {
+pub(crate) fn written() {
     write(b"codes 0 9 2 3 c 5 e", b"\x00\x09\x02\x03\x0C\x05\x0E");
     write(b"no codes", b"");
     write(b"codes 0 7", b"\x00\x07");
@@ -84,7 +84,7 @@ fn reduce(name: &[u8], word: &[u8]) {
     reduce_into(name, word, &mut out);
 }
 
-pub fn reduced() {
+pub(crate) fn reduced() {
     reduce(b"reduced 00 04 01 92", b"\x00\x04\x01\x92");
     reduce(b"reduced 00 02 08", b"\x00\x02\x08");
     reduce(b"reduced 00 06 01 2a 98", b"\x00\x06\x01\x2A\x98");
@@ -114,7 +114,7 @@ fn encode_two(name: &[u8], first: u8, second: u8) {
     encode(name, &digest);
 }
 
-pub fn digests() {
+pub(crate) fn digests() {
     encode_two(b"digest of zeros", 0, 0);
     encode_two(b"digest 60, zeros", 0x60, 0);
     encode_two(b"digest 12 34, zeros", 0x12, 0x34);

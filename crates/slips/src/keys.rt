@@ -3,7 +3,7 @@ use crate::show;
 use key::Key;
 
 // N, q, the T-values 1 1 2 3 4 5 6 7, the identity matrix, the list 0 to 7, and the identity matrix again.
-fn plain() -> [u8; 83] {
+pub(crate) fn plain() -> [u8; 83] {
     let mut file = [0u8; 83];
     base::put(
         &mut file,
@@ -37,7 +37,7 @@ fn show_key(file: &[u8]) {
     show::rows(second);
 }
 
-pub fn read() {
+pub(crate) fn read() {
     let first = plain();
     let second = turned();
     io::write_all(1, b"plain key\n");
@@ -72,7 +72,7 @@ fn ones(front: &[u8], list: &[u8]) -> [u8; 83] {
     file
 }
 
-pub fn refusals() {
+pub(crate) fn refusals() {
     refused(b"key of no bytes", b"");
     refused(b"key of 83 bytes ff", &ones(b"", b""));
     refused(
@@ -105,7 +105,7 @@ fn write(name: &[u8], ts: &[u8; 8], order: &[u8; 8], matrix: &[u8; 57], out: &mu
     show::written(name, answer, n, out);
 }
 
-pub fn written() {
+pub(crate) fn written() {
     let matrix = identity();
     let mut out = [show::FILL; 90];
     write(
@@ -118,7 +118,7 @@ pub fn written() {
     );
 }
 
-pub fn unwritten() {
+pub(crate) fn unwritten() {
     let ts = [2u8, 1, 0, 3, 4, 5, 6, 7];
     let order = [0u8, 0, 2, 3, 4, 5, 6, 7];
     let matrix = identity();
@@ -161,7 +161,7 @@ fn cloak(name: &[u8], labels: &[u8], word: &[u8]) {
     cloak_under(name, &file, labels, word);
 }
 
-pub fn cloaking() {
+pub(crate) fn cloaking() {
     let order = b"\x00\x01\x02\x03\x04\x05\x06\x07";
     cloak(b"b1 b1 for 0 to 7", order, b"\x00\x02\x00");
     cloak(b"b3 b3 for 0 to 7", order, b"\x00\x02\x22");
@@ -204,7 +204,7 @@ fn matrix_alone() {
     );
 }
 
-pub fn not_cloaking() {
+pub(crate) fn not_cloaking() {
     matrix_alone();
     cloak(b"a list of no bytes, a word of none", b"", b"");
     cloak(

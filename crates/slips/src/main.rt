@@ -4,6 +4,7 @@ mod fields; // fields.rt: products and reciprocals
 mod files; // files.rt: words, free reduction and the digest
 mod keys; // keys.rt: key files and cloaking
 mod pairs; // pairs.rt: letters on pairs, and matrices
+mod rewriting; // rewriting.rt: words rewritten, and verdicts
 mod show; // show.rt: writing lines
 
 fn main() {
@@ -26,4 +27,7 @@ fn main() {
     keys::unwritten();
     keys::cloaking();
     keys::not_cloaking();
+    rewriting::rewritten();
+    rewriting::full();
+    rewriting::verdicts();
 }

@@ -31,7 +31,7 @@ fn from_start(name: &[u8], codes: &[u8]) {
     show::pair(name, last.answer, pair);
 }
 
-pub fn letters() {
+pub(crate) fn letters() {
     from_start(b"starting pair", b"");
     from_start(b"b3", b"\x02");
     from_start(b"b3 inverse", b"\x0A");
@@ -45,7 +45,7 @@ pub fn letters() {
 }
 
 // Two words of one braid.
-pub fn relation() {
+pub(crate) fn relation() {
     from_start(b"b1 b2 b1", b"\x00\x01\x00");
     from_start(b"b2 b1 b2", b"\x01\x00\x01");
 }
@@ -66,7 +66,7 @@ fn refused(name: &[u8], last: u8, labels: [u8; 8], t_values: [u8; 8], letter: u8
     show::refusal(name, found.answer, is_zeros(pair));
 }
 
-pub fn refusals() {
+pub(crate) fn refusals() {
     let zeros = [0u8; 8];
     let ts = t_values();
     let eight = [0u8, 1, 2, 3, 4, 5, 6, 8];
@@ -95,7 +95,7 @@ pub fn refusals() {
     refused(b"labels 0, b1", 1, zeros, ts, 0);
 }
 
-pub fn no_letters() {
+pub(crate) fn no_letters() {
     let ts = t_values();
     let order = [0u8, 1, 2, 3, 4, 5, 6, 7];
     refused(b"letter 7", 1, order, ts, 7);
@@ -123,7 +123,7 @@ fn product(name: &[u8], a: u8, b: u8) {
     show::rows(found);
 }
 
-pub fn matrices() {
+pub(crate) fn matrices() {
     product(b"row 3 of T-value 2, then of 3", 2, 3);
     product(b"row 3 of T-value 3, then of 2", 3, 2);
 }

@@ -9,14 +9,14 @@ fn wide(x: u8) -> u64 {
 }
 
 // A name, and an answer in decimal.
-pub fn head(name: &[u8], answer: u8) {
+pub(crate) fn head(name: &[u8], answer: u8) {
     io::write_all(1, name);
     io::write_all(1, b": ");
     io::print_decimal(1, wide(answer));
 }
 
 // A number in decimal.
-pub fn number(n: usize) {
+pub(crate) fn number(n: usize) {
     io::write_all(1, b" ");
     io::print_decimal(1, n as u64);
 }
@@ -28,7 +28,7 @@ fn byte(x: u8) {
 }
 
 // Bytes in hexadecimal.
-pub fn hex(bytes: &[u8]) {
+pub(crate) fn hex(bytes: &[u8]) {
     let mut i = 0;
     while i < bytes.len() {
         byte(bytes[i]);
@@ -36,12 +36,12 @@ pub fn hex(bytes: &[u8]) {
     }
 }
 
-pub fn end() {
+pub(crate) fn end() {
     io::write_all(1, b"\n");
 }
 
 // One of two texts.
-pub fn choice(first: bool, a: &[u8], b: &[u8]) {
+pub(crate) fn choice(first: bool, a: &[u8], b: &[u8]) {
     if first {
         io::write_all(1, a);
     } else {
@@ -50,20 +50,20 @@ pub fn choice(first: bool, a: &[u8], b: &[u8]) {
 }
 
 // A line of a name, an answer and bytes.
-pub fn line(name: &[u8], answer: u8, bytes: &[u8]) {
+pub(crate) fn line(name: &[u8], answer: u8, bytes: &[u8]) {
     head(name, answer);
     hex(bytes);
     end();
 }
 
 // A line of a name, an answer, and yes or no.
-pub fn verdict(name: &[u8], answer: u8, yes: bool) {
+pub(crate) fn verdict(name: &[u8], answer: u8, yes: bool) {
     head(name, answer);
     choice(yes, b" yes\n", b" no\n");
 }
 
 // A line of a name, an answer, and whether what stands beside it is all zeros.
-pub fn refusal(name: &[u8], answer: u8, zeros: bool) {
+pub(crate) fn refusal(name: &[u8], answer: u8, zeros: bool) {
     head(name, answer);
     choice(zeros, b" zeros\n", b" not zeros\n");
 }
@@ -80,7 +80,7 @@ fn is_all(bytes: &[u8], from: usize, byte: u8) -> bool {
     true
 }
 
-pub fn is_zeros(bytes: &[u8]) -> bool {
+pub(crate) fn is_zeros(bytes: &[u8]) -> bool {
     is_all(bytes, 0, 0)
 }
 
@@ -94,7 +94,7 @@ fn front(bytes: &[u8], n: usize) {
 }
 
 // A line of a name, an answer, the number of bytes written, these bytes, and whether the rest of the output kept its bytes.
-pub fn written(name: &[u8], answer: u8, n: usize, out: &[u8]) {
+pub(crate) fn written(name: &[u8], answer: u8, n: usize, out: &[u8]) {
     head(name, answer);
     number(n);
     front(out, n);
@@ -109,7 +109,7 @@ fn row(entries: &[u8]) {
 }
 
 // A matrix: a line for each row.
-pub fn rows(matrix: [u8; 64]) {
+pub(crate) fn rows(matrix: [u8; 64]) {
     row(&matrix[0..8]);
     row(&matrix[8..16]);
     row(&matrix[16..24]);
@@ -121,7 +121,7 @@ pub fn rows(matrix: [u8; 64]) {
 }
 
 // A line of a name, an answer and a pair's list; then its matrix.
-pub fn pair(name: &[u8], answer: u8, pair: Pair) {
+pub(crate) fn pair(name: &[u8], answer: u8, pair: Pair) {
     let labels = pair.labels;
     let matrix = pair.matrix;
     line(name, answer, &labels);

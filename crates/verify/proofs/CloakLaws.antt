@@ -56,14 +56,6 @@ module _ (key order word : List ℕ) where
       let z : firstNo (cloakQuestions key order word) ≡ 0 = after-key k ∙ passes 25 (wordQuestions word) l ∙ w in
       record { answer-is = sym z; yes-is = e ∙ sym (granted-zero _ _ z) }
 
--- the codes of an accepted word, as they stand in its part
-module _ (word part : List ℕ) (n : ℕ) (w : wordAnswer word ≡ 0) (p : part ≡ codePart word) (c : n ≡ length (letters word)) where
-  pub part-codes : take n (halves part) ≡ codes word
-  part-codes = rw (p, c) (sym (letters-of-part word)) ∙ letters-accepted word w
-
-  pub part-letters : every isLetter (take n (halves part)) ≡ true
-  part-letters = rw part-codes (accepted-letters word w)
-
 -- the pair that comes back, compared as the code does it
 module _ (ts order w labels : List ℕ) (s after : Pair) (is-start : s ≡ start) (is-order : labels ≡ order)
     (is-after : after ≡ wordOn gf32 ts w (pairOf (s .matrix) labels)) where

@@ -1,1 +1,2 @@
 pub mod Cloaking
+pub mod Verdict

@@ -1,6 +1,9 @@
-//! What both test files share: bytes typed in hexadecimal, the plain key, and a small generator of numbers.
+//! What the test files share: bytes typed in hexadecimal, the plain key, and writers of words put to the test.
 
-#![allow(dead_code)]
+#![allow(dead_code, unused_imports)]
+
+pub use reference::testkit::Random;
+use reference::Written;
 
 /// Bytes typed as hexadecimal numbers with spaces between.
 pub fn hex(text: &str) -> Vec<u8> {
@@ -35,54 +38,19 @@ pub fn file(codes: &[u8]) -> Vec<u8> {
     bytes
 }
 
-/// Marsaglia's xorshift with 64 bits.
-pub struct Random(pub u64);
+/// The file that a writer of words left, with what it reported; the rest of the output must be untouched.
+pub fn output(write: impl Fn(&mut [u8]) -> Written) -> Vec<u8> {
+    let mut out = vec![0xAA; 5_010];
+    let written = write(&mut out);
+    assert_eq!(written.answer, 0);
+    assert!(out[written.bytes..].iter().all(|byte| *byte == 0xAA), "bytes past the word changed");
+    out.truncate(written.bytes);
+    out
+}
 
-impl Random {
-    pub fn next(&mut self) -> u64 {
-        self.0 ^= self.0 << 13;
-        self.0 ^= self.0 >> 7;
-        self.0 ^= self.0 << 17;
-        self.0
-    }
-
-    /// A number below the bound.
-    pub fn below(&mut self, bound: u64) -> usize {
-        ((self.next() >> 16) % bound) as usize
-    }
-
-    /// A code that is a letter.
-    pub fn letter(&mut self) -> u8 {
-        let generator = self.below(7) as u8;
-        generator + 8 * self.below(2) as u8
-    }
-
-    /// So many letters.
-    pub fn word(&mut self, letters: usize) -> Vec<u8> {
-        (0..letters).map(|_| self.letter()).collect()
-    }
-
-    /// Any field elements.
-    pub fn elements<const COUNT: usize>(&mut self) -> [u8; COUNT] {
-        [0; COUNT].map(|_| self.below(32) as u8)
-    }
-
-    /// Eight elements other than zero.
-    pub fn t_values(&mut self) -> [u8; 8] {
-        [0; 8].map(|_| self.below(31) as u8 + 1)
-    }
-
-    /// The list 0 to 7 in any order.
-    pub fn labels(&mut self) -> [u8; 8] {
-        let mut labels = PLAIN_LIST;
-        for i in (1..8).rev() {
-            labels.swap(i, self.below(i as u64 + 1));
-        }
-        labels
-    }
-
-    /// Any pair.
-    pub fn pair(&mut self) -> reference::Pair {
-        reference::Pair { matrix: self.elements(), labels: self.labels() }
-    }
+/// A writer of words must refuse with this number, report 0 bytes and leave the output alone.
+pub fn refuses(expected: u8, size: usize, write: impl Fn(&mut [u8]) -> Written) {
+    let mut out = vec![0xAA; size];
+    assert_eq!(write(&mut out), Written { answer: expected, bytes: 0 });
+    assert!(out.iter().all(|byte| *byte == 0xAA), "a refusal changed the output");
 }

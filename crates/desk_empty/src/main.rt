@@ -1,0 +1,4 @@
+// The desk program on empty input.
+fn main() {
+    desk_io::desk();
+}

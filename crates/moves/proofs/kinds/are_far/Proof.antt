@@ -1,0 +1,21 @@
+-- `moves::kinds::are_far` meets its contract, on each of its ways.
+-- Assumes nothing.
+use borrow.Author.Tests.{le-leb, lt-leb}
+use borrow.Author.Needs.{needs}
+use Rattle.moves.proofs.kinds.are_far.Statement.{statement}
+use Rattle.moves.proofs.kinds.are_far.Tie as tie
+
+add-if1 : tie.Need-add-if1
+add-if1 c = search needs
+
+add-result : tie.Need-add-result
+add-result c = search needs
+
+returns : tie.Need-returns
+returns c = rw (le-leb _ _ (c .if1 .taken))
+
+returns-2 : tie.Need-returns-2
+returns-2 c = rw (lt-leb _ _ (c .if1 .left))
+
+pub are-far-spec : {M : Type 1} → statement M
+are-far-spec = tie.close (tie.spec add-if1 add-result returns returns-2)

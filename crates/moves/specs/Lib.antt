@@ -1,0 +1,5 @@
+pub mod Kinds
+pub mod Rewriting
+pub mod Exponent
+pub mod Meaning
+pub mod Leaving

@@ -1,0 +1,75 @@
+-- `verify::judge` meets its contract: the two matrices that it compares are the two sides of the verdict. Assumes nothing.
+use mathlib.Core.Path.{sym, ap, _∙_}
+use mathlib.Core.Bool.{Bool, cond}
+use Rattle.braid.specs.Words.{codes}
+use Rattle.verify.proofs.VerdictLaws.{signed-is, sides}
+use borrow.Author.Needs.{needs}
+use Rattle.verify.proofs.verdict.judge.Statement.{statement}
+use Rattle.verify.proofs.verdict.judge.Tie as tie
+use Rattle.verify.proofs.verdict.judge.Reads as reads
+use Rattle.verify.proofs.verdict.judge.Lts as lts
+use Rattle.action.proofs.matrix_product.Reads as matrix-product-reads
+use Rattle.base.proofs.equal.Reads as equal-reads
+use Rattle.verify.proofs.verdict.digest_matrix.Reads as digest-matrix-reads
+use Rattle.verify.proofs.words.carried.Reads as carried-reads
+
+-- src/verdict.rt:39:9
+carried-requires : tie.Need-carried-requires
+carried-requires c κs = search needs
+
+-- src/verdict.rt:41:17
+digest-matrix-requires : tie.Need-digest-matrix-requires
+digest-matrix-requires c κs = search needs
+
+-- src/verdict.rt:42:18
+matrix-product-requires : tie.Need-matrix-product-requires
+matrix-product-requires c κs = search needs
+
+-- src/verdict.rt:43:20
+slice-aggregate-equal : tie.Need-slice-aggregate-equal
+slice-aggregate-equal c = search needs
+
+-- src/verdict.rt:43:29
+slice-aggregate-equal-2 : tie.Need-slice-aggregate-equal-2
+slice-aggregate-equal-2 c = search needs
+
+-- src/verdict.rt:43:8
+equal-requires : tie.Need-equal-requires
+equal-requires c κs = search needs
+
+-- src/verdict.rt:32:1
+returns : tie.Need-returns
+returns c =
+    let e = c .before in
+    let x = e .before .before .before in
+    let f = x .before .before .before in
+    let k = f .before .before .before in
+    let a = k .before .before .before .before .before .before .before .args in
+    let both = sides (a .held) (codes (a .word .now)) (a .digest .now) (k .carried .result .matrix) (f .digest-matrix .result) (x .matrix-product .result)
+    (signed-is (a .held) (codes (a .word .now)) (k .carried .result) (k .carried .ensures)) (f .digest-matrix .ensures) (x .matrix-product .ensures) in
+    ap (λ (b : Bool). cond b 0 14) (sym (c .if1 .taken) ∙ e .equal .ensures ∙ both)
+
+-- src/verdict.rt:32:1
+returns-2 : tie.Need-returns-2
+returns-2 c =
+    let e = c .before in
+    let x = e .before .before .before in
+    let f = x .before .before .before in
+    let k = f .before .before .before in
+    let a = k .before .before .before .before .before .before .before .args in
+    let both = sides (a .held) (codes (a .word .now)) (a .digest .now) (k .carried .result .matrix) (f .digest-matrix .result) (x .matrix-product .result)
+    (signed-is (a .held) (codes (a .word .now)) (k .carried .result) (k .carried .ensures)) (f .digest-matrix .ensures) (x .matrix-product .ensures) in
+    ap (λ (b : Bool). cond b 0 14) (sym (c .if1 .left) ∙ e .equal .ensures ∙ both)
+
+pub judge-spec : {M : Type 1} → statement M
+judge-spec =
+    tie.close
+    (tie.spec
+    carried-requires
+    digest-matrix-requires
+    matrix-product-requires
+    slice-aggregate-equal
+    slice-aggregate-equal-2
+    equal-requires
+    returns
+    returns-2)

@@ -1,0 +1,42 @@
+-- `verify::carried` meets its contract: the codes of an accepted file stand after its two length bytes. Assumes nothing.
+use Prim.Native.Nat.{ℕ}
+use mathlib.Core.Path.{_≡_, ap, _∙_}
+use mathlib.Core.List.{List}
+use Rattle.field.specs.Gf32.{gf32}
+use Rattle.braid.proofs.ReadLaws.{accepted-long, accepted-letters}
+use Rattle.braid.proofs.ReducerLaws.{part-codes}
+use Rattle.action.specs.Action.{wordOn}
+use borrow.Author.Needs.{needs}
+use Rattle.verify.proofs.words.carried.Statement.{statement}
+use Rattle.verify.proofs.words.carried.Tie as tie
+use Rattle.verify.proofs.words.carried.Reads as reads
+use Rattle.verify.proofs.words.carried.Lts as lts
+use Rattle.action.proofs.carry.Reads as carry-reads
+
+-- src/words.rt:15:16
+sub-part : tie.Need-sub-part
+sub-part c = accepted-long (c .before .args .file .now) (c .before .pre .0)
+
+-- src/words.rt:15:16
+part-part-start : tie.Need-part-part-start
+part-part-start c = accepted-long (c .before .args .file .now) (c .before .pre .0)
+
+-- src/words.rt:15:16
+part-part-end : tie.Need-part-part-end
+part-part-end c = search needs
+
+-- src/words.rt:16:5
+carry-requires : tie.Need-carry-requires
+carry-requires c κs =
+    let s = c .before .before in
+    rw (part-codes (s .args .file .now) (s .pre .0) (s .args .n) (s .pre .1)) (accepted-letters (s .args .file .now) (s .pre .0))
+
+-- src/words.rt:11:1
+returns : tie.Need-returns
+returns c =
+    let s = c .before .before .before in
+    c .carry .ensures
+    ∙ ap (λ (w : List ℕ). wordOn gf32 (s .args .t-values .now) w (s .args .pair)) (part-codes (s .args .file .now) (s .pre .0) (s .args .n) (s .pre .1))
+
+pub carried-spec : {M : Type 1} → statement M
+carried-spec = tie.close (tie.spec sub-part part-part-start part-part-end carry-requires returns)

@@ -1,0 +1,65 @@
+// The verdict: is the matrix reached from Pub(S) by the word that of the digest's braid, times the matrix of Pub(S')?
+use crate::words::carried;
+use action::Pair;
+use key::Key;
+ghost use mathlib.Core.Path.{_≡_};
+ghost use mathlib.Core.Bool.{cond};
+ghost use lib.ListN.{length};
+ghost use Rattle.base.specs.Lists.{same};
+ghost use Rattle.braid.specs.Words.{codes, letters, wordAnswer};
+ghost use Rattle.field.specs.Gf32.{gf32};
+ghost use Rattle.action.specs.Action.{wordOn, start};
+ghost use Rattle.digest.specs.Digest.{encoded};
+ghost use Rattle.verify.specs.Verdict.{signed, target, verdict};
+
+// The matrix reached from the identity by the braid of a digest of 32 bytes.
+fn digest_matrix(t_values: &[u8; 8], digest: &[u8]) -> [u8; 64]
+    requires { ⌜ length (now digest) ≡ 32 ⌝ }
+    ensures { λ r. ⌜ r ≡ wordOn gf32 (now («t_values» .entry)) (encoded (now (digest .entry))) start .matrix ⌝ }
+{
+    let mut file = [0u8; 5002];
+    let written = digest::encode(digest, &mut file);
+    let bytes = written.bytes;
+    let word = &file[..bytes];
+    let read = braid::read_word(word);
+    let n = read.letters;
+    let reached = carried(Pair::start(), t_values, word, n);
+    reached.matrix
+}
+
+// The verdict under a key on a digest of 32 bytes and an accepted word of n letters: 0 or 14.
+fn judge(held: Key, digest: &[u8], word: &[u8], n: usize) -> u8
+    requires { ⌜ (length (now digest) ≡ 32) × (wordAnswer (now word) ≡ 0) × (n ≡ length (letters (now word))) ⌝ }
+    ensures { λ r. ⌜ r ≡ cond (same (signed held (codes (now (word .entry)))) (target held (now (digest .entry)))) 0 14 ⌝ }
+{
+    let t_values = held.t_values;
+    let pair = held.pair;
+    let second = held.second;
+    let reached = carried(pair, &t_values, word, n);
+    let matrix = reached.matrix;
+    let first = digest_matrix(&t_values, digest);
+    let wanted = action::matrix_product(&first, &second);
+    if base::equal(&matrix, &wanted) { 0 } else { 14 }
+}
+
+// The verdict: the first refusal of key, digest and word, or 0 where the matrices are equal and 14 where they are not.
+pub fn verify(key: &[u8], digest: &[u8], word: &[u8]) -> u8
+    ensures { λ r. ⌜ r ≡ verdict (now (key .entry)) (now (digest .entry)) (now (word .entry)) ⌝ }
+{
+    let read = key::read_key(key);
+    let refusal = read.answer;
+    if refusal != 0 {
+        return refusal;
+    }
+    if digest.len() != 32 {
+        return 8;
+    }
+    let word_read = braid::read_word(word);
+    let refused = word_read.answer;
+    if refused != 0 {
+        return refused;
+    }
+    let held = read.key;
+    let n = word_read.letters;
+    judge(held, digest, word, n)
+}

@@ -1,0 +1,35 @@
+//! The verdict (document 01, "Verdict and cloaking"; source 000, section 6).
+
+use crate::digest::{digest_answer, digest_braid};
+use crate::key::{key_answer, read_key, Key};
+use crate::matrix::{matrix_product, Matrix};
+use crate::pair::{carried, start};
+use crate::questions::{first_no, first_refusal};
+use crate::word::{letters, word_answer};
+
+/// The matrix that the signature's letters reach from Pub(S).
+fn signed(key: &Key, codes: &[u8]) -> Matrix {
+    carried(&key.pair, &key.t_values, codes).matrix
+}
+
+/// The matrix that the digest's braid reaches from the starting pair, times the matrix of Pub(S').
+fn target(key: &Key, digest: &[u8]) -> Matrix {
+    let reached = carried(&start(), &key.t_values, &digest_braid(digest)).matrix;
+    matrix_product(&reached, &key.second)
+}
+
+/// The answer of the verdict's own question on an accepted key, digest and word: 14, or 0. Lists are not
+/// compared.
+fn equality_answer(key: &[u8], digest: &[u8], word: &[u8]) -> u8 {
+    let key = read_key(key);
+    let matrices = [signed(&key, &letters(word)), target(&key, digest)];
+    first_no(&[(14, |matrices: &[Matrix; 2]| matrices[0] == matrices[1])], &matrices)
+}
+
+/// The verdict on a slip. Answers: the key's 1 to 7, the digest's 8, the word's 9 to 13, then 14.
+pub fn verify(key: &[u8], digest: &[u8], word: &[u8]) -> u8 {
+    match first_refusal(&[key_answer(key), digest_answer(digest), word_answer(word)]) {
+        0 => equality_answer(key, digest, word),
+        answer => answer,
+    }
+}

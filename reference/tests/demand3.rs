@@ -1,0 +1,171 @@
+//! Demand 3 on seeded samples: on an accepted word and an accepted move list the new word is accepted, carries
+//! every pair where the old one did, has the same exponent sum and gets the same verdict.
+
+mod common;
+
+use common::{output, Random};
+use reference::letter::{codes_of, letters_of};
+use reference::matrix::identity;
+use reference::pair::carried;
+use reference::rewrite::{move_answer, moves, Move, MOST_MOVES};
+use reference::testkit::slips::{has_key_shape, key_file};
+use reference::testkit::{accepted_slip, exponent_sum, inverse_matrix, move_list, Slip};
+use reference::word::word_file;
+use reference::{free_reduce, letters, matrix_product, read_key, read_word, rewrite, verify};
+
+const ROUNDS: usize = 300;
+
+/// A random accepted move list for the word, of up to so many moves, with the word that it leaves.
+fn rewriting(random: &mut Random, codes: &[u8], most: usize) -> (Vec<u8>, Vec<u8>) {
+    let count = random.within(0, most);
+    let walk = random.walk(codes, count);
+    let list = move_list(&walk.moves);
+    assert_eq!(moves(&list), walk.moves);
+    let file = output(|out| rewrite(&word_file(codes), &list, out));
+    assert_eq!(file, word_file(&codes_of(&walk.word)));
+    (list, file)
+}
+
+/// The new word is accepted, carries a random pair where the old one did, and has its exponent sum.
+fn assert_same_braid(random: &mut Random, old: &[u8], file: &[u8]) {
+    assert_eq!(read_word(file).answer, 0);
+    let new = letters(file);
+    let (pair, t_values) = (random.pair(), random.t_values());
+    assert_eq!(carried(&pair, &t_values, old), carried(&pair, &t_values, &new));
+    assert_eq!(exponent_sum(old), exponent_sum(&new));
+}
+
+#[test]
+fn pairs_and_exponent_sums_stay() {
+    let mut random = Random::seeded(31);
+    let mut kinds = [0; 256];
+    for round in 0..ROUNDS {
+        let length = random.within(0, 40);
+        let codes = random.tangled_word(length);
+        let (list, file) = rewriting(&mut random, &codes, if round % 10 == 0 { 300 } else { 30 });
+        assert_same_braid(&mut random, &codes, &file);
+        for step in moves(&list) {
+            kinds[usize::from(step.kind)] += 1;
+        }
+    }
+    let made: Vec<usize> = (0..256).filter(|kind| kinds[*kind] > 0).collect();
+    let insertions = (16..=22).chain(24..=30);
+    assert_eq!(made, [1, 2, 3].into_iter().chain(insertions).collect::<Vec<usize>>());
+    assert!(made.iter().all(|kind| kinds[*kind] >= 50));
+}
+
+#[test]
+fn long_words_and_long_lists() {
+    let mut random = Random::seeded(32);
+    for (letters, moves) in [(0, MOST_MOVES), (3_000, 1_000), (9_990, MOST_MOVES), (10_000, 500)] {
+        let codes = random.tangled_word(letters);
+        let walk = random.walk(&codes, moves);
+        assert_eq!(walk.moves.len(), moves);
+        let file = output(|out| rewrite(&word_file(&codes), &move_list(&walk.moves), out));
+        assert_same_braid(&mut random, &codes, &file);
+    }
+}
+
+/// The verdict on an accepted slip stays 0, and the one on the same slip with another word stays what it was.
+#[test]
+fn verdicts_stay() {
+    let mut random = Random::seeded(33);
+    let mut answers = [0; 15];
+    for round in 0..60 {
+        let length = random.within(0, 50);
+        let codes = random.tangled_word(length);
+        let slip = accepted(&mut random, &codes);
+        let judged = if round % 2 == 0 { codes } else { random.tangled_word(length) };
+        let before = verify(&slip.key, &slip.digest, &word_file(&judged));
+        assert!(before == 0 || round % 2 == 1);
+        let (_, file) = rewriting(&mut random, &judged, 60);
+        assert_eq!(verify(&slip.key, &slip.digest, &file), before);
+        let reduced = output(|out| free_reduce(&file, out));
+        assert_eq!(verify(&slip.key, &slip.digest, &reduced), before);
+        answers[usize::from(before)] += 1;
+    }
+    assert_eq!(answers[0] + answers[14], 60);
+    assert!(answers[14] > 20);
+}
+
+/// A key, digest and word chosen freely, not solved for: the verdict is 14 before and after.
+#[test]
+fn verdicts_of_free_keys_stay() {
+    let mut random = Random::seeded(34);
+    for _ in 0..20 {
+        let second = random.key_pair().matrix;
+        let key = key_file(&random.key_t_values(), &random.key_pair(), &second);
+        let (digest, codes) = (random.digest(), random.tangled_word(20));
+        let before = verify(&key, &digest, &word_file(&codes));
+        let (_, file) = rewriting(&mut random, &codes, 40);
+        assert_eq!((before, verify(&key, &digest, &file)), (14, 14));
+    }
+}
+
+/// An accepted slip with a random digest.
+fn accepted(random: &mut Random, codes: &[u8]) -> Slip {
+    let digest = random.digest();
+    random.accepted_slip(&digest, codes)
+}
+
+// ---- The means of these tests ----
+
+#[test]
+fn inverse_matrices() {
+    let mut random = Random::seeded(35);
+    let mut found = 0;
+    for _ in 0..ROUNDS {
+        let matrix = random.elements();
+        let Some(inverse) = inverse_matrix(&matrix) else { continue };
+        found += 1;
+        assert_eq!(matrix_product(&matrix, &inverse), identity());
+        assert_eq!(matrix_product(&inverse, &matrix), identity());
+    }
+    assert!(found > ROUNDS / 2);
+    assert_eq!(inverse_matrix(&identity()), Some(identity()));
+    assert_eq!(inverse_matrix(&[0; 64]), None);
+    assert_eq!(inverse_matrix(&[7; 64]), None);
+}
+
+/// Letters keep the shape of a key's matrix, so that the solved one fits the file; the slip is accepted,
+/// whether Pub(S) has an inverse or not, and another digest is not if it has one.
+#[test]
+fn solved_slips_are_accepted() {
+    let mut random = Random::seeded(36);
+    for _ in 0..20 {
+        let (t_values, codes, digest) = (random.key_t_values(), random.word(30), random.digest());
+        for pair in [random.key_pair(), random.invertible_key_pair()] {
+            assert!(has_key_shape(&carried(&pair, &t_values, &codes).matrix));
+            let slip = accepted_slip(&t_values, &pair, &digest, &codes);
+            let key = read_key(&slip.key);
+            assert_eq!((key.answer, key.t_values, key.pair), (0, t_values, pair));
+            assert_eq!(verify(&slip.key, &slip.digest, &slip.word), 0);
+        }
+        let slip = accepted_slip(&t_values, &random.invertible_key_pair(), &digest, &codes);
+        assert_eq!(verify(&slip.key, &random.digest(), &slip.word), 14);
+    }
+}
+
+/// What a walk draws is possible, and on short words it draws every possible move sooner or later.
+#[test]
+fn walks_reach_every_possible_move() {
+    let mut random = Random::seeded(37);
+    let word = letters_of(&[0, 8, 2, 0, 1, 0]);
+    let kinds = [1, 2, 3].into_iter().chain(16..=22).chain(24..=30);
+    let steps = kinds.flat_map(|kind| (0..=7).map(move |place| Move { place, kind }));
+    let mut missing: Vec<Move> = steps.filter(|step| move_answer(&word, *step) == 0).collect();
+    assert_eq!(missing.len(), 1 + 2 + 1 + 14 * 7); // b1 b1⁻¹; b1⁻¹ b3 and b3 b1; b1 b2 b1; all insertions
+    for _ in 0..10_000 {
+        let step = random.possible_move(&word).expect("an insertion is always possible");
+        assert_eq!(move_answer(&word, step), 0);
+        missing.retain(|other| *other != step);
+    }
+    assert!(missing.is_empty(), "{missing:?}");
+}
+
+#[test]
+fn exponent_sums() {
+    assert_eq!(exponent_sum(&[]), 0);
+    assert_eq!(exponent_sum(&[0, 6, 3, 8]), 2);
+    assert_eq!(exponent_sum(&[0x8, 0xE, 0xB, 0]), -2);
+}
