@@ -16,6 +16,7 @@ pub use tests::is_order;
 pub use word::carry;
 
 // An 8 by 8 matrix, row by row, and a list of eight labels.
+#[repr(C)]
 pub struct Pair {
     pub matrix: [u8; 64],
     pub labels: [u8; 8],

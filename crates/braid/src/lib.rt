@@ -18,6 +18,7 @@ pub const MAX_LETTERS: usize = 10000;
 pub const MAX_BYTES: usize = 5002;
 
 // What the word reader gives: the number of the first question answered no, 0 if there is none, and the number of letters, 0 on a refusal.
+#[repr(C)]
 pub struct Word {
     pub answer: u8,
     pub letters: usize,
@@ -30,6 +31,7 @@ pub struct Letter {
 }
 
 // What a writer of words gives: its answer, and the number of the file's bytes, 0 on a refusal.
+#[repr(C)]
 pub struct Written {
     pub answer: u8,
     pub bytes: usize,

@@ -2,6 +2,7 @@
 ghost use mathlib.Core.Path.{_≡_};
 ghost use Rattle.field.specs.Gf32.{gf32, products, reciprocals, productQuestions, reciprocalQuestions, Gives};
 
+#[repr(C)]
 pub struct Element {
     pub answer: u8,
     pub value: u8,

@@ -56,6 +56,37 @@ pub(crate) fn letters() {
     letter(b"letter at 0 of a refused word", b"\x00\x02\x07", 0);
 }
 
+// Through the reader that keeps the file and the next letter's place: the letter after k moves.
+fn read_on(name: &[u8], file: &[u8], k: usize) {
+    let found = reader::nth(file, k);
+    let code = [found.code];
+    io::write_all(1, name);
+    show::choice(found.left, b": yes", b": no");
+    show::hex(&code);
+    show::end();
+}
+
+// The same, through the struct itself: opened, moved on once, and read.
+fn read_second(name: &[u8], file: &[u8]) {
+    let found = reader::second(file);
+    let code = [found.code];
+    io::write_all(1, name);
+    show::choice(found.left, b": yes", b": no");
+    show::hex(&code);
+    show::end();
+}
+
+pub(crate) fn read_through() {
+    let seven = b"\x00\x07\x09\x23\xC5\xE0";
+    read_on(b"reader after 0 moves", seven, 0);
+    read_on(b"reader after 6 moves", seven, 6);
+    read_on(b"reader after 7 moves", seven, 7);
+    read_on(b"reader after 9 moves", seven, 9);
+    read_on(b"reader of a refused word", b"\x00\x02\x07", 0);
+    read_second(b"reader moved on once", seven);
+    read_second(b"reader moved on once, one letter", b"\x00\x01\x00");
+}
+
 fn write_into(name: &[u8], codes: &[u8], out: &mut [u8]) {
     let done = braid::write_word(codes, out);
     show::written(name, done.answer, done.bytes, out);

@@ -18,6 +18,7 @@ fn main() {
     files::words();
     files::long_words();
     files::letters();
+    files::read_through();
     files::written();
     files::reduced();
     files::digests();

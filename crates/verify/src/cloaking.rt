@@ -10,6 +10,7 @@ ghost use Rattle.action.specs.Multiplier.{isOrder};
 ghost use Rattle.verify.specs.Cloaking.{comesBack, Cloaks};
 
 // An answer, and yes or no: no on a refusal.
+#[repr(C)]
 pub struct Cloak {
     pub answer: u8,
     pub yes: bool,

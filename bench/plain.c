@@ -1,0 +1,299 @@
+/* The verdict, cloaking and the rewriter in plain C, as one would write them by hand: for the library's times to stand beside. */
+#include <stdbool.h>
+#include <stddef.h>
+#include <stdint.h>
+#include <string.h>
+
+#define WORD_BYTES 5002
+#define LETTERS 10000
+
+typedef struct {
+    uint8_t matrix[64], labels[8];
+} pair;
+
+typedef struct {
+    uint8_t t_values[8], second[64];
+    pair first;
+} key;
+
+static uint8_t products[1024], reciprocals[32];
+
+static uint8_t polynomial_product(unsigned a, unsigned b)
+{
+    unsigned product = 0;
+    for (; b; b >>= 1, a = a & 16 ? a << 1 ^ 37 : a << 1)
+        if (b & 1)
+            product ^= a;
+    return (uint8_t)product;
+}
+
+/* Fills the tables; called once. */
+void plain_tables(void)
+{
+    for (unsigned a = 0; a < 32; a++)
+        for (unsigned b = 0; b < 32; b++) {
+            products[32 * a + b] = polynomial_product(a, b);
+            if (products[32 * a + b] == 1)
+                reciprocals[a] = (uint8_t)b;
+        }
+}
+
+static void letter_on(pair *p, const uint8_t *t_values, const uint8_t *inverses, unsigned code)
+{
+    unsigned g = code & 7;
+    bool inverse = code & 8;
+    const uint8_t *times = products + 32 * (inverse ? inverses[p->labels[g + 1]] : t_values[p->labels[g]]);
+    for (uint8_t *row = p->matrix; row < p->matrix + 64; row += 8) {
+        uint8_t own = row[g], product = times[own];
+        if (g > 0)
+            row[g - 1] ^= inverse ? own : product;
+        row[g] = product;
+        row[g + 1] ^= inverse ? product : own;
+    }
+    uint8_t label = p->labels[g];
+    p->labels[g] = p->labels[g + 1];
+    p->labels[g + 1] = label;
+}
+
+static unsigned code_at(const uint8_t *packed, size_t k)
+{
+    return k % 2 ? packed[k / 2] & 15 : packed[k / 2] >> 4;
+}
+
+static void word_on(pair *p, const uint8_t *t_values, const uint8_t *packed, size_t n)
+{
+    uint8_t inverses[8];
+    for (int i = 0; i < 8; i++)
+        inverses[i] = reciprocals[t_values[i]];
+    for (size_t k = 0; k < n; k++)
+        letter_on(p, t_values, inverses, code_at(packed, k));
+}
+
+static bool is_order(const uint8_t *labels)
+{
+    unsigned seen = 0;
+    for (int i = 0; i < 8; i++)
+        if (labels[i] < 8)
+            seen |= 1u << labels[i];
+    return seen == 255;
+}
+
+/* Bytes as groups of eight numbers of so many bits. */
+static void unpack(const uint8_t *bytes, unsigned bits, size_t groups, uint8_t *out)
+{
+    for (; groups--; bytes += bits, out += 8) {
+        uint64_t value = 0;
+        for (unsigned i = 0; i < bits; i++)
+            value = value << 8 | bytes[i];
+        for (unsigned i = 0; i < 8; i++)
+            out[i] = value >> (7 - i) * bits & ((1u << bits) - 1);
+    }
+}
+
+static void unpack_matrix(const uint8_t *bytes, uint8_t *matrix)
+{
+    unpack(bytes, 5, 7, matrix);
+    memset(matrix + 56, 0, 7);
+    matrix[63] = bytes[35] >> 3;
+}
+
+static uint8_t read_key(const uint8_t *file, size_t n, key *k)
+{
+    if (n != 83)
+        return 1;
+    if (file[0] != 8)
+        return 2;
+    if (file[1] != 0 || file[2] != 32)
+        return 3;
+    unpack(file + 3, 5, 1, k->t_values);
+    if (memchr(k->t_values, 0, 8))
+        return 4;
+    if (k->t_values[0] != 1 || k->t_values[1] != 1)
+        return 5;
+    unpack(file + 44, 3, 1, k->first.labels);
+    if (!is_order(k->first.labels))
+        return 6;
+    if ((file[43] | file[82]) & 7)
+        return 7;
+    unpack_matrix(file + 8, k->first.matrix);
+    unpack_matrix(file + 47, k->second);
+    return 0;
+}
+
+static uint8_t read_word(const uint8_t *file, size_t n, size_t *letters)
+{
+    if (n < 2)
+        return 9;
+    size_t number = (size_t)file[0] << 8 | file[1];
+    if (number > LETTERS)
+        return 10;
+    if (n != 2 + (number + 1) / 2)
+        return 11;
+    for (size_t k = 0; k < number; k++)
+        if ((code_at(file + 2, k) & 7) == 7)
+            return 12;
+    if (number % 2 && file[n - 1] & 15)
+        return 13;
+    *letters = number;
+    return 0;
+}
+
+static void start(pair *p)
+{
+    memset(p, 0, sizeof *p);
+    for (uint8_t i = 0; i < 8; i++) {
+        p->matrix[9 * i] = 1;
+        p->labels[i] = i;
+    }
+}
+
+static size_t half_byte_braid(unsigned half, uint8_t *codes)
+{
+    static const unsigned selected[4] = {6, 4, 2, 0};
+    unsigned l = selected[half & 3], power = 2 * ((half >> 2) + 1);
+    uint8_t *at = codes;
+    for (unsigned g = 6; g > l; g--)
+        *at++ = (uint8_t)g;
+    while (power--)
+        *at++ = (uint8_t)l;
+    for (unsigned g = l + 1; g < 7; g++)
+        *at++ = (uint8_t)(g + 8);
+    return (size_t)(at - codes);
+}
+
+static void digest_matrix(const uint8_t *t_values, const uint8_t *digest, pair *p)
+{
+    uint8_t codes[1280], inverses[8];
+    size_t n = 0;
+    for (size_t k = 0; k < 64; k++)
+        n += half_byte_braid(code_at(digest, k), codes + n);
+    for (int i = 0; i < 8; i++)
+        inverses[i] = reciprocals[t_values[i]];
+    start(p);
+    for (size_t k = 0; k < n; k++)
+        letter_on(p, t_values, inverses, codes[k]);
+}
+
+static void matrix_product(const uint8_t *a, const uint8_t *b, uint8_t *out)
+{
+    for (int r = 0; r < 8; r++)
+        for (int c = 0; c < 8; c++) {
+            uint8_t sum = 0;
+            for (int k = 0; k < 8; k++)
+                sum ^= products[32 * a[8 * r + k] + b[8 * k + c]];
+            out[8 * r + c] = sum;
+        }
+}
+
+uint8_t plain_verify(const uint8_t *file, size_t kn, const uint8_t *digest, size_t dn, const uint8_t *word, size_t wn)
+{
+    key k;
+    pair reached;
+    size_t letters;
+    uint8_t wanted[64], answer = read_key(file, kn, &k);
+    if (answer)
+        return answer;
+    if (dn != 32)
+        return 8;
+    if ((answer = read_word(word, wn, &letters)))
+        return answer;
+    word_on(&k.first, k.t_values, word + 2, letters);
+    digest_matrix(k.t_values, digest, &reached);
+    matrix_product(reached.matrix, k.second, wanted);
+    return memcmp(k.first.matrix, wanted, 64) ? 14 : 0;
+}
+
+/* 256 + the answer on a refusal, else 1 for yes and 0 for no. */
+unsigned plain_cloaks(const uint8_t *file, size_t kn, const uint8_t *labels, size_t ln, const uint8_t *word, size_t wn)
+{
+    key k;
+    pair before, after;
+    size_t letters;
+    uint8_t answer = read_key(file, kn, &k);
+    if (answer)
+        return 256u + answer;
+    if (ln != 8 || !is_order(labels))
+        return 256u + 25;
+    if ((answer = read_word(word, wn, &letters)))
+        return 256u + answer;
+    start(&before);
+    memcpy(before.labels, labels, 8);
+    after = before;
+    word_on(&after, k.t_values, word + 2, letters);
+    return memcmp(&before, &after, sizeof before) == 0;
+}
+
+/* One move on n codes; gives the answer, and leaves the new number of letters. */
+static uint8_t move_on(uint8_t *codes, size_t *n, unsigned kind, size_t place)
+{
+    uint8_t *at = codes + place;
+    if (kind == 1) {
+        if (place + 2 > *n)
+            return 22;
+        if (at[1] != (at[0] ^ 8))
+            return 23;
+        *n -= 2;
+        memmove(at, at + 2, *n - place);
+    } else if (kind == 2) {
+        if (place + 2 > *n)
+            return 22;
+        int apart = (at[0] & 7) - (at[1] & 7);
+        if (-2 < apart && apart < 2)
+            return 23;
+        uint8_t first = at[0];
+        at[0] = at[1];
+        at[1] = first;
+    } else if (kind == 3) {
+        if (place + 3 > *n)
+            return 22;
+        int apart = (at[0] & 7) - (at[1] & 7);
+        if (apart * apart != 1 || (at[0] ^ at[1]) & 8 || at[0] != at[2])
+            return 23;
+        at[0] = at[1];
+        at[1] = at[2];
+        at[2] = at[0];
+    } else if (16 <= kind && kind <= 30 && kind != 23) {
+        if (place > *n)
+            return 22;
+        if (*n + 2 > LETTERS)
+            return 24;
+        memmove(at + 2, at, *n - place);
+        at[0] = (uint8_t)(kind - 16);
+        at[1] = at[0] ^ 8;
+        *n += 2;
+    } else {
+        return 21;
+    }
+    return 0;
+}
+
+static uint8_t read_moves(const uint8_t *moves, size_t m, size_t *count)
+{
+    if (m < 2)
+        return 18;
+    *count = (size_t)moves[0] << 8 | moves[1];
+    if (*count > 4096)
+        return 19;
+    return m == 2 + 3 * *count ? 0 : 20;
+}
+
+/* The bytes written; 0 on a refusal. */
+size_t plain_rewrite(const uint8_t *word, size_t wn, const uint8_t *moves, size_t m, uint8_t *out, size_t len)
+{
+    uint8_t codes[LETTERS + 2];
+    size_t n, count;
+    if (len < WORD_BYTES || read_word(word, wn, &n) || read_moves(moves, m, &count))
+        return 0;
+    for (size_t k = 0; k < n; k++)
+        codes[k] = (uint8_t)code_at(word + 2, k);
+    const uint8_t *places = moves + 2, *kinds = places + 2 * count;
+    for (size_t k = 0; k < count; k++)
+        if (move_on(codes, &n, kinds[k], (size_t)places[2 * k] << 8 | places[2 * k + 1]))
+            return 0;
+    out[0] = (uint8_t)(n >> 8);
+    out[1] = (uint8_t)n;
+    codes[n] = 0;
+    for (size_t k = 0; k < n; k += 2)
+        out[2 + k / 2] = (uint8_t)(codes[k] << 4 | codes[k + 1]);
+    return 2 + (n + 1) / 2;
+}

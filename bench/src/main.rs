@@ -1,0 +1,116 @@
+//! Times the library beside the same work in plain Rust and plain C.
+//!
+//! `bench` prints the least time of several rounds for each, and the library's as a ratio to the others'.
+//! `bench again CASE WHO` only does the work, 10 times, in the function `again`, for a counter of instructions to
+//! watch (CASE from 0; WHO 0 the library, 1 Rust, 2 C); it prints the case's name and the parts that were done.
+
+mod plain;
+mod plain_c;
+mod work;
+
+use std::env;
+use std::hint::black_box;
+use std::process::ExitCode;
+use std::time::{Duration, Instant};
+
+use walnut::WORD_BYTES;
+use work::{case, Case, Who, ALL, CASES};
+
+/// Rounds of which the least time counts, and how long each lasts at least.
+const ROUNDS: usize = 15;
+const ROUND: Duration = Duration::from_millis(40);
+
+/// How often the work is done for a counter of instructions.
+const COUNTED: u32 = 10;
+
+/// Does the work so many times.
+#[inline(never)]
+fn again(case: &Case, who: Who, times: u32) {
+    let mut out = [0; WORD_BYTES];
+    for _ in 0..times {
+        black_box(case.work.run(black_box(who), black_box(&mut out)));
+    }
+}
+
+/// The time of one piece of work, over one round.
+fn round(case: &Case, who: Who) -> f64 {
+    let (start, mut times) = (Instant::now(), 0);
+    while start.elapsed() < ROUND {
+        again(case, who, 1);
+        times += 1;
+    }
+    start.elapsed().as_secs_f64() / f64::from(times) / case.parts as f64
+}
+
+/// The least times of library, Rust and C, measured in turn.
+fn least(case: &Case) -> [f64; 3] {
+    let mut least = [f64::INFINITY; 3];
+    for _ in 0..ROUNDS {
+        for (time, who) in least.iter_mut().zip(ALL) {
+            *time = time.min(round(case, who));
+        }
+    }
+    least
+}
+
+/// Do all three come to the same?
+fn agree(case: &Case) -> bool {
+    let [library, rust, c] = ALL.map(|who| case.work.outcome(who));
+    library == rust && rust == c
+}
+
+fn print_times(case: &Case) {
+    let [library, rust, c] = least(case);
+    let (unit, scale) = if library < 1e-6 { ("ns", 1e9) } else { ("us", 1e6) };
+    println!(
+        "{:<28} {:>9.2} {:>9.2} {:>9.2} {unit} {:>8.2} {:>8.2}",
+        case.name,
+        library * scale,
+        rust * scale,
+        c * scale,
+        library / rust,
+        library / c
+    );
+}
+
+fn times() -> bool {
+    println!("{:<28} {:>9} {:>9} {:>9}    {:>8} {:>8}", "", "library", "Rust", "C", "to Rust", "to C");
+    (0..CASES).map(case).all(|case| {
+        let agreed = agree(&case);
+        if agreed {
+            print_times(&case);
+        } else {
+            println!("{}: the three do not come to the same", case.name);
+        }
+        agreed
+    })
+}
+
+/// The number in a word, if it is below the bound.
+fn below(bound: usize, word: &str) -> Option<usize> {
+    word.parse().ok().filter(|number| *number < bound)
+}
+
+/// Does a case's work for a counter of instructions.
+fn counted(number: &str, who: &str) -> bool {
+    let (Some(number), Some(who)) = (below(CASES, number), below(ALL.len(), who)) else { return false };
+    let case = case(number);
+    println!("{}\t{}", case.name, COUNTED as usize * case.parts);
+    again(&case, ALL[who], COUNTED);
+    true
+}
+
+fn main() -> ExitCode {
+    let arguments: Vec<String> = env::args().skip(1).collect();
+    let words: Vec<&str> = arguments.iter().map(String::as_str).collect();
+    let well = match words[..] {
+        [] => times(),
+        ["again", number, who] => counted(number, who),
+        _ => false,
+    };
+    if well {
+        ExitCode::SUCCESS
+    } else {
+        ExitCode::from(1)
+    }
+}

@@ -1,0 +1,278 @@
+//! The verdict, cloaking and the rewriter in plain Rust, as one would write them by hand: for the library's
+//! times to stand beside.
+
+const WORD_BYTES: usize = 5002;
+const LETTERS: usize = 10_000;
+
+type Matrix = [[u8; 8]; 8];
+type Eight = [u8; 8];
+
+const fn polynomial_product(mut a: u8, mut b: u8) -> u8 {
+    let mut product = 0;
+    while b != 0 {
+        if b & 1 == 1 {
+            product ^= a;
+        }
+        a = if a & 16 == 16 { a << 1 ^ 37 } else { a << 1 };
+        b >>= 1;
+    }
+    product
+}
+
+const fn products() -> [[u8; 32]; 32] {
+    let mut table = [[0; 32]; 32];
+    let mut a = 0;
+    while a < 32 {
+        let mut b = 0;
+        while b < 32 {
+            table[a][b] = polynomial_product(a as u8, b as u8);
+            b += 1;
+        }
+        a += 1;
+    }
+    table
+}
+
+static PRODUCTS: [[u8; 32]; 32] = products();
+
+fn reciprocal(a: u8) -> u8 {
+    PRODUCTS[usize::from(a)].iter().position(|product| *product == 1).unwrap_or(0) as u8
+}
+
+#[derive(Clone, PartialEq)]
+struct Pair {
+    matrix: Matrix,
+    labels: Eight,
+}
+
+impl Pair {
+    fn with_labels(labels: Eight) -> Pair {
+        let mut matrix = [[0; 8]; 8];
+        for (place, row) in matrix.iter_mut().enumerate() {
+            row[place] = 1;
+        }
+        Pair { matrix, labels }
+    }
+
+    fn letter(&mut self, t_values: &Eight, inverses: &Eight, code: u8) {
+        let (g, inverse) = (usize::from(code & 7), code & 8 != 0);
+        let taken = if inverse {
+            inverses[usize::from(self.labels[g + 1])]
+        } else {
+            t_values[usize::from(self.labels[g])]
+        };
+        let times = &PRODUCTS[usize::from(taken)];
+        for row in &mut self.matrix {
+            let own = row[g];
+            let product = times[usize::from(own)];
+            let (before, after) = if inverse { (own, product) } else { (product, own) };
+            if g > 0 {
+                row[g - 1] ^= before;
+            }
+            row[g] = product;
+            row[g + 1] ^= after;
+        }
+        self.labels.swap(g, g + 1);
+    }
+
+    fn carried(mut self, t_values: &Eight, codes: impl Iterator<Item = u8>) -> Pair {
+        let inverses = t_values.map(reciprocal);
+        for code in codes {
+            self.letter(t_values, &inverses, code);
+        }
+        self
+    }
+}
+
+struct Key {
+    t_values: Eight,
+    pair: Pair,
+    second: Matrix,
+}
+
+/// A group of bytes as eight numbers.
+fn eight(bytes: &[u8]) -> Eight {
+    let bits = bytes.len();
+    let value = bytes.iter().fold(0, |value, byte| value << 8 | u64::from(*byte));
+    std::array::from_fn(|place| (value >> ((7 - place) * bits) & ((1 << bits) - 1)) as u8)
+}
+
+fn matrix(bytes: &[u8]) -> Matrix {
+    let mut matrix = [[0; 8]; 8];
+    for (row, group) in matrix.iter_mut().zip(bytes.chunks_exact(5)) {
+        *row = eight(group);
+    }
+    matrix[7][7] = bytes[35] >> 3;
+    matrix
+}
+
+fn is_order(labels: &[u8]) -> bool {
+    (0..8).all(|label| labels.contains(&label))
+}
+
+fn read_key(file: &[u8]) -> Result<Key, u8> {
+    if file.len() != 83 {
+        return Err(1);
+    }
+    if file[0] != 8 {
+        return Err(2);
+    }
+    if file[1..3] != [0, 32] {
+        return Err(3);
+    }
+    let t_values = eight(&file[3..8]);
+    if t_values.contains(&0) {
+        return Err(4);
+    }
+    if t_values[..2] != [1, 1] {
+        return Err(5);
+    }
+    let labels = eight(&file[44..47]);
+    if !is_order(&labels) {
+        return Err(6);
+    }
+    if (file[43] | file[82]) & 7 != 0 {
+        return Err(7);
+    }
+    Ok(Key { t_values, pair: Pair { matrix: matrix(&file[8..44]), labels }, second: matrix(&file[47..]) })
+}
+
+/// The half bytes of a row of bytes.
+fn halves(bytes: &[u8]) -> impl Iterator<Item = u8> + '_ {
+    bytes.iter().flat_map(|byte| [byte >> 4, byte & 15])
+}
+
+/// The letters of a word file.
+fn read_word(file: &[u8]) -> Result<impl Iterator<Item = u8> + '_, u8> {
+    let [high, low, packed @ ..] = file else { return Err(9) };
+    let number = usize::from(u16::from_be_bytes([*high, *low]));
+    if number > LETTERS {
+        return Err(10);
+    }
+    if packed.len() != number.div_ceil(2) {
+        return Err(11);
+    }
+    if halves(packed).take(number).any(|code| code & 7 == 7) {
+        return Err(12);
+    }
+    if halves(packed).skip(number).any(|half| half != 0) {
+        return Err(13);
+    }
+    Ok(halves(packed).take(number))
+}
+
+fn half_byte_braid(half: u8) -> impl Iterator<Item = u8> {
+    let (selected, power) = ([6, 4, 2, 0][usize::from(half & 3)], 2 * usize::from((half >> 2) + 1));
+    let down = (selected + 1..7).rev();
+    let up = (selected + 1..7).map(|generator| generator + 8);
+    down.chain(std::iter::repeat_n(selected, power)).chain(up)
+}
+
+fn matrix_product(a: &Matrix, b: &Matrix) -> Matrix {
+    let entry = |row: &Eight, column: usize| {
+        row.iter()
+            .zip(b)
+            .fold(0, |sum, (x, other)| sum ^ PRODUCTS[usize::from(*x)][usize::from(other[column])])
+    };
+    std::array::from_fn(|row| std::array::from_fn(|column| entry(&a[row], column)))
+}
+
+const ORDER: Eight = [0, 1, 2, 3, 4, 5, 6, 7];
+
+pub fn verify(key: &[u8], digest: &[u8], word: &[u8]) -> Result<(), u8> {
+    let Key { t_values, pair, second } = read_key(key)?;
+    if digest.len() != 32 {
+        return Err(8);
+    }
+    let letters = read_word(word)?;
+    let reached = pair.carried(&t_values, letters);
+    let braid = halves(digest).flat_map(half_byte_braid);
+    let encoded = Pair::with_labels(ORDER).carried(&t_values, braid);
+    if reached.matrix == matrix_product(&encoded.matrix, &second) {
+        Ok(())
+    } else {
+        Err(14)
+    }
+}
+
+pub fn cloaks(key: &[u8], labels: &[u8], word: &[u8]) -> Result<bool, u8> {
+    let key = read_key(key)?;
+    let labels = Eight::try_from(labels).ok().filter(|labels| is_order(labels)).ok_or(25)?;
+    let letters = read_word(word)?;
+    let before = Pair::with_labels(labels);
+    let after = before.clone().carried(&key.t_values, letters);
+    Ok(after == before)
+}
+
+fn apart(c: u8, d: u8) -> u8 {
+    (c & 7).abs_diff(d & 7)
+}
+
+/// One move on a word.
+fn make(codes: &mut Vec<u8>, kind: u8, place: usize) -> Result<(), u8> {
+    match kind {
+        1 => {
+            let [c, d, ..] = codes.get(place..).ok_or(22)? else { return Err(22) };
+            if *d != c ^ 8 {
+                return Err(23);
+            }
+            codes.drain(place..place + 2);
+        }
+        2 => {
+            let [c, d, ..] = codes.get(place..).ok_or(22)? else { return Err(22) };
+            if apart(*c, *d) < 2 {
+                return Err(23);
+            }
+            codes.swap(place, place + 1);
+        }
+        3 => {
+            let [j, k, l, ..] = codes.get_mut(place..).ok_or(22)? else { return Err(22) };
+            if apart(*j, *k) != 1 || (*j ^ *k) & 8 != 0 || j != l {
+                return Err(23);
+            }
+            (*j, *k, *l) = (*k, *j, *k);
+        }
+        16..=22 | 24..=30 => {
+            if place > codes.len() {
+                return Err(22);
+            }
+            if codes.len() + 2 > LETTERS {
+                return Err(24);
+            }
+            let letter = kind - 16;
+            codes.splice(place..place, [letter, letter ^ 8]);
+        }
+        _ => return Err(21),
+    }
+    Ok(())
+}
+
+/// The places and kinds of a move list.
+fn read_moves(moves: &[u8]) -> Result<impl Iterator<Item = (usize, u8)> + '_, u8> {
+    let [high, low, steps @ ..] = moves else { return Err(18) };
+    let count = usize::from(u16::from_be_bytes([*high, *low]));
+    if count > 4096 {
+        return Err(19);
+    }
+    if steps.len() != 3 * count {
+        return Err(20);
+    }
+    let (places, kinds) = steps.split_at(2 * count);
+    let places = places.chunks_exact(2).map(|place| usize::from(place[0]) << 8 | usize::from(place[1]));
+    Ok(places.zip(kinds.iter().copied()))
+}
+
+pub fn rewrite(word: &[u8], moves: &[u8], out: &mut [u8]) -> Result<usize, u8> {
+    if out.len() < WORD_BYTES {
+        return Err(15);
+    }
+    let mut codes: Vec<u8> = read_word(word)?.collect();
+    for (place, kind) in read_moves(moves)? {
+        make(&mut codes, kind, place)?;
+    }
+    out[..2].copy_from_slice(&(codes.len() as u16).to_be_bytes());
+    for (byte, codes) in out[2..].iter_mut().zip(codes.chunks(2)) {
+        *byte = codes[0] << 4 | codes.get(1).copied().unwrap_or(0);
+    }
+    Ok(2 + codes.len().div_ceil(2))
+}

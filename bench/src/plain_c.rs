@@ -1,0 +1,55 @@
+//! What `plain.c` has.
+
+extern "C" {
+    fn plain_tables();
+    fn plain_verify(
+        key: *const u8,
+        kn: usize,
+        digest: *const u8,
+        dn: usize,
+        word: *const u8,
+        wn: usize,
+    ) -> u8;
+    fn plain_cloaks(
+        key: *const u8,
+        kn: usize,
+        labels: *const u8,
+        ln: usize,
+        word: *const u8,
+        wn: usize,
+    ) -> u32;
+    fn plain_rewrite(
+        word: *const u8,
+        wn: usize,
+        moves: *const u8,
+        m: usize,
+        out: *mut u8,
+        len: usize,
+    ) -> usize;
+}
+
+// The pointers come from slices that live through the call, each with its own length; the tables are filled
+// before anything reads them, on one thread.
+
+pub fn tables() {
+    // SAFETY: see above.
+    unsafe { plain_tables() }
+}
+
+pub fn verify(key: &[u8], digest: &[u8], word: &[u8]) -> u8 {
+    let (file, bytes) = (key.as_ptr(), key.len());
+    // SAFETY: see above.
+    unsafe { plain_verify(file, bytes, digest.as_ptr(), digest.len(), word.as_ptr(), word.len()) }
+}
+
+pub fn cloaks(key: &[u8], labels: &[u8], word: &[u8]) -> u32 {
+    let (file, bytes) = (key.as_ptr(), key.len());
+    // SAFETY: see above.
+    unsafe { plain_cloaks(file, bytes, labels.as_ptr(), labels.len(), word.as_ptr(), word.len()) }
+}
+
+pub fn rewrite(word: &[u8], moves: &[u8], out: &mut [u8]) -> usize {
+    let (list, len) = (moves.as_ptr(), moves.len());
+    // SAFETY: see above.
+    unsafe { plain_rewrite(word.as_ptr(), word.len(), list, len, out.as_mut_ptr(), out.len()) }
+}

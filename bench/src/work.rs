@@ -1,0 +1,138 @@
+//! What is timed: the same inputs for the library, for plain Rust and for plain C.
+
+use reference::testkit::{move_list, Random, Slip};
+use reference::word::word_file;
+use walnut::{Refusal, WORD_BYTES};
+
+use crate::{plain, plain_c};
+
+/// The letters of a typical signature: source 000's table 1 has a mean of 5,134.6 bits.
+const TYPICAL: usize = 1_283;
+
+/// The letters of the longest word.
+const LONGEST: usize = 10_000;
+
+/// The letters of the word that is rewritten, and the moves that are made on it.
+const REWRITTEN: usize = 5_000;
+const MOVES: usize = 4_096;
+
+/// Who does the work.
+#[derive(Clone, Copy, PartialEq, Eq)]
+pub enum Who {
+    Library,
+    Rust,
+    C,
+}
+
+pub const ALL: [Who; 3] = [Who::Library, Who::Rust, Who::C];
+
+/// One piece of work, with its inputs.
+pub enum Work {
+    Verdict(Slip),
+    Cloaking { key: Vec<u8>, word: Vec<u8> },
+    Rewriting { word: Vec<u8>, moves: Vec<u8> },
+}
+
+/// What came of it: an answer or a number, and the bytes written.
+#[derive(PartialEq, Eq, Debug)]
+pub struct Outcome {
+    pub number: u32,
+    pub written: Vec<u8>,
+}
+
+/// A name, a number of parts to divide the time by, and the work.
+pub struct Case {
+    pub name: &'static str,
+    pub parts: usize,
+    pub work: Work,
+}
+
+fn number(answer: Result<(), u8>) -> u32 {
+    answer.err().map_or(0, u32::from)
+}
+
+fn cloaking_number(answer: Result<bool, u8>) -> u32 {
+    match answer {
+        Ok(yes) => u32::from(yes),
+        Err(refusal) => 256 + u32::from(refusal),
+    }
+}
+
+const ORDER: [u8; 8] = [0, 1, 2, 3, 4, 5, 6, 7];
+
+impl Work {
+    /// Does the work once into an output of 5,002 bytes: its number, and how many bytes it wrote.
+    pub fn run(&self, who: Who, out: &mut [u8]) -> (u32, usize) {
+        match (self, who) {
+            (Work::Verdict(slip), Who::Library) => {
+                (number(walnut::verify(&slip.key, &slip.digest, &slip.word).map_err(Refusal::number)), 0)
+            }
+            (Work::Verdict(slip), Who::Rust) => {
+                (number(plain::verify(&slip.key, &slip.digest, &slip.word)), 0)
+            }
+            (Work::Verdict(slip), Who::C) => {
+                (u32::from(plain_c::verify(&slip.key, &slip.digest, &slip.word)), 0)
+            }
+            (Work::Cloaking { key, word }, Who::Library) => {
+                (cloaking_number(walnut::cloaks(key, &ORDER, word).map_err(Refusal::number)), 0)
+            }
+            (Work::Cloaking { key, word }, Who::Rust) => {
+                (cloaking_number(plain::cloaks(key, &ORDER, word)), 0)
+            }
+            (Work::Cloaking { key, word }, Who::C) => (plain_c::cloaks(key, &ORDER, word), 0),
+            (Work::Rewriting { word, moves }, Who::Library) => {
+                (0, walnut::rewrite(word, moves, out).map_or(0, |written| written.len()))
+            }
+            (Work::Rewriting { word, moves }, Who::Rust) => {
+                (0, plain::rewrite(word, moves, out).unwrap_or(0))
+            }
+            (Work::Rewriting { word, moves }, Who::C) => (0, plain_c::rewrite(word, moves, out)),
+        }
+    }
+
+    /// What comes of it.
+    pub fn outcome(&self, who: Who) -> Outcome {
+        let mut out = vec![0; WORD_BYTES];
+        let (number, bytes) = self.run(who, &mut out);
+        out.truncate(bytes);
+        Outcome { number, written: out }
+    }
+}
+
+/// A slip of so many letters that the verdict accepts.
+fn slip(random: &mut Random, letters: usize) -> Work {
+    let (digest, codes) = (random.digest(), random.word(letters));
+    Work::Verdict(random.accepted_slip(&digest, &codes))
+}
+
+/// A word of 10,000 letters that cloaks: 5,000 letters, and the way back.
+fn cloaking(random: &mut Random) -> Work {
+    let there = random.word(LONGEST / 2);
+    let back = there.iter().rev().map(|code| code ^ 8);
+    let codes: Vec<u8> = there.iter().copied().chain(back).collect();
+    let digest = random.digest();
+    Work::Cloaking { key: random.accepted_slip(&digest, &[]).key, word: word_file(&codes) }
+}
+
+/// 4,096 moves of all kinds, each possible on the word that the last one left.
+fn rewriting(random: &mut Random) -> Work {
+    let codes = random.tangled_word(REWRITTEN);
+    let walk = random.walk(&codes, MOVES);
+    assert_eq!(walk.moves.len(), MOVES, "a walk ended early");
+    Work::Rewriting { word: word_file(&codes), moves: move_list(&walk.moves) }
+}
+
+/// How many cases there are.
+pub const CASES: usize = 4;
+
+/// The case of a number, the same in every run.
+pub fn case(number: usize) -> Case {
+    plain_c::tables();
+    let random = &mut Random::seeded(1);
+    match number {
+        0 => Case { name: "verdict, 1,283 letters", parts: 1, work: slip(random, TYPICAL) },
+        1 => Case { name: "verdict, 10,000 letters", parts: 1, work: slip(random, LONGEST) },
+        2 => Case { name: "a letter (cloaking, 10,000)", parts: LONGEST, work: cloaking(random) },
+        _ => Case { name: "rewriter, 4,096 moves", parts: 1, work: rewriting(random) },
+    }
+}

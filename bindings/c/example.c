@@ -1,0 +1,82 @@
+/* Worked slips: fields, words, pairs, keys, moves, cloaking and the verdict. */
+#include <stdio.h>
+#include <string.h>
+
+#include "walnut.h"
+
+static const uint8_t t_values[8] = {1, 1, 2, 3, 4, 5, 6, 7};
+static const uint8_t order[8] = {0, 1, 2, 3, 4, 5, 6, 7};
+
+static void print_hex(const char *text, const uint8_t *bytes, size_t n)
+{
+    printf("%s", text);
+    for (size_t i = 0; i < n; i++)
+        printf(" %02X", bytes[i]);
+    printf("\n");
+}
+
+/* The key whose matrices are both the identity: rows 1 to 7, then the last entry of row 8. */
+static uint8_t plain_key(uint8_t key[WALNUT_KEY_BYTES])
+{
+    uint8_t entries[57] = {0};
+    for (int row = 0; row < 7; row++)
+        entries[9 * row] = 1;
+    entries[56] = 1;
+    return walnut_write_key(t_values, order, entries, entries, key, WALNUT_KEY_BYTES);
+}
+
+static void print_cloak(const char *text, const uint8_t *key, const uint8_t *word, size_t n)
+{
+    walnut_cloak cloak = walnut_cloaks(key, WALNUT_KEY_BYTES, order, 8, word, n);
+    printf("%s cloaks: %s\n", text, cloak.yes ? "yes" : "no");
+}
+
+int main(void)
+{
+    printf("16 x 2 = %u\n", walnut_product(16, 2).value);
+    printf("31 x 31 = %u\n", walnut_product(31, 31).value);
+    printf("the reciprocal of 3 is %u\n", walnut_reciprocal(3).value);
+
+    static uint8_t out[WALNUT_WORD_BYTES];
+    const uint8_t codes[7] = {0, 9, 2, 3, 12, 5, 14};
+    walnut_written written = walnut_write_word(codes, sizeof codes, out, sizeof out);
+    print_hex("b1 b2' b3 b4 b5' b6 b7' is", out, written.bytes);
+    printf("its letters: %zu\n", walnut_read_word(out, written.bytes).letters);
+
+    walnut_pair pair = walnut_start();
+    if (walnut_multiply(&pair, t_values, 2) != 0)
+        return 1;
+    printf("row 3 after b3:");
+    for (int column = 0; column < 8; column++)
+        printf(" %u", pair.matrix[16 + column]);
+    printf("\n");
+
+    uint8_t key[WALNUT_KEY_BYTES];
+    if (plain_key(key) != 0)
+        return 1;
+    print_hex("plain T-values pack to", key + 3, 5);
+    print_hex("the list 0 to 7 packs to", key + 44, 3);
+
+    const uint8_t three[4] = {0x00, 0x03, 0x01, 0x00}, turn[5] = {0, 1, 0, 0, 3};
+    written = walnut_rewrite(three, sizeof three, turn, sizeof turn, out, sizeof out);
+    print_hex("00 03 01 00 with kind 3 at place 0 gives", out, written.bytes);
+    const uint8_t both[3] = {0x00, 0x02, 0x08};
+    written = walnut_free_reduce(both, sizeof both, out, sizeof out);
+    print_hex("00 02 08 freely reduced is", out, written.bytes);
+
+    const uint8_t ones[3] = {0x00, 0x02, 0x00}, threes[3] = {0x00, 0x02, 0x22};
+    print_cloak("b1 b1", key, ones, sizeof ones);
+    print_cloak("b3 b3", key, threes, sizeof threes);
+    const uint8_t none[2] = {0x00, 0x00}, insert[5] = {0, 1, 0, 1, 16};
+    printf("00 00 with kind 16 at place 1: answer %u\n",
+           walnut_rewrite(none, sizeof none, insert, sizeof insert, out, sizeof out).answer);
+
+    const uint8_t digest[32] = {0};
+    uint8_t signature[66] = {0x00, 0x80};
+    memset(signature + 2, 0x66, 64);
+    printf("plain key, zero digest, 00 80 and 64 bytes of 66: answer %u\n",
+           walnut_verify(key, sizeof key, digest, sizeof digest, signature, sizeof signature));
+    printf("plain key, zero digest, 00 00: answer %u\n",
+           walnut_verify(key, sizeof key, digest, sizeof digest, none, sizeof none));
+    return 0;
+}

@@ -1,0 +1,244 @@
+"""Braid words, keys, E-multiplication and verdicts for WalnutDSA at strength 128, over the proved library walnut.
+
+Every function takes any bytes. It gives its value, or raises Refusal with the number of the first question that the input fails; the verdict
+alone gives its number.
+The shared library libwalnut.so is looked for in the folder that the environment variable WALNUT_LIB_DIR names, else beside this file.
+"""
+
+import ctypes
+import os
+from ctypes import POINTER, Structure, c_bool, c_char_p, c_size_t, c_uint8
+
+KEY_BYTES = 83
+WORD_BYTES = 5002
+
+TEXTS = (
+    "accepted",
+    "the key file is not 83 bytes",
+    "the key is not for eight strands",
+    "the key is not for the field with 32 elements",
+    "a T-value, or the operand, is zero",
+    "the first two T-values are not 1",
+    "the list is not 0 to 7, each once",
+    "filler bits of the key are not zero",
+    "the digest is not 32 bytes",
+    "the word has fewer than 2 bytes",
+    "more than 10,000 letters",
+    "the word's length is not what its number of letters needs",
+    "a code is no letter",
+    "an odd word's last half byte is not 0",
+    "the matrices differ: not a signature of this digest under this key",
+    "the output has fewer than 5,002 bytes",
+    "the key's output has fewer than 83 bytes",
+    "a number is over 31: no element of the field",
+    "the move list has fewer than 2 bytes",
+    "the move list states more than 4,096 moves",
+    "the move list's length is not what its number needs",
+    "a move's kind is none",
+    "the letters that a move needs do not exist",
+    "the letters at a move's place have not its shape",
+    "an insertion would leave more than 10,000 letters",
+    "the labels are not 8 bytes, 0 to 7 each once",
+)
+
+
+class Refusal(Exception):
+    """The input failed a question; `number` is the answer, 1 to 25."""
+
+    def __init__(self, number):
+        super().__init__(f"{number}: {TEXTS[number]}")
+        self.number = number
+
+
+class _Element(Structure):
+    _fields_ = [("answer", c_uint8), ("value", c_uint8)]
+
+
+class _Number(Structure):
+    """walnut_word and walnut_written: an answer, and a number of letters or bytes."""
+
+    _fields_ = [("answer", c_uint8), ("number", c_size_t)]
+
+
+class _Cloak(Structure):
+    _fields_ = [("answer", c_uint8), ("yes", c_bool)]
+
+
+class _Pair(Structure):
+    _fields_ = [("matrix", c_uint8 * 64), ("labels", c_uint8 * 8)]
+
+
+class _Key(Structure):
+    _fields_ = [("answer", c_uint8), ("t_values", c_uint8 * 8), ("pair", _Pair), ("second", c_uint8 * 64)]
+
+
+_BYTES = [c_char_p, c_size_t]
+_OUT = [POINTER(c_uint8), c_size_t]
+
+
+def _library():
+    folder = os.environ.get("WALNUT_LIB_DIR") or os.path.dirname(os.path.abspath(__file__))
+    return ctypes.CDLL(os.path.join(folder, "libwalnut.so"))
+
+
+_lib = _library()
+
+
+def _exported(name, result, *arguments):
+    function = getattr(_lib, "walnut_" + name)
+    function.restype = result
+    function.argtypes = [kind for argument in arguments for kind in (argument if isinstance(argument, list) else [argument])]
+    return function
+
+
+_product = _exported("product", _Element, c_uint8, c_uint8)
+_reciprocal = _exported("reciprocal", _Element, c_uint8)
+_start = _exported("start", _Pair)
+_multiply = _exported("multiply", c_uint8, POINTER(_Pair), c_char_p, c_uint8)
+_read_key = _exported("read_key", _Key, _BYTES)
+_write_key = _exported("write_key", c_uint8, c_char_p, c_char_p, c_char_p, c_char_p, _OUT)
+_read_word = _exported("read_word", _Number, _BYTES)
+_write_word = _exported("write_word", _Number, _BYTES, _OUT)
+_encode_digest = _exported("encode_digest", _Number, _BYTES, _OUT)
+_free_reduce = _exported("free_reduce", _Number, _BYTES, _OUT)
+_rewrite = _exported("rewrite", _Number, _BYTES, _BYTES, _OUT)
+_verify = _exported("verify", c_uint8, _BYTES, _BYTES, _BYTES)
+_cloaks = _exported("cloaks", _Cloak, _BYTES, _BYTES, _BYTES)
+
+
+def _granted(answer, value=None):
+    if answer:
+        raise Refusal(answer)
+    return value
+
+
+def _fixed(data, length, name):
+    """Bytes that the library takes as a fixed array."""
+    data = bytes(data)
+    if len(data) != length:
+        raise ValueError(f"{name}: {length} numbers are needed, not {len(data)}")
+    return data
+
+
+def _byte(number, name):
+    """A number that the library takes as a byte."""
+    if not 0 <= number <= 255:
+        raise ValueError(f"{name}: {number} is no byte")
+    return number
+
+
+def _slices(*parts):
+    """Each part's bytes and their number, one after another."""
+    passed = []
+    for part in parts:
+        part = bytes(part)
+        passed += [part, len(part)]
+    return passed
+
+
+def _word_written(function, *parts):
+    """What a writer of words wrote."""
+    out = (c_uint8 * WORD_BYTES)()
+    written = function(*_slices(*parts), out, WORD_BYTES)
+    return _granted(written.answer, bytes(out[: written.number]))
+
+
+class Pair:
+    """A matrix of 64 entries, row by row, and a list of eight labels."""
+
+    def __init__(self, matrix, labels):
+        self.matrix = _fixed(matrix, 64, "matrix")
+        self.labels = _fixed(labels, 8, "labels")
+
+    @classmethod
+    def start(cls):
+        """The starting pair: the identity matrix with the list 0 to 7."""
+        return cls._of(_start())
+
+    @classmethod
+    def _of(cls, pair):
+        return cls(pair.matrix, pair.labels)
+
+    def multiply(self, t_values, letter):
+        """Multiplies a letter, given by its code, into the pair. On a refusal the pair is as it was."""
+        lent = _Pair((c_uint8 * 64)(*self.matrix), (c_uint8 * 8)(*self.labels))
+        _granted(_multiply(lent, _fixed(t_values, 8, "t_values"), _byte(letter, "letter")))
+        self.matrix, self.labels = bytes(lent.matrix), bytes(lent.labels)
+
+    def __eq__(self, other):
+        if not isinstance(other, Pair):
+            return NotImplemented
+        return (self.matrix, self.labels) == (other.matrix, other.labels)
+
+    __hash__ = None
+
+
+class Key:
+    """A key: its T-values, the pair Pub(S) and the matrix of Pub(S')."""
+
+    def __init__(self, t_values, pair, second):
+        self.t_values = t_values
+        self.pair = pair
+        self.second = second
+
+
+def product(a, b):
+    """The product of two elements of the field."""
+    element = _product(_byte(a, "a"), _byte(b, "b"))
+    return _granted(element.answer, element.value)
+
+
+def reciprocal(a):
+    """The reciprocal of an element other than zero."""
+    element = _reciprocal(_byte(a, "a"))
+    return _granted(element.answer, element.value)
+
+
+def read_key(file):
+    """The key that a key file holds."""
+    key = _read_key(*_slices(file))
+    return _granted(key.answer, Key(bytes(key.t_values), Pair._of(key.pair), bytes(key.second)))
+
+
+def write_key(t_values, labels, first, second):
+    """The key file of T-values, labels and each matrix's 57 packed entries."""
+    out = (c_uint8 * KEY_BYTES)()
+    lists = [_fixed(t_values, 8, "t_values"), _fixed(labels, 8, "labels"), _fixed(first, 57, "first"), _fixed(second, 57, "second")]
+    return _granted(_write_key(*lists, out, KEY_BYTES), bytes(out))
+
+
+def read_word(file):
+    """The number of letters of a word file."""
+    word = _read_word(*_slices(file))
+    return _granted(word.answer, word.number)
+
+
+def write_word(codes):
+    """The word file of codes."""
+    return _word_written(_write_word, codes)
+
+
+def encode_digest(digest):
+    """The braid of a digest, as a word file."""
+    return _word_written(_encode_digest, digest)
+
+
+def free_reduce(word):
+    """The freely reduced word of a word file."""
+    return _word_written(_free_reduce, word)
+
+
+def rewrite(word, moves):
+    """The word file that the moves of a list leave."""
+    return _word_written(_rewrite, word, moves)
+
+
+def verify(key, digest, word):
+    """The verdict's answer: 0 if the word is a signature of the digest under the key, 14 if not, or the number of the refusal."""
+    return _verify(*_slices(key, digest, word))
+
+
+def cloaks(key, labels, word):
+    """Does the word cloak for the list under the key's T-values?"""
+    cloak = _cloaks(*_slices(key, labels, word))
+    return _granted(cloak.answer, cloak.yes)

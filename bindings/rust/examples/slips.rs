@@ -1,0 +1,72 @@
+//! Worked slips: fields, words, pairs, keys, moves, cloaking and the verdict.
+
+use walnut::{Pair, Refusal, KEY_BYTES, WORD_BYTES};
+
+const T_VALUES: [u8; 8] = [1, 1, 2, 3, 4, 5, 6, 7];
+const ORDER: [u8; 8] = [0, 1, 2, 3, 4, 5, 6, 7];
+
+/// Bytes as two hexadecimal digits each.
+fn hex(bytes: &[u8]) -> String {
+    bytes.iter().map(|byte| format!("{byte:02X}")).collect::<Vec<_>>().join(" ")
+}
+
+/// The number that the library answered.
+fn answer<T>(outcome: Result<T, Refusal>) -> u8 {
+    outcome.err().map_or(0, Refusal::number)
+}
+
+/// The key whose matrices are both the identity.
+fn plain_key() -> Result<[u8; KEY_BYTES], Refusal> {
+    let mut entries = [0; 57];
+    for row in 0..7 {
+        entries[9 * row] = 1;
+    }
+    entries[56] = 1;
+    let mut key = [0; KEY_BYTES];
+    walnut::write_key(&T_VALUES, &ORDER, &entries, &entries, &mut key)?;
+    Ok(key)
+}
+
+fn yes_or_no(yes: bool) -> &'static str {
+    if yes {
+        "yes"
+    } else {
+        "no"
+    }
+}
+
+fn main() -> Result<(), Refusal> {
+    println!("16 x 2 = {}", walnut::product(16, 2)?);
+    println!("31 x 31 = {}", walnut::product(31, 31)?);
+    println!("the reciprocal of 3 is {}", walnut::reciprocal(3)?);
+
+    let mut out = [0; WORD_BYTES];
+    let word = walnut::write_word(&[0, 9, 2, 3, 12, 5, 14], &mut out)?;
+    println!("b1 b2' b3 b4 b5' b6 b7' is {}", hex(word));
+    println!("its letters: {}", walnut::read_word(word)?);
+
+    let mut pair = Pair::start();
+    pair.multiply(&T_VALUES, 2)?;
+    let row: Vec<String> = pair.matrix[16..24].iter().map(u8::to_string).collect();
+    println!("row 3 after b3: {}", row.join(" "));
+
+    let key = plain_key()?;
+    println!("plain T-values pack to {}", hex(&key[3..8]));
+    println!("the list 0 to 7 packs to {}", hex(&key[44..47]));
+
+    let moved = walnut::rewrite(&[0, 3, 1, 0], &[0, 1, 0, 0, 3], &mut out)?;
+    println!("00 03 01 00 with kind 3 at place 0 gives {}", hex(moved));
+    println!("00 02 08 freely reduced is {}", hex(walnut::free_reduce(&[0, 2, 8], &mut out)?));
+
+    println!("b1 b1 cloaks: {}", yes_or_no(walnut::cloaks(&key, &ORDER, &[0, 2, 0x00])?));
+    println!("b3 b3 cloaks: {}", yes_or_no(walnut::cloaks(&key, &ORDER, &[0, 2, 0x22])?));
+    let refused = walnut::rewrite(&[0, 0], &[0, 1, 0, 1, 16], &mut out);
+    println!("00 00 with kind 16 at place 1: answer {}", answer(refused));
+
+    let mut signature = vec![0x00, 0x80];
+    signature.resize(66, 0x66);
+    let verdict = walnut::verify(&key, &[0; 32], &signature);
+    println!("plain key, zero digest, 00 80 and 64 bytes of 66: answer {}", answer(verdict));
+    println!("plain key, zero digest, 00 00: answer {}", answer(walnut::verify(&key, &[0; 32], &[0, 0])));
+    Ok(())
+}

@@ -1,0 +1,148 @@
+//! Safe functions over the proved library `walnut`: braid words, keys, E-multiplication and verdicts for WalnutDSA
+//! at strength 128.
+//!
+//! Every function takes any bytes. It gives its value, or the [`Refusal`] that holds the number of the first
+//! question that the input fails; on a refusal nothing that was lent is changed.
+
+mod exported;
+mod refusal;
+
+use exported::*;
+use refusal::granted;
+
+pub use refusal::Refusal;
+
+/// The bytes of a key file.
+pub const KEY_BYTES: usize = 83;
+
+/// The bytes of the longest word file, and so the least that an output for words must have.
+pub const WORD_BYTES: usize = 5002;
+
+/// A matrix, row by row, and a list of labels.
+#[repr(C)]
+#[derive(Clone, Copy, Debug, PartialEq, Eq)]
+pub struct Pair {
+    pub matrix: [u8; 64],
+    pub labels: [u8; 8],
+}
+
+/// A key: its T-values, the pair Pub(S) and the matrix of Pub(S').
+#[derive(Clone, Copy, Debug, PartialEq, Eq)]
+pub struct Key {
+    pub t_values: [u8; 8],
+    pub pair: Pair,
+    pub second: [u8; 64],
+}
+
+// In every function below the pointers come from references and slices that live through the call, each with its
+// own length, and what is written is lent uniquely. The exported functions take any bytes.
+
+/// The product of two elements of the field.
+pub fn product(a: u8, b: u8) -> Result<u8, Refusal> {
+    // SAFETY: numbers alone pass.
+    let element = unsafe { walnut_product(a, b) };
+    granted(element.answer, element.value)
+}
+
+/// The reciprocal of an element other than zero.
+pub fn reciprocal(a: u8) -> Result<u8, Refusal> {
+    // SAFETY: numbers alone pass.
+    let element = unsafe { walnut_reciprocal(a) };
+    granted(element.answer, element.value)
+}
+
+impl Pair {
+    /// The starting pair: the identity matrix with the list 0 to 7.
+    pub fn start() -> Pair {
+        // SAFETY: nothing passes.
+        unsafe { walnut_start() }
+    }
+
+    /// Multiplies a letter, given by its code, into the pair.
+    pub fn multiply(&mut self, t_values: &[u8; 8], letter: u8) -> Result<(), Refusal> {
+        // SAFETY: see above.
+        let answer = unsafe { walnut_multiply(self, t_values.as_ptr(), letter) };
+        granted(answer, ())
+    }
+}
+
+/// Reads a key file.
+pub fn read_key(file: &[u8]) -> Result<Key, Refusal> {
+    // SAFETY: see above.
+    let key = unsafe { walnut_read_key(file.as_ptr(), file.len()) };
+    granted(key.answer, Key { t_values: key.t_values, pair: key.pair, second: key.second })
+}
+
+/// Writes a key file to the output's first 83 bytes, from T-values, labels and each matrix's 57 packed entries.
+pub fn write_key(
+    t_values: &[u8; 8],
+    labels: &[u8; 8],
+    first: &[u8; 57],
+    second: &[u8; 57],
+    out: &mut [u8],
+) -> Result<(), Refusal> {
+    let (t_values, labels) = (t_values.as_ptr(), labels.as_ptr());
+    let (first, second) = (first.as_ptr(), second.as_ptr());
+    // SAFETY: see above.
+    let answer = unsafe { walnut_write_key(t_values, labels, first, second, out.as_mut_ptr(), out.len()) };
+    granted(answer, ())
+}
+
+/// Reads a word file: the number of its letters.
+pub fn read_word(file: &[u8]) -> Result<usize, Refusal> {
+    // SAFETY: see above.
+    let word = unsafe { walnut_read_word(file.as_ptr(), file.len()) };
+    granted(word.answer, word.number)
+}
+
+/// The part of the output that a writer of words wrote.
+fn written(written: Number, out: &mut [u8]) -> Result<&mut [u8], Refusal> {
+    granted(written.answer, written.number).map(|bytes| &mut out[..bytes])
+}
+
+/// Writes the word file of codes, one to a byte; gives the part of the output that holds it.
+pub fn write_word<'a>(codes: &[u8], out: &'a mut [u8]) -> Result<&'a mut [u8], Refusal> {
+    // SAFETY: see above.
+    let number = unsafe { walnut_write_word(codes.as_ptr(), codes.len(), out.as_mut_ptr(), out.len()) };
+    written(number, out)
+}
+
+/// Writes the braid of a digest as a word file; gives the part of the output that holds it.
+pub fn encode_digest<'a>(digest: &[u8], out: &'a mut [u8]) -> Result<&'a mut [u8], Refusal> {
+    // SAFETY: see above.
+    let number = unsafe { walnut_encode_digest(digest.as_ptr(), digest.len(), out.as_mut_ptr(), out.len()) };
+    written(number, out)
+}
+
+/// Writes the freely reduced word of a word file; gives the part of the output that holds it.
+pub fn free_reduce<'a>(word: &[u8], out: &'a mut [u8]) -> Result<&'a mut [u8], Refusal> {
+    // SAFETY: see above.
+    let number = unsafe { walnut_free_reduce(word.as_ptr(), word.len(), out.as_mut_ptr(), out.len()) };
+    written(number, out)
+}
+
+/// Makes the moves of a list on a word file; gives the part of the output that holds the new word.
+pub fn rewrite<'a>(word: &[u8], moves: &[u8], out: &'a mut [u8]) -> Result<&'a mut [u8], Refusal> {
+    let (list, len) = (moves.as_ptr(), moves.len());
+    // SAFETY: see above.
+    let number = unsafe { walnut_rewrite(word.as_ptr(), word.len(), list, len, out.as_mut_ptr(), out.len()) };
+    written(number, out)
+}
+
+/// The verdict: is the word a signature of the digest under the key? [`Refusal::MATRICES_DIFFER`] if it is not.
+pub fn verify(key: &[u8], digest: &[u8], word: &[u8]) -> Result<(), Refusal> {
+    let (file, bytes) = (key.as_ptr(), key.len());
+    // SAFETY: see above.
+    let answer =
+        unsafe { walnut_verify(file, bytes, digest.as_ptr(), digest.len(), word.as_ptr(), word.len()) };
+    granted(answer, ())
+}
+
+/// Does the word cloak for the list under the key's T-values?
+pub fn cloaks(key: &[u8], labels: &[u8], word: &[u8]) -> Result<bool, Refusal> {
+    let (file, bytes) = (key.as_ptr(), key.len());
+    // SAFETY: see above.
+    let cloak =
+        unsafe { walnut_cloaks(file, bytes, labels.as_ptr(), labels.len(), word.as_ptr(), word.len()) };
+    granted(cloak.answer, cloak.yes)
+}

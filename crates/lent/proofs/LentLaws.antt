@@ -1,0 +1,25 @@
+-- What the multiplier by value gives, taken to a lent pair: the pair with the letter multiplied in on answer 0, and the pair as it was on a refusal.
+-- Assumes nothing.
+use Prim.Native.Nat.{ℕ}
+use mathlib.Core.Path.{_≡_, refl, sym, _∙_}
+use mathlib.Core.List.{List}
+use Rattle.base.specs.Questions.{firstNo}
+use Rattle.base.proofs.QuestionLaws.{granted-zero, granted-refused}
+use Rattle.field.specs.Gf32.{gf32}
+use Rattle.action.specs.declared.Pair.{Pair}
+use Rattle.action.specs.Action.{letterOn}
+use Rattle.action.specs.Multiplier.{multiplierQuestions, zeroPair, Multiplies}
+use Rattle.lent.specs.Lent.{Lends}
+
+module _ {p : Pair} {ts : List ℕ} {c answer : ℕ} {after : Pair} (m : Multiplies p ts c answer after) where
+  -- a refusal: the pair itself
+  pub kept : (answer ≡ 0 → ⊥) → Lends p ts c answer p
+  kept n = record { answer-is = m .answer-is; pair-is = sym (granted-refused (letterOn gf32 ts c p) p (λ z. n (m .answer-is ∙ z))) }
+
+  -- answer 0: what the multiplier gives
+  pub changed : answer ≡ 0 → Lends p ts c answer after
+  changed z =
+      let e = sym (m .answer-is) ∙ z in record {
+        answer-is = m .answer-is;
+        pair-is = m .pair-is ∙ granted-zero (letterOn gf32 ts c p) zeroPair e ∙ sym (granted-zero (letterOn gf32 ts c p) p e);
+      }

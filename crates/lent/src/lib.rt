@@ -1,0 +1,25 @@
+// The lent pair: the caller lends its pair, and one letter changes it.
+use action::Pair;
+ghost use Rattle.lent.specs.Lent.{Lends};
+
+// A number, and the pair that goes back to the caller.
+pub struct Stepped {
+    pub answer: u8,
+    pub pair: Pair,
+}
+
+// The letter multiplied into the pair; the pair itself on a refusal.
+pub fn step(pair: Pair, t_values: &[u8; 8], letter: u8) -> Stepped
+    ensures { λ r. ⌜ Lends pair (now («t_values» .entry)) letter (r .answer) (r .pair) ⌝ }
+{
+    let multiplied = action::multiply(pair, t_values, letter);
+    let answer = multiplied.answer;
+    let after = multiplied.pair;
+    if answer != 0 {
+        return Stepped { answer, pair };
+    }
+    Stepped {
+        answer,
+        pair: after,
+    }
+}

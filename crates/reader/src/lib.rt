@@ -1,0 +1,119 @@
+// A reader of words: it keeps the file and the next letter's place. Past the last letter it says that none is left, and stays.
+// The work is done by functions over a plain slice and a number; the functions over the reader only take it apart, call one of
+// them, and put it together again.
+use braid::Letter;
+ghost use Prim.Native.Nat.{_≤_, _<_};
+ghost use mathlib.Core.Path.{_≡_};
+ghost use lib.ListN.{length};
+ghost use Rattle.braid.specs.Words.{stated, codes, LetterAt};
+ghost use Rattle.reader.specs.Reader.{opened, readAt, nextPlace};
+
+// The file is an accepted word file, or the empty part of a refused one, which has no letters.
+pub struct WordReader<'a> {
+    pub file: &'a [u8],
+    pub at: usize,
+}
+
+// The number of letters that a file states in its first two bytes.
+fn number(file: &[u8]) -> usize
+    requires { ⌜ 2 ≤ length (now file) ⌝ }
+    ensures { λ r. ⌜ (r ≡ stated (now (file .entry))) × (r < 65536) ⌝ }
+{
+    file[0] as usize * 256 + file[1] as usize
+}
+
+// How many codes a file has: as many as it states, or all its half bytes where they are fewer.
+fn count(file: &[u8]) -> usize
+    ensures { λ r. ⌜ (r ≡ length (codes (now (file .entry)))) × (r < 65536) ⌝ }
+{
+    if file.len() < 2 {
+        return 0;
+    }
+    let n = number(file);
+    let bytes = file.len() - 2;
+    if bytes < (n + 1) / 2 {
+        return 2 * bytes;
+    }
+    n
+}
+
+// The file itself if it is accepted as a word; its empty part if not.
+pub fn kept(file: &[u8]) -> &[u8]
+    ensures { λ r. ⌜ now r ≡ opened (now (file .entry)) ⌝ }
+{
+    let w = braid::read_word(file);
+    if w.answer == 0 {
+        return file;
+    }
+    &file[..0]
+}
+
+// The letter at a place of a file, which is not tested again.
+pub fn letter_of(file: &[u8], at: usize) -> Letter
+    ensures { λ r. ⌜ r ≡ readAt (now (file .entry)) at ⌝ }
+{
+    let n = count(file);
+    if n <= at {
+        return Letter {
+            left: false,
+            code: 0,
+        };
+    }
+    let part = &file[2..];
+    let code = braid::half(part, at);
+    Letter { left: true, code }
+}
+
+// The place after a place: past the last letter it stays.
+pub fn next_place(file: &[u8], at: usize) -> usize
+    ensures { λ r. ⌜ r ≡ nextPlace (now (file .entry)) at ⌝ }
+{
+    let n = count(file);
+    if at < n { at + 1 } else { at }
+}
+
+// A reader at the first letter of a word file; on a refusal it has no letters. The answer's number is the word reader's.
+pub fn open<'a>(file: &'a [u8]) -> WordReader<'a>
+    ensures { λ r. ⌜ (now (r .file) ≡ opened (now (file .entry))) × (r .at ≡ 0) ⌝ }
+{
+    WordReader {
+        file: kept(file),
+        at: 0,
+    }
+}
+
+// The next letter, or that none is left.
+pub fn next<'a>(r: WordReader<'a>) -> Letter
+    ensures { λ t. ⌜ t ≡ readAt (now (r .entry .file)) (r .entry .at) ⌝ }
+{
+    letter_of(r.file, r.at)
+}
+
+// The reader moved on by one letter; past the last letter it stays.
+pub fn moved_on<'a>(r: WordReader<'a>) -> WordReader<'a>
+    ensures { λ q. ⌜ (q .file ≡ r .entry .file) × (q .at ≡ nextPlace (now (r .entry .file)) (r .entry .at)) ⌝ }
+{
+    let at = next_place(r.file, r.at);
+    WordReader { file: r.file, at }
+}
+
+// The second letter, through the reader: its parameter is a plain slice, so whoever calls it knows nothing of readers.
+pub fn second(file: &[u8]) -> Letter
+    ensures { λ t. ⌜ LetterAt (now (file .entry)) 1 (t .left) (t .code) ⌝ }
+{
+    next(moved_on(open(file)))
+}
+
+// The letter that stands k moves after the first one.
+pub fn nth(file: &[u8], k: usize) -> Letter
+    ensures { λ t. ⌜ LetterAt (now (file .entry)) k (t .left) (t .code) ⌝ }
+{
+    let word = kept(file);
+    let mut at = 0;
+    let mut i = 0;
+    while i < k {
+        at = next_place(word, at);
+        i += 1;
+    }
+    letter_of(word, at)
+}

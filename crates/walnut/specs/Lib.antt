@@ -1,0 +1,3 @@
+-- Definitions of the exported interface.
+-- Assumes nothing.
+pub mod Exported

@@ -1,0 +1,140 @@
+// The exported functions: thin, one for each operation, with the contract of the function that they pass on. include/walnut.h states them in C.
+// Slices pass as a pointer and a length, fixed arrays as a pointer, structs by value in C's layout.
+ghost use mathlib.Core.Path.{_≡_};
+ghost use lib.ListN.{length};
+ghost use Rattle.field.specs.Gf32.{gf32, productQuestions, reciprocalQuestions, Gives};
+ghost use Rattle.braid.specs.Words.{codes, wordFile, writerQuestions, Read, Wrote};
+ghost use Rattle.braid.specs.Reduction.{reduced, reducerQuestions};
+ghost use Rattle.action.specs.Action.{start};
+ghost use Rattle.lent.specs.Lent.{Lends};
+ghost use Rattle.key.specs.Keys.{ReadsKey, keyFile, keyWriterQuestions, WroteKey};
+ghost use Rattle.digest.specs.Digest.{encoded, encoderQuestions};
+ghost use Rattle.verify.specs.Verdict.{verdict};
+ghost use Rattle.verify.specs.Cloaking.{Cloaks};
+ghost use Rattle.moves.specs.Meaning.{Rewrote};
+ghost use Rattle.walnut.specs.Exported.{keyFrom};
+use action::Pair;
+use braid::Word;
+use braid::Written;
+use field::Element;
+use verify::Cloak;
+
+// What the key reader gives: its answer, then T-values, the pair Pub(S) and the matrix of Pub(S'), all zeros on a refusal.
+#[repr(C)]
+pub struct KeyRead {
+    pub answer: u8,
+    pub t_values: [u8; 8],
+    pub pair: Pair,
+    pub second: [u8; 64],
+}
+
+#[no_mangle]
+pub extern "C" fn walnut_product(a: u8, b: u8) -> Element
+    ensures { λ r. ⌜ Gives (productQuestions a b) (gf32 .mul a b) (r .answer) (r .value) ⌝ }
+{
+    field::product(a, b)
+}
+
+#[no_mangle]
+pub extern "C" fn walnut_reciprocal(a: u8) -> Element
+    ensures { λ r. ⌜ Gives (reciprocalQuestions a) (gf32 .inv a) (r .answer) (r .value) ⌝ }
+{
+    field::reciprocal(a)
+}
+
+#[no_mangle]
+pub extern "C" fn walnut_start() -> Pair
+    ensures { λ r. ⌜ r ≡ start ⌝ }
+{
+    Pair::start()
+}
+
+// The caller lends its pair, and the letter changes it. On a refusal the pair is as it was.
+#[no_mangle]
+pub extern "C" fn walnut_multiply(pair: &mut Pair, t_values: &[u8; 8], letter: u8) -> u8
+    ensures { λ r. ⌜ Lends (now (pair .entry)) (now («t_values» .entry)) letter r (now (pair .exit)) ⌝ }
+{
+    let stepped = lent::step(*pair, t_values, letter);
+    *pair = stepped.pair;
+    stepped.answer
+}
+
+#[no_mangle]
+pub extern "C" fn walnut_read_key(file: &[u8]) -> KeyRead
+    ensures { λ r. ⌜ ReadsKey (now (file .entry)) (r .answer) (keyFrom (r .«t_values») (r .pair) (r .second)) ⌝ }
+{
+    let read = key::read_key(file);
+    let held = read.key;
+    let answer = read.answer;
+    let t_values = held.t_values;
+    let pair = held.pair;
+    let second = held.second;
+    KeyRead {
+        answer,
+        t_values,
+        pair,
+        second,
+    }
+}
+
+#[no_mangle]
+pub extern "C" fn walnut_write_key(
+    t_values: &[u8; 8],
+    labels: &[u8; 8],
+    first: &[u8; 57],
+    second: &[u8; 57],
+    out: &mut [u8],
+) -> u8
+    ensures { λ r. ⌜ WroteKey (keyWriterQuestions (length (now (out .entry))) (now («t_values» .entry)) (now (labels .entry)) (now (first .entry)) (now (second .entry))) (keyFile (now («t_values» .entry)) (now (labels .entry)) (now (first .entry)) (now (second .entry))) (now (out .entry)) (now (out .exit)) r ⌝ }
+{
+    key::write_key(t_values, labels, first, second, out)
+}
+
+#[no_mangle]
+pub extern "C" fn walnut_read_word(file: &[u8]) -> Word
+    ensures { λ r. ⌜ Read (now (file .entry)) (r .answer) (r .letters) ⌝ }
+{
+    braid::read_word(file)
+}
+
+#[no_mangle]
+pub extern "C" fn walnut_write_word(codes: &[u8], out: &mut [u8]) -> Written
+    ensures { λ r. ⌜ Wrote (writerQuestions (length (now (out .entry))) (now (codes .entry))) (wordFile (now (codes .entry))) (now (out .entry)) (now (out .exit)) (r .answer) (r .bytes) ⌝ }
+{
+    braid::write_word(codes, out)
+}
+
+#[no_mangle]
+pub extern "C" fn walnut_encode_digest(digest: &[u8], out: &mut [u8]) -> Written
+    ensures { λ r. ⌜ Wrote (encoderQuestions (length (now (out .entry))) (now (digest .entry))) (wordFile (encoded (now (digest .entry)))) (now (out .entry)) (now (out .exit)) (r .answer) (r .bytes) ⌝ }
+{
+    digest::encode(digest, out)
+}
+
+#[no_mangle]
+pub extern "C" fn walnut_free_reduce(word: &[u8], out: &mut [u8]) -> Written
+    ensures { λ r. ⌜ Wrote (reducerQuestions (length (now (out .entry))) (now (word .entry))) (wordFile (reduced (codes (now (word .entry))))) (now (out .entry)) (now (out .exit)) (r .answer) (r .bytes) ⌝ }
+{
+    braid::free_reduce(word, out)
+}
+
+#[no_mangle]
+pub extern "C" fn walnut_rewrite(word: &[u8], moves: &[u8], out: &mut [u8]) -> Written
+    ensures { λ r. ⌜ Rewrote (now (word .entry)) (now (moves .entry)) (now (out .entry)) (now (out .exit)) (r .answer) (r .bytes) ⌝ }
+{
+    moves::rewrite(word, moves, out)
+}
+
+#[no_mangle]
+pub extern "C" fn walnut_verify(key: &[u8], digest: &[u8], word: &[u8]) -> u8
+    ensures { λ r. ⌜ r ≡ verdict (now (key .entry)) (now (digest .entry)) (now (word .entry)) ⌝ }
+{
+    verify::verify(key, digest, word)
+}
+
+#[no_mangle]
+pub extern "C" fn walnut_cloaks(key: &[u8], labels: &[u8], word: &[u8]) -> Cloak
+    ensures { λ r. ⌜ Cloaks (now (key .entry)) (now (labels .entry)) (now (word .entry)) (r .answer) (r .yes) ⌝ }
+{
+    verify::cloaks(key, labels, word)
+}

@@ -1,0 +1,106 @@
+/*
+ * walnut: braid words, keys, E-multiplication and verdicts for WalnutDSA at strength 128 (eight strands, the field with 32 elements).
+ *
+ * Every function takes any bytes. Its answer is 0, or the number of the first question, in the order listed with each function, that its
+ * input fails; the questions are named below. On an answer other than 0 nothing that was lent is changed, and all else that is returned is
+ * zeros (for a yes or no: no). Nothing is allocated and nothing is kept between calls, so calls from several threads do not disturb each
+ * other. A pointer with a length may be anything but null, even where the length is 0; what is written may not overlap what is read.
+ *
+ *    1  the key file is not 83 bytes              14  the matrices differ: not a signature of this digest under this key
+ *    2  N is not 8                                15  the output has fewer than 5,002 bytes
+ *    3  q is not 32                               16  the key's output has fewer than 83 bytes
+ *    4  a T-value, or the operand, is zero        17  a number is over 31: no element of the field
+ *    5  the first two T-values are not 1          18  the move list has fewer than 2 bytes
+ *    6  the list is not 0 to 7, each once         19  the move list states more than 4,096 moves
+ *    7  filler bits of the key are not zero       20  the move list's length is not what its number needs
+ *    8  the digest is not 32 bytes                21  a move's kind is none
+ *    9  the word has fewer than 2 bytes           22  the letters that a move needs do not exist
+ *   10  more than 10,000 letters                  23  the letters at a move's place have not its shape
+ *   11  the word's length is not what it needs    24  an insertion would leave more than 10,000 letters
+ *   12  a code is no letter                       25  the labels are not 8 bytes, 0 to 7 each once
+ *   13  an odd word's last half byte is not 0
+ */
+#ifndef WALNUT_H
+#define WALNUT_H
+
+#include <stdbool.h>
+#include <stddef.h>
+#include <stdint.h>
+
+#ifdef __cplusplus
+extern "C" {
+#endif
+
+/* Bytes of a key file, and of the longest word file: the least that the writers' outputs must have. */
+#define WALNUT_KEY_BYTES 83
+#define WALNUT_WORD_BYTES 5002
+#define WALNUT_DIGEST_BYTES 32
+#define WALNUT_LETTERS 10000
+#define WALNUT_MOVES 4096
+
+/* An element of the field; 0 on a refusal. */
+typedef struct { uint8_t answer; uint8_t value; } walnut_element;
+
+/* The number of a word's letters; 0 on a refusal. */
+typedef struct { uint8_t answer; size_t letters; } walnut_word;
+
+/* The number of bytes written to the front of the output; 0 on a refusal. The bytes after them do not change. */
+typedef struct { uint8_t answer; size_t bytes; } walnut_written;
+
+/* Does the word cloak? No on a refusal. */
+typedef struct { uint8_t answer; bool yes; } walnut_cloak;
+
+/* A matrix row by row, entry (r, c) at 8 * (r - 1) + (c - 1), and a list of labels. */
+typedef struct { uint8_t matrix[64]; uint8_t labels[8]; } walnut_pair;
+
+/* A key: its T-values, the pair Pub(S) and the matrix of Pub(S'), all zeros on a refusal. */
+typedef struct { uint8_t answer; uint8_t t_values[8]; walnut_pair pair; uint8_t second[64]; } walnut_key;
+
+/* The product of two elements. Answers: 17, 0. Changes nothing. */
+walnut_element walnut_product(uint8_t a, uint8_t b);
+
+/* The reciprocal of an element other than zero. Answers: 17, 4, 0. Changes nothing. */
+walnut_element walnut_reciprocal(uint8_t a);
+
+/* The starting pair: the identity matrix with the list 0 to 7. It has no answer, and changes nothing. */
+walnut_pair walnut_start(void);
+
+/* Multiplies a letter, given by its code, into the lent pair. Answers: 17, 4, 6, 12, 0. Changes *pair on 0 alone. */
+uint8_t walnut_multiply(walnut_pair *pair, const uint8_t t_values[8], uint8_t letter);
+
+/* Reads a key file. Answers: 1, 2, 3, 4, 5, 6, 7, 0. Changes nothing. */
+walnut_key walnut_read_key(const uint8_t *file, size_t len);
+
+/* Writes a key file from T-values, labels and the 57 packed entries of each matrix (rows 1 to 7 whole, then the last entry of row 8).
+   Answers: 16, 17, 4, 5, 6, 0. Changes the first 83 bytes of out on 0 alone. */
+uint8_t walnut_write_key(const uint8_t t_values[8], const uint8_t labels[8],
+                         const uint8_t first[57], const uint8_t second[57], uint8_t *out, size_t len);
+
+/* Reads a word file: how many letters it has. Answers: 9, 10, 11, 12, 13, 0. Changes nothing. */
+walnut_word walnut_read_word(const uint8_t *file, size_t len);
+
+/* Writes the word file of n codes, one to a byte. Answers: 15, 10, 12, 0. Changes the reported bytes of out on 0 alone. */
+walnut_written walnut_write_word(const uint8_t *codes, size_t n, uint8_t *out, size_t len);
+
+/* Writes the braid of a digest as a word file; nothing is cancelled. Answers: 15, 8, 0. Changes the reported bytes of out on 0 alone. */
+walnut_written walnut_encode_digest(const uint8_t *digest, size_t n, uint8_t *out, size_t len);
+
+/* Writes the freely reduced word of a word file. Answers: 15, 9, 10, 11, 12, 13, 0. Changes the reported bytes of out on 0 alone. */
+walnut_written walnut_free_reduce(const uint8_t *word, size_t n, uint8_t *out, size_t len);
+
+/* Makes the moves of a list on a word file, one after another, and writes the word that they leave. Answers: 15, 9, 10, 11, 12, 13, 18, 19,
+   20, then move by move 21, 22, 23, 24, or 0. Changes the reported bytes of out on 0 alone. */
+walnut_written walnut_rewrite(const uint8_t *word, size_t n, const uint8_t *moves, size_t m, uint8_t *out, size_t len);
+
+/* The verdict: is the word a signature of the digest under the key? Answers: 1 to 14, 0 for yes. Changes nothing. */
+uint8_t walnut_verify(const uint8_t *key, size_t kn, const uint8_t *digest, size_t dn, const uint8_t *word, size_t wn);
+
+/* Does the word cloak for the list under the key's T-values: does it bring the identity matrix with that list back unchanged?
+   Answers: 1 to 7, 25, 9, 10, 11, 12, 13, 0. Changes nothing. */
+walnut_cloak walnut_cloaks(const uint8_t *key, size_t kn, const uint8_t *labels, size_t ln, const uint8_t *word, size_t wn);
+
+#ifdef __cplusplus
+}
+#endif
+
+#endif

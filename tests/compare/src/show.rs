@@ -1,0 +1,69 @@
+//! Inputs and outcomes in print.
+
+use crate::case::{Input, Outcome, GUARD};
+use crate::paper::Operation;
+
+/// Bytes in hexadecimal; four and more equal ones in a row as one of them with their number.
+fn hex(bytes: &[u8]) -> String {
+    let runs = bytes.chunk_by(|a, b| a == b).map(|run| match run.len() {
+        length @ 4.. => format!("{:02X}*{length}", run[0]),
+        length => vec![format!("{:02X}", run[0]); length].join(" "),
+    });
+    let text = runs.collect::<Vec<String>>().join(" ");
+    if text.is_empty() {
+        "-".to_string()
+    } else {
+        text
+    }
+}
+
+/// The operation and what it takes, one part to a line, with the number of its bytes in brackets.
+pub fn input(input: &Input) -> String {
+    let mut text = format!("walnut_{}\n", input.operation.name());
+    for (part, bytes) in input.operation.parts().iter().zip(&input.parts) {
+        text += &format!("  {} [{}]: {}\n", part.name, bytes.len(), hex(bytes));
+    }
+    if input.operation.least_room().is_some() {
+        text += &format!("  output [{}]\n", input.room);
+    }
+    text
+}
+
+/// What the number of an outcome is.
+fn number_name(operation: Operation) -> Option<&'static str> {
+    match operation {
+        Operation::Product | Operation::Reciprocal => Some("value"),
+        Operation::ReadWord => Some("letters"),
+        Operation::WriteWord | Operation::EncodeDigest | Operation::FreeReduce | Operation::Rewrite => {
+            Some("bytes")
+        }
+        Operation::Cloaks => Some("yes"),
+        _ => None,
+    }
+}
+
+/// The answer and the number.
+pub fn outcome(input: &Input, outcome: &Outcome) -> String {
+    let number = number_name(input.operation).map(|name| format!(", {name} {}", outcome.number));
+    format!("answer {}{}", outcome.answer, number.unwrap_or_default())
+}
+
+/// Where a byte of an outcome stands.
+fn place_name(input: &Input, place: usize) -> String {
+    match input.operation.least_room() {
+        None => format!("returned or lent byte {place}"),
+        Some(_) if place < GUARD => format!("byte {} before the output", GUARD - place),
+        Some(_) if place < GUARD + input.room => format!("output byte {}", place - GUARD),
+        Some(_) => format!("byte {} past the output", place - GUARD - input.room),
+    }
+}
+
+/// The first byte in which the outcomes differ, with how many differ in all.
+pub fn difference(input: &Input, reference: &Outcome, library: &Outcome) -> Option<String> {
+    let pairs = || reference.bytes.iter().zip(&library.bytes);
+    let place = pairs().position(|(a, b)| a != b)?;
+    let count = pairs().filter(|(a, b)| a != b).count();
+    let name = place_name(input, place);
+    let (left, right) = (reference.bytes[place], library.bytes[place]);
+    Some(format!("{name}: reference {left:02X}, library {right:02X}; bytes that differ: {count}"))
+}

@@ -1,0 +1,219 @@
+//! Makes a failing input smaller while it still fails: cuts letters, moves and bytes, lowers numbers.
+
+mod items;
+mod joint;
+
+use std::time::{Duration, Instant};
+
+use reference::testkit::move_list;
+
+use crate::case::Input;
+use crate::paper::Form;
+use items::{filler, move_items, word_items, word_of, Item};
+
+/// The longest time that is spent on it.
+const PATIENCE: Duration = Duration::from_secs(20);
+
+/// The smallest input that is found to fail as this one does.
+pub fn smallest(input: Input, fails: &dyn Fn(&Input) -> bool) -> Input {
+    let shrinker = Shrinker { fails, end: Instant::now() + PATIENCE };
+    let mut input = input;
+    loop {
+        let smaller = shrinker.pass(input.clone());
+        if smaller == input {
+            return input;
+        }
+        input = smaller;
+    }
+}
+
+/// The input with another part.
+fn with_part(input: &Input, place: usize, part: Vec<u8>) -> Input {
+    let mut other = input.clone();
+    other.parts[place] = part;
+    other
+}
+
+/// The test of an input, and the time when it is no longer made.
+struct Shrinker<'a> {
+    fails: &'a dyn Fn(&Input) -> bool,
+    end: Instant,
+}
+
+impl Shrinker<'_> {
+    /// Is there still time?
+    fn has_time(&self) -> bool {
+        Instant::now() < self.end
+    }
+
+    /// Does it still fail, and is there still time?
+    fn fails(&self, input: &Input) -> bool {
+        self.has_time() && (self.fails)(input)
+    }
+
+    /// The output and each part made smaller once; moves and digests before words, which take longest.
+    fn pass(&self, input: Input) -> Input {
+        let places = 0..input.parts.len();
+        let input = places.clone().fold(self.room(input), |input, place| self.plain(input, place));
+        let input = self.solved_again(input);
+        let (words, others): (Vec<usize>, Vec<usize>) =
+            places.partition(|place| input.operation.parts()[*place].form == Form::Word);
+        let input = others.into_iter().fold(input, |input, place| self.part(input, place));
+        let input = words.iter().fold(input, |input, place| self.plain(input, *place));
+        let input = self.letters_and_places(input);
+        words.into_iter().fold(input, |input, place| self.part(input, place))
+    }
+
+    /// The output made smaller.
+    fn room(&self, input: Input) -> Input {
+        let least = input.operation.least_room().unwrap_or(0);
+        let rooms =
+            [0, least.saturating_sub(1), least, least + 1].into_iter().filter(|room| *room < input.room);
+        let mut smaller = rooms.map(|room| Input { room, ..input.clone() });
+        smaller.find(|smaller| self.fails(smaller)).unwrap_or(input)
+    }
+
+    /// One part as plain as can be: all zeros, zeros but for the number at its head, or the numbers from 0 on.
+    fn plain(&self, input: Input, place: usize) -> Input {
+        let part = &input.parts[place];
+        let head = part.iter().enumerate().map(|(place, byte)| if place < 2 { *byte } else { 0 }).collect();
+        let counted = (0..part.len()).map(|number| number as u8).collect();
+        let plain = [vec![0; part.len()], head, counted].into_iter().filter(|plain| plain < part);
+        let mut smaller = plain.map(|plain| with_part(&input, place, plain));
+        smaller.find(|smaller| self.fails(smaller)).unwrap_or(input)
+    }
+
+    /// One part, cut and lowered.
+    fn part(&self, input: Input, place: usize) -> Input {
+        let part = input.parts[place].clone();
+        let plain = |bytes: &[u8]| bytes.to_vec();
+        match input.operation.parts()[place].form {
+            Form::Fixed(_) => {
+                let fails = |bytes: &[u8]| self.fails(&with_part(&input, place, bytes.to_vec()));
+                with_part(&input, place, lower(part, &fails))
+            }
+            Form::Word => match word_items(&part) {
+                Some(letters) => self.items(input, place, letters, &|items| word_of(items, filler(&part))),
+                None => self.items(input, place, part, &plain),
+            },
+            Form::Moves => match move_items(&part) {
+                Some(moves) => self.items(input, place, moves, &move_list),
+                None => self.items(input, place, part, &plain),
+            },
+            Form::Bytes => self.items(input, place, part, &plain),
+        }
+    }
+
+    /// One part, cut and lowered item by item.
+    fn items<T: Item>(
+        &self,
+        input: Input,
+        place: usize,
+        items: Vec<T>,
+        file: &dyn Fn(&[T]) -> Vec<u8>,
+    ) -> Input {
+        let fails = |items: &[T]| self.fails(&with_part(&input, place, file(items)));
+        let items = lower(cut(items, &fails), &fails);
+        with_part(&input, place, file(&items))
+    }
+}
+
+/// The items without all those that can be cut: longer runs are tried first.
+fn cut<T: Item>(mut items: Vec<T>, fails: &dyn Fn(&[T]) -> bool) -> Vec<T> {
+    let mut size = items.len();
+    while size > 0 {
+        let mut from = 0;
+        while from < items.len() {
+            let mut shorter = items.clone();
+            shorter.drain(from..items.len().min(from + size));
+            if fails(&shorter) {
+                items = shorter;
+            } else {
+                from += size;
+            }
+        }
+        size /= 2;
+    }
+    items
+}
+
+/// The items, lowered as far as can be: runs of them at once, longer ones first, and then each.
+fn lower<T: Item>(mut items: Vec<T>, fails: &dyn Fn(&[T]) -> bool) -> Vec<T> {
+    let mut size = items.len();
+    while size > 1 {
+        for from in (0..items.len()).step_by(size) {
+            let end = items.len().min(from + size);
+            let mut lower = items.clone();
+            lower[from..end].fill(T::LEAST);
+            if lower != items && fails(&lower) {
+                items = lower;
+            }
+        }
+        size /= 2;
+    }
+    (0..items.len()).fold(items, |items, place| lower_one(items, place, fails))
+}
+
+/// The items, one of them lowered as far as can be.
+fn lower_one<T: Item>(mut items: Vec<T>, place: usize, fails: &dyn Fn(&[T]) -> bool) -> Vec<T> {
+    let old = items[place];
+    for item in old.lower() {
+        items[place] = item;
+        if fails(&items) {
+            return items;
+        }
+    }
+    items[place] = old;
+    items
+}
+
+#[cfg(test)]
+mod tests {
+    use super::*;
+    use crate::paper::Operation;
+
+    fn rewriting(word: Vec<u8>, moves: Vec<u8>) -> Input {
+        Input { operation: Operation::Rewrite, parts: vec![word, moves], room: 5_100, fill: 0 }
+    }
+
+    /// Letters, moves and the output shrink to what the failure needs.
+    #[test]
+    fn letters_and_moves_are_cut() {
+        let input = rewriting(vec![0, 5, 0x12, 0x3E, 0x40], vec![0, 2, 0, 1, 0, 3, 2, 22]);
+        let fails = |input: &Input| {
+            let letters = word_items(&input.parts[0]);
+            let moves = move_items(&input.parts[1]);
+            letters.is_some_and(|letters| letters.contains(&0xE))
+                && moves.is_some_and(|moves| moves.iter().any(|step| step.kind == 22))
+        };
+        let smallest = smallest(input, &fails);
+        assert_eq!(smallest.parts, [vec![0, 1, 0xE0], vec![0, 1, 0, 0, 22]]);
+        assert_eq!(smallest.room, 0);
+    }
+
+    /// A move keeps its letters when those before it are cut.
+    #[test]
+    fn places_follow_the_letters() {
+        let input = rewriting(vec![0, 6, 0x11, 0x11, 0x08], vec![0, 1, 0, 4, 1]);
+        let fails = |input: &Input| {
+            let mut out = vec![0; 5_002];
+            reference::rewrite(&input.parts[0], &input.parts[1], &mut out).answer == 0
+                && input.parts[1].len() == 5
+                && input.parts[1][4] == 1
+        };
+        assert_eq!(smallest(input, &fails).parts, [vec![0, 2, 0x08], vec![0, 1, 0, 0, 1]]);
+    }
+
+    /// Damaged files shrink byte by byte, fixed parts keep their length.
+    #[test]
+    fn bytes_and_fixed_parts() {
+        let input =
+            Input { operation: Operation::ReadWord, parts: vec![vec![9, 9, 9, 7, 9]], room: 0, fill: 0 };
+        assert_eq!(smallest(input, &|input| input.parts[0].contains(&7)).parts, [[7]]);
+        let parts = vec![vec![9; 64], vec![7, 6, 5, 4, 3, 2, 1, 0], vec![3; 8], vec![14]];
+        let input = Input { operation: Operation::Multiply, parts, room: 0, fill: 0 };
+        let labels = vec![0, 1, 2, 3, 4, 5, 6, 7];
+        let fails = |input: &Input| reference::questions::is_each_label_once(&input.parts[1]);
+        assert_eq!(smallest(input, &fails).parts, [vec![0; 64], labels, vec![0; 8], vec![0]]);
+    }
+}
