@@ -34,7 +34,7 @@ move-at-requires : tie.Need-move-at-requires Inv-loop μ-loop
 move-at-requires c κs =
     let l = c .before .before .loop in
     let s = c .before .before .before .before .before .before in
-    (l .inv .2, l .inv .3 ∙ s .pre .1, s .pre .2, omega arith)
+    (omega arith, l .inv .3 ∙ s .pre .1, s .pre .2, omega arith)
 
 same-length : tie.Need-same-length Inv-loop μ-loop
 same-length c = c .before .before .before .before .move-at .kept .0 ∙ c .before .before .before .before .before .before .before .loop .inv .3
@@ -44,8 +44,9 @@ returns c =
     let t = c .before .before .before .before .before .before in
     let l = t .before .loop in
     let a = c .before .before .before .before .before .before .before .before .before .before .before .args in
-    stops (a .moves .now) (l .codes) (t .before .before .two .result) (l .k) (l .letters) (l .inv .4) (t .loop-test .taken) (c .if1 .taken)
-    (c .before .before .before .before .move-at .ensures)
+    let m = c .before .before .before .before .move-at in
+    let refused : (m .result .answer ≡ 0 → ⊥) = omega arith in
+    stops (a .moves .now) (l .codes) (t .before .before .two .result) (l .k) (l .letters) (l .inv .4) (t .loop-test .taken) refused (m .ensures)
 
 add-k : tie.Need-add-k Inv-loop μ-loop
 add-k c = omega arith
@@ -60,12 +61,13 @@ loop-again c =
     let s = c .before .before .before .before .before .before .before .before .before .before .before in
     let a = s .args in
     let m = c .before .before .before .before .move-at in
+    let made : m .result .answer ≡ 0 = omega arith in
     let same : length (m .last .0) ≡ length (a .codes .now) = m .kept .0 ∙ l .inv .3 in (
       l .inv .0,
       omega arith,
       omega (arith, m .ensures .letters-in, s .pre .1),
       same,
-      goes-on (a .moves .now) (l .codes) (t .before .before .two .result) (l .k) (l .letters) (l .inv .4) (t .loop-test .taken) (c .if1 .left)
+      goes-on (a .moves .now) (l .codes) (t .before .before .two .result) (l .k) (l .letters) (l .inv .4) (t .loop-test .taken) made
           (m .ensures),
     )
 
