@@ -38,20 +38,31 @@ void plain_tables(void)
         }
 }
 
+/* One letter; its sign is asked once, and not in every row. */
 static void letter_on(pair *p, const uint8_t *t_values, const uint8_t *inverses, unsigned code)
 {
     unsigned g = code & 7;
-    bool inverse = code & 8;
-    const uint8_t *times = products + 32 * (inverse ? inverses[p->labels[g + 1]] : t_values[p->labels[g]]);
-    for (uint8_t *row = p->matrix; row < p->matrix + 64; row += 8) {
-        uint8_t own = row[g], product = times[own];
-        if (g > 0)
-            row[g - 1] ^= inverse ? own : product;
-        row[g] = product;
-        row[g + 1] ^= inverse ? product : own;
+    uint8_t *own = p->matrix + g, *end = own + 64, label = p->labels[g], next = p->labels[g + 1];
+    if (code & 8) {
+        const uint8_t *times = products + 32 * inverses[next];
+        for (; own < end; own += 8) {
+            uint8_t entry = own[0], product = times[entry];
+            if (g > 0)
+                own[-1] ^= entry;
+            own[0] = product;
+            own[1] ^= product;
+        }
+    } else {
+        const uint8_t *times = products + 32 * t_values[label];
+        for (; own < end; own += 8) {
+            uint8_t entry = own[0], product = times[entry];
+            if (g > 0)
+                own[-1] ^= product;
+            own[0] = product;
+            own[1] ^= entry;
+        }
     }
-    uint8_t label = p->labels[g];
-    p->labels[g] = p->labels[g + 1];
+    p->labels[g] = next;
     p->labels[g + 1] = label;
 }
 
@@ -233,7 +244,8 @@ static uint8_t move_on(uint8_t *codes, size_t *n, unsigned kind, size_t place)
         if (at[1] != (at[0] ^ 8))
             return 23;
         *n -= 2;
-        memmove(at, at + 2, *n - place);
+        for (size_t k = place; k < *n; k++)
+            codes[k] = codes[k + 2];
     } else if (kind == 2) {
         if (place + 2 > *n)
             return 22;
@@ -257,7 +269,8 @@ static uint8_t move_on(uint8_t *codes, size_t *n, unsigned kind, size_t place)
             return 22;
         if (*n + 2 > LETTERS)
             return 24;
-        memmove(at + 2, at, *n - place);
+        for (size_t k = *n; k > place; k--)
+            codes[k + 1] = codes[k - 1];
         at[0] = (uint8_t)(kind - 16);
         at[1] = at[0] ^ 8;
         *n += 2;

@@ -17,8 +17,8 @@ use walnut::WORD_BYTES;
 use work::{case, Case, Who, ALL, CASES};
 
 /// Rounds of which the least time counts, and how long each lasts at least.
-const ROUNDS: usize = 15;
-const ROUND: Duration = Duration::from_millis(40);
+const ROUNDS: usize = 100;
+const ROUND: Duration = Duration::from_millis(10);
 
 /// How often the work is done for a counter of instructions.
 const COUNTED: u32 = 10;

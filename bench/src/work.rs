@@ -1,5 +1,6 @@
 //! What is timed: the same inputs for the library, for plain Rust and for plain C.
 
+use reference::rewrite::Move;
 use reference::testkit::{move_list, Random, Slip};
 use reference::word::word_file;
 use walnut::{Refusal, WORD_BYTES};
@@ -122,8 +123,17 @@ fn rewriting(random: &mut Random) -> Work {
     Work::Rewriting { word: word_file(&codes), moves: move_list(&walk.moves) }
 }
 
+/// As many moves as a list may have, on as long a word as they can be made on: b1 and its inverse come and go in the
+/// middle of it, by turns.
+fn in_the_middle() -> Work {
+    let codes: Vec<u8> = (0..LONGEST - 2).map(|place| (place % 2) as u8).collect();
+    let step = |turn| Move { place: LONGEST as u16 / 2, kind: if turn % 2 == 0 { 16 } else { 1 } };
+    let moves: Vec<Move> = (0..MOVES).map(step).collect();
+    Work::Rewriting { word: word_file(&codes), moves: move_list(&moves) }
+}
+
 /// How many cases there are.
-pub const CASES: usize = 4;
+pub const CASES: usize = 5;
 
 /// The case of a number, the same in every run.
 pub fn case(number: usize) -> Case {
@@ -133,6 +143,7 @@ pub fn case(number: usize) -> Case {
         0 => Case { name: "verdict, 1,283 letters", parts: 1, work: slip(random, TYPICAL) },
         1 => Case { name: "verdict, 10,000 letters", parts: 1, work: slip(random, LONGEST) },
         2 => Case { name: "a letter (cloaking, 10,000)", parts: LONGEST, work: cloaking(random) },
-        _ => Case { name: "rewriter, 4,096 moves", parts: 1, work: rewriting(random) },
+        3 => Case { name: "rewriter, 4,096 moves", parts: 1, work: rewriting(random) },
+        _ => Case { name: "rewriter, all in the middle", parts: 1, work: in_the_middle() },
     }
 }

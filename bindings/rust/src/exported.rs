@@ -1,4 +1,4 @@
-//! The exported functions, as `walnut.h` states them.
+//! The exported functions, as `walnut.h` states them: answers as numbers, and what comes with a refusal as it is.
 
 use crate::Pair;
 

@@ -4,7 +4,7 @@
 //! Every function takes any bytes. It gives its value, or the [`Refusal`] that holds the number of the first
 //! question that the input fails; on a refusal nothing that was lent is changed.
 
-mod exported;
+pub mod exported;
 mod refusal;
 
 use exported::*;

@@ -1,5 +1,5 @@
--- One letter and whole words on a pair, as the code goes about it: the share by the number that a letter takes, T-values by label, and a
--- word's letters one after another.
+-- One letter and whole words on a pair, as the code goes about it: the share by the number that a letter takes, codes that are letters and
+-- others, T-values by label, and a word's letters one after another.
 -- Assumes nothing.
 use Prim.Native.Nat.{ℕ, zero, suc, _+_, _*_, _%_, _<_, _≤_}
 use mathlib.Core.Path.{_≡_, refl, sym, ap, ap₂, _∙_}
@@ -22,7 +22,7 @@ use Rattle.braid.specs.Letters.{isLetter, isInverse, generator}
 use Rattle.braid.proofs.LetterLaws.{letter-cases}
 use Rattle.action.specs.declared.Pair.{Pair}
 use Rattle.action.specs.Layout.{entry, matrixOf}
-use Rattle.action.specs.Action.{Share, tValue, shareOf, positiveShare, inverseShare, rowAfter, swapped, letterOn, wordOn, pairOf}
+use Rattle.action.specs.Action.{Share, tValue, shareOf, positiveShare, inverseShare, rowAfter, swapped, letterOn, wordOn, codesOn, pairOf}
 use Rattle.action.specs.Rows.{shareBy, rowsOn, Lent}
 use Rattle.action.proofs.LayoutLaws.{length-matrixOf}
 use Rattle.action.proofs.LabelLaws.{length-swapped}
@@ -59,6 +59,16 @@ module _ (ts rs labels : List ℕ) (c : ℕ) (reciprocal : (label : ℕ) → get
   unfolding letterOn rowsOn
   letter-is m e k h =
       ap (λ (s : Share). pairOf (matrixOf (λ r. rowAfter gf32 s (c % 8) (entry m r))) (swapped (c % 8) labels)) (share-is e k h)
+
+-- codes that are letters do what their word does; others leave the pair as it was
+module _ (F : Operations) (ts cs : List ℕ) (p : Pair) where
+  pub codes-word : every isLetter cs ≡ true → codesOn F ts cs p ≡ wordOn F ts cs p
+  unfolding codesOn
+  codes-word e = ap (λ (b : Bool). cond b (wordOn F ts cs p) p) e
+
+  pub codes-none : every isLetter cs ≡ false → codesOn F ts cs p ≡ p
+  unfolding codesOn
+  codes-none e = ap (λ (b : Bool). cond b (wordOn F ts cs p) p) e
 
 -- T-values are read by label alone
 module _ (F : Operations) (ts ts′ : List ℕ) (same : (label : ℕ) → getD ts label 0 ≡ getD ts′ label 0) where

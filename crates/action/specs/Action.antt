@@ -6,9 +6,9 @@ use mathlib.Core.Bool.{Bool, cond}
 use mathlib.Core.List.{List, [], _∷_}
 use lib.Dec.{leb, eqb}
 use lib.ListN.{getD, set}
-use Rattle.base.specs.Lists.{values}
+use Rattle.base.specs.Lists.{every, values}
 use Rattle.field.specs.Binary.{Operations}
-use Rattle.braid.specs.Letters.{generator, isInverse}
+use Rattle.braid.specs.Letters.{generator, isInverse, isLetter}
 use Rattle.action.specs.declared.Pair.{Pair}
 use Rattle.action.specs.Layout.{entry, matrixOf}
 
@@ -62,6 +62,10 @@ letterOn F ts c p =
 unfoldable pub wordOn : Operations → List ℕ → List ℕ → Pair → Pair
 wordOn F ts [] p = p
 wordOn F ts (c ∷ w) p = wordOn F ts w (letterOn F ts c p)
+
+-- a row of codes on a pair: the word that they are, where every one is a letter; otherwise the pair as it was
+unfoldable pub codesOn : Operations → List ℕ → List ℕ → Pair → Pair
+codesOn F ts cs p = cond (every isLetter cs) (wordOn F ts cs p) p
 
 -- the identity matrix
 unfoldable pub identity : List ℕ

@@ -9,7 +9,7 @@ ghost use Rattle.base.specs.Lists.{every};
 ghost use Rattle.base.specs.Digits.{halves};
 ghost use Rattle.field.specs.Gf32.{gf32};
 ghost use Rattle.braid.specs.Letters.{isLetter};
-ghost use Rattle.action.specs.Action.{wordOn, pairOf};
+ghost use Rattle.action.specs.Action.{wordOn, codesOn, pairOf};
 ghost use Rattle.action.specs.Rows.{ByLabel, Lent};
 
 // The T-values by label, with a place for every byte that a label can be: past the eight stands 0.
@@ -83,12 +83,14 @@ fn codes_in(part: &[u8], n: usize) -> usize
     if n < all { n } else { all }
 }
 
-// The first n packed codes, or all if there are fewer, multiplied into the pair.
+// The first n packed codes, or all if there are fewer, multiplied into the pair; where one of them is no letter, the pair as it was.
 pub fn carry(pair: Pair, t_values: &[u8; 8], part: &[u8], n: usize) -> Pair
-    requires { ⌜ every isLetter (take n (halves (now part))) ≡ true ⌝ }
-    ensures { λ r. ⌜ r ≡ wordOn gf32 (now («t_values» .entry)) (take n (halves (now (part .entry)))) pair ⌝ }
+    ensures { λ r. ⌜ r ≡ codesOn gf32 (now («t_values» .entry)) (take n (halves (now (part .entry)))) pair ⌝ }
 {
     let end = codes_in(part, n);
+    if !braid::all_letters(part, end) {
+        return pair;
+    }
     let table = field::table();
     let values = by_label(t_values);
     let reciprocals = reciprocals_by_label(t_values);

@@ -3,20 +3,21 @@
 -- Assumes nothing.
 use Prim.Native.Nat.{ℕ, zero, suc, _+_, _-_, _*_, _/_, _%_, _^_, _≤_, _<_}
 use mathlib.Core.Path.{_≡_, refl, sym, ap, ap₂, _∙_}
-use mathlib.Core.Bool.{true}
+use mathlib.Core.Bool.{Bool, true, _&&_}
 use mathlib.Core.List.{List, [], _∷_, _++_}
 use native.Mathlib.Nat.{add-assoc, add-comm, add-zero, zero-add, suc-add, mul-comm, mul-assoc, add-mul, mul-one, one-mul, zero-mul}
 use native.Mathlib.Nat.{pow-zero, pow-suc, pow-succ', one-le-pow, mul-le-mul-right, suc-mul, zero-lt-suc}
 use native.Mathlib.Nat.{mod-lt, mod-eq-of-lt, mod-one, div-eq-of-lt, div-add-mod', div-div-eq-div-mul, add-mul-div-right, add-mul-mod-self-right, mul-add-mod-self-right, mul-add-div-right}
+use native.Mathlib.Numerals.{add-one}
 use native.Mathlib.Omega.{arith}
 use borrow.Author.Tests.{ltb-true, lt-ltb}
 use lib.Dec.{ltb}
 use lib.Pow.{pow-add}
 use lib.ListN.{length, take, drop, getD, length-append}
-use lib.Seq.{take-at, drop-at, take-nil, drop-nil, ext-getD, getD-drop}
+use lib.Seq.{take-suc, take-at, drop-at, take-nil, drop-nil, ext-getD, getD-drop}
 use Rattle.base.specs.Lists.{every}
 use Rattle.base.specs.Digits.{value, digits, halves}
-use Rattle.base.proofs.ListLaws.{every-from, every-all}
+use Rattle.base.proofs.ListLaws.{and-true, every-from, every-append, every-all}
 
 -- ---- all below b
 
@@ -211,6 +212,16 @@ unfolding halves
 drop-halves zero xs = refl
 drop-halves (suc n) [] = drop-nil (2 * suc n)
 drop-halves (suc n) (x ∷ xs) = rw (two-more n) (drop-halves n xs)
+
+-- a test on the half bytes of one byte more
+pub every-halves : (f : ℕ → Bool) (xs : List ℕ) (k : ℕ) → k < length xs
+    → every f (take (2 * (k + 1)) (halves xs)) ≡ every f (take (2 * k) (halves xs)) && (f (getD xs k 0 / 16) && f (getD xs k 0 % 16))
+unfolding every halves
+every-halves f xs k h =
+    let x : ℕ = getD xs k 0 in
+    rw (take-halves (k + 1) xs, take-halves k xs, add-one k, take-suc xs k 0 h, halves-append (take k xs) (x ∷ []))
+    (every-append f (halves (take k xs)) (x / 16 ∷ x % 16 ∷ [])
+    ∙ ap (λ (b : Bool). every f (halves (take k xs)) && (f (x / 16) && b)) (and-true (f (x % 16))))
 
 -- the half byte at an even place is the high half of its byte, at an odd place the low half
 pub half-even : (xs : List ℕ) (k : ℕ) → k % 2 ≡ 0 → getD (halves xs) k 0 ≡ getD xs (k / 2) 0 / 16

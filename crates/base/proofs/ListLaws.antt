@@ -3,7 +3,7 @@
 -- Assumes nothing.
 use Prim.Native.Nat.{ℕ, zero, suc, _+_, _≤_, _<_, zero-le, suc-le-suc}
 use mathlib.Core.Path.{_≡_, refl, sym, ap, ap₂, _∙_}
-use mathlib.Core.Bool.{Bool, true, false, cond, _&&_, true≢false, false≢true}
+use mathlib.Core.Bool.{Bool, true, false, cond, _&&_, Bool·beq, true≢false, false≢true}
 use mathlib.Core.List.{List, [], _∷_, _++_}
 use native.Mathlib.Nat.{not-suc-le-zero, le-of-suc-le-suc, zero-lt-suc, add-zero, add-suc, zero-add, suc-add}
 use native.Mathlib.Numerals.{add-one}
@@ -11,7 +11,7 @@ use native.Mathlib.Omega.{arith}
 use borrow.Author.Tests.{ltb-true, lt-ltb, eqb-true, eq-eqb}
 use lib.Dec.{eqb, ltb}
 use lib.ListN.{length, take, drop, getD, set, length-append, length-drop, take-append-drop}
-use lib.Seq.{take-suc, drop-cons, length-take-le, getD-take, drop-nil, take-length, set-at, append-snoc, take-append-seam, drop-append-seam, ext-getD}
+use lib.Seq.{take-suc, drop-cons, length-take-le, drop-nil, take-length, set-at, append-snoc, take-append-seam, drop-append-seam, ext-getD}
 use Rattle.base.specs.Lists.{every, count, valuesFrom, values, same, overlaid, eachOnce}
 
 -- ---- two tests at once
@@ -43,6 +43,13 @@ and-assoc false b c = refl
 pub not-true-false : (b : Bool) → (b ≡ true → ⊥) → b ≡ false
 not-true-false true h = absurd (h refl)
 not-true-false false h = refl
+
+-- two tests found the same by computation
+pub beq-true : (a b : Bool) → Bool·beq a b ≡ true → a ≡ b
+beq-true true true e = refl
+beq-true true false e = absurd (false≢true e)
+beq-true false true e = absurd (false≢true e)
+beq-true false false e = refl
 
 -- a test holds or it does not
 pub true-false : (b : Bool) → b ≡ true → b ≡ false → ⊥
@@ -83,7 +90,7 @@ module _ (f : ℕ → Bool) where
   pub every-drop : (k : ℕ) (xs : List ℕ) → every f xs ≡ true → every f (drop k xs) ≡ true
   every-drop k xs e = and-right (every f (take k xs)) (every f (drop k xs)) (sym (every-split k xs) ∙ e)
 
-  -- one turn of a loop that goes on while the test passes: of the first k + 1 elements, and of those from k on
+  -- one turn of a loop: of the first k + 1 elements, and of those from k on
   pub every-more : (xs : List ℕ) (k : ℕ) → k < length xs → every f (take (k + 1) xs) ≡ every f (take k xs) && f (getD xs k 0)
   unfolding every
   every-more xs k h =
@@ -95,14 +102,9 @@ module _ (f : ℕ → Bool) where
   unfolding every
   every-next xs k h = rw (add-one k, drop-cons xs k 0 h)
 
-  -- the same for a loop over the first n: it goes on while the test passes, and stops where it fails
+  -- the same for a loop that goes on while the test passes
   pub every-step : (xs : List ℕ) (k : ℕ) → k < length xs → every f (take k xs) ≡ true → f (getD xs k 0) ≡ true → every f (take (k + 1) xs) ≡ true
   every-step xs k h e t = every-more xs k h ∙ and-both e t
-
-  pub every-stop : (xs : List ℕ) (n k : ℕ) → k < n → n ≤ length xs → f (getD xs k 0) ≡ false → every f (take n xs) ≡ false
-  every-stop xs n k h l e =
-      let m : length (take n xs) ≡ n = length-take-le n xs l in
-      every-refuted (take n xs) k (omega arith) (ap f (getD-take n xs k 0 h) ∙ e)
 
   -- a rest of at most one element, and a test that 0 passes
   pub every-last : f 0 ≡ true → (xs : List ℕ) (n : ℕ) → length xs ≤ n + 1 → every f (drop n xs) ≡ f (getD xs n 0)
@@ -118,6 +120,17 @@ module _ (f : ℕ → Bool) where
   every-all z [] e k = z
   every-all z (x ∷ xs) e zero = and-left (f x) (every f xs) e
   every-all z (x ∷ xs) e (suc k) = every-all z xs (and-right (f x) (every f xs) e) k
+
+  -- of such a test, one element more, past the end too
+  pub every-more-all : f 0 ≡ true → (xs : List ℕ) (k : ℕ) → every f (take (k + 1) xs) ≡ every f (take k xs) && f (getD xs k 0)
+  unfolding every
+  every-more-all z xs k = rw (add-one k) (go xs k)
+    where
+      go : (xs : List ℕ) (k : ℕ) → every f (take (suc k) xs) ≡ every f (take k xs) && f (getD xs k 0)
+      go [] zero = sym z
+      go [] (suc k) = sym z
+      go (x ∷ xs) zero = and-true (f x)
+      go (x ∷ xs) (suc k) = ap (λ (b : Bool). f x && b) (go xs k) ∙ sym (and-assoc (f x) (every f (take k xs)) (f (getD xs k 0)))
 
 -- two tests that agree on the elements
 pub every-ext : (f g : ℕ → Bool) (xs : List ℕ) → ((k : ℕ) → k < length xs → f (getD xs k 0) ≡ g (getD xs k 0)) → every f xs ≡ every g xs

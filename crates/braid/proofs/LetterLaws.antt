@@ -1,15 +1,16 @@
--- Laws of letters: the inverse of a letter is a letter, and the inverse of that is the letter again. Words of letters, one letter more or less.
+-- Laws of letters: which half bytes are letters; the inverse of a letter is a letter, and the inverse of that is the letter again. Words of
+-- letters, one letter more or less.
 -- Assumes nothing.
-use Prim.Native.Nat.{ℕ, _+_, _-_, _≤_, _<_}
+use Prim.Native.Nat.{ℕ, _+_, _-_, _/_, _%_, _≤_, _<_}
 use mathlib.Core.Path.{_≡_, refl, ap, ap₂, _∙_}
-use mathlib.Core.Bool.{Bool, true, false, cond, _&&_, _||_}
+use mathlib.Core.Bool.{Bool, true, false, cond, not, _&&_, _||_, Bool·beq}
 use mathlib.Core.List.{List, _∷_}
 use mathlib.Core.Logic.{_⊎_, inl, inr, ⊎-elim}
 use native.Mathlib.Omega.{arith}
 use borrow.Author.Tests.{leb-true, le-leb, lt-leb}
-use lib.Dec.{leb}
-use Rattle.base.specs.Lists.{every}
-use Rattle.base.proofs.ListLaws.{and-left, and-right, and-both}
+use lib.Dec.{leb, eqb}
+use Rattle.base.specs.Lists.{every, valuesFrom, values}
+use Rattle.base.proofs.ListLaws.{and-left, and-right, and-both, beq-true, every-values}
 use Rattle.braid.specs.Letters.{isLetter, opposite}
 
 -- what a passed test of two ways tells
@@ -30,6 +31,24 @@ positive-letter c h = ap (λ (b : Bool). b || (leb 8 c && leb c 14)) (le-leb c 6
 inverse-letter : (c : ℕ) → 8 ≤ c → c ≤ 14 → isLetter c ≡ true
 inverse-letter c h k =
     ap₂ (λ (a b : Bool). a || (b && leb c 14)) (lt-leb c 6 (omega arith)) (le-leb 8 c h) ∙ le-leb c 14 k
+
+-- a half byte is no letter where its last three bits are ones, 7 and 15, and one where they are not: one test over the sixteen
+abbrev codeRule : ℕ → Bool
+codeRule h = Bool·beq (not (eqb (h % 8) 7)) (isLetter h)
+
+code-rules : every codeRule (values (λ h. h) 16) ≡ true
+unfolding valuesFrom every
+code-rules = refl
+
+half-letter : (h : ℕ) → h < 16 → not (eqb (h % 8) 7) ≡ isLetter h
+half-letter h p = beq-true _ _ (every-values codeRule (λ k. k) 16 code-rules h p)
+
+-- the same of both half bytes of a byte
+pub byte-letters : (b : ℕ) → b < 256 → not (eqb (b / 16 % 8) 7) && not (eqb (b % 8) 7) ≡ isLetter (b / 16) && isLetter (b % 16)
+byte-letters b p =
+    let low : b % 8 ≡ b % 16 % 8 = omega arith in
+    ap₂ (λ (x y : Bool). x && y) (half-letter (b / 16) (omega arith))
+    (ap (λ (r : ℕ). not (eqb r 7)) low ∙ half-letter (b % 16) (omega arith))
 
 -- the high bit turned
 pub opposite-low : (c : ℕ) → c < 8 → opposite c ≡ c + 8

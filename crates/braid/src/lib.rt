@@ -3,6 +3,7 @@ mod read; // read.rt: the word reader
 mod reduce; // reduce.rt: free reduction
 mod write; // write.rt: the writer of words from codes
 
+pub use read::all_letters;
 pub use read::code_part;
 pub use read::half;
 pub use read::is_letter;

@@ -2,8 +2,9 @@
 use crate::Letter;
 use crate::MAX_LETTERS;
 use crate::Word;
-ghost use Prim.Native.Nat.{_+_, _*_, _≤_};
+ghost use Prim.Native.Nat.{_+_, _*_, _/_, _%_, _≤_};
 ghost use mathlib.Core.Path.{_≡_};
+ghost use mathlib.Core.Bool.{_&&_};
 ghost use lib.Dec.{eqb};
 ghost use lib.ListN.{length, take, drop, getD};
 ghost use Rattle.base.specs.Lists.{every};
@@ -40,19 +41,42 @@ fn number(file: &[u8]) -> usize
     file[0] as usize * 256 + file[1] as usize
 }
 
-// Is every one of the first n half bytes a letter?
-fn all_letters(part: &[u8], n: usize) -> bool
-    requires { ⌜ n ≤ 2 * length (now part) ⌝ }
-    ensures { λ r. ⌜ r ≡ every isLetter (take n (halves (now (part .entry)))) ⌝ }
+// Are both half bytes of the byte letters? Of the half bytes only 7 and 15 are none.
+fn both_letters(b: u8) -> bool
+    ensures { λ r. ⌜ r ≡ isLetter (b / 16) && isLetter (b % 16) ⌝ }
 {
+    (b / 16 % 8 != 7) & (b % 8 != 7)
+}
+
+// Is every half byte of the first m bytes a letter? No byte ends the loop early, so that many are tested at once.
+fn whole_letters(part: &[u8], m: usize) -> bool
+    requires { ⌜ m ≤ length (now part) ⌝ }
+    ensures { λ r. ⌜ r ≡ every isLetter (take (2 * m) (halves (now (part .entry)))) ⌝ }
+{
+    let mut lettered = true;
     let mut k = 0;
-    while k < n {
-        if !is_letter(half(part, k)) {
-            return false;
-        }
+    while k < m {
+        lettered = lettered & both_letters(part[k]);
         k += 1;
     }
-    true
+    lettered
+}
+
+// Is every one of the first n half bytes, or of all if there are fewer, a letter? It is asked of the whole bytes, and of the half byte left
+// where n is odd: past the end that is 0, a letter.
+pub fn all_letters(part: &[u8], n: usize) -> bool
+    ensures { λ r. ⌜ r ≡ every isLetter (take n (halves (now (part .entry)))) ⌝ }
+{
+    let bytes = if n / 2 < part.len() {
+        n / 2
+    } else {
+        part.len()
+    };
+    let whole = whole_letters(part, bytes);
+    if n % 2 == 0 {
+        return whole;
+    }
+    whole & is_letter(half(part, n - 1))
 }
 
 // Is the half byte after the first n 0, if there is one?

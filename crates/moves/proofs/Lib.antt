@@ -4,8 +4,12 @@ pub mod Parts
 pub mod MoveLaws
 pub mod MoveByMove
 pub mod ListClaim
-pub mod CodeRows
+pub mod RowLaws
+pub mod FileLaws
+pub mod ShiftLaws
+pub mod CodeLists
 pub mod CodeKinds
+pub mod MadeLaws
 pub mod CodeList
 pub mod CodeRewrite
 pub mod RewritingKeepsMeaning

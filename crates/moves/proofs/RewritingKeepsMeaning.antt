@@ -55,7 +55,7 @@ module _ (room : ℕ) (word moves : List ℕ) (e : firstNo (rewriterQuestions ro
 same-signed : (key v w : List ℕ) → Carried w v → keyAnswer key ≡ 0 → signed (keyOf key) v ≡ signed (keyOf key) w
 unfolding signed
 same-signed key v w c k =
-    ap (λ (q : Pair). q .matrix) (c gf32 gf32-field (keyOf key .«t_values») (key-values key k) (keyOf key .pair) (key-pair key))
+    ap (λ (q : Pair). q .matrix) (c gf32 gf32-field (keyOf key .«t_values») (key-values key k) (keyOf key .pair) (key-pair key k))
 
 meaning-kept : (word v : List ℕ) → wordAnswer word ≡ 0 → Kept (codes word) v → SameMeaning word (wordFile v)
 meaning-kept word v a k =

@@ -102,7 +102,7 @@ fn identity() -> [u8; 57] {
 // A key whose matrices are the same; n bytes are expected of it.
 fn write(name: &[u8], ts: &[u8; 8], order: &[u8; 8], matrix: &[u8; 57], out: &mut [u8], n: usize) {
     let answer = key::write_key(ts, order, matrix, matrix, out);
-    show::written(name, answer, n, out);
+    show::filled(name, answer, n, out);
 }
 
 pub(crate) fn written() {

@@ -93,13 +93,24 @@ fn front(bytes: &[u8], n: usize) {
     }
 }
 
+// The first n bytes of an output, and whether the rest of it kept its bytes.
+fn output(out: &[u8], n: usize) {
+    front(out, n);
+    let kept = is_all(out, n, FILL);
+    choice(kept, b" kept\n", b" changed\n");
+}
+
 // A line of a name, an answer, the number of bytes written, these bytes, and whether the rest of the output kept its bytes.
 pub(crate) fn written(name: &[u8], answer: u8, n: usize, out: &[u8]) {
     head(name, answer);
     number(n);
-    front(out, n);
-    let kept = is_all(out, n, FILL);
-    choice(kept, b" kept\n", b" changed\n");
+    output(out, n);
+}
+
+// The same of a writer that reports no number; n bytes are expected of it.
+pub(crate) fn filled(name: &[u8], answer: u8, n: usize, out: &[u8]) {
+    head(name, answer);
+    output(out, n);
 }
 
 fn row(entries: &[u8]) {

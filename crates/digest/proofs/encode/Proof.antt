@@ -43,7 +43,7 @@ returns-2 : tie.Need-returns-2
 returns-2 c =
     let a = c .before .before .before .before .args in
     wrote-refused (encoderQuestions (length (a .out .now)) (a .digest .now)) (wordFile (encoded (a .digest .now))) (a .out .now) 8
-    (no-digest (length (a .out .now)) (a .digest .now) (omega arith) (c .if2 .taken)) (λ e. omega (arith, e))
+    (no-digest (length (a .out .now)) (a .digest .now) (omega arith) (λ e. omega arith)) (λ e. omega (arith, e))
 
 -- src/lib.rt:83:33
 slice-aggregate-encode-into : tie.Need-slice-aggregate-encode-into
@@ -51,7 +51,7 @@ slice-aggregate-encode-into c = search needs
 
 -- src/lib.rt:83:9
 encode-into-requires : tie.Need-encode-into-requires
-encode-into-requires c κs = search needs
+encode-into-requires c κs = (omega arith, omega arith)
 
 -- src/lib.rt:84:23
 array-share-prefix-codes : tie.Need-array-share-prefix-codes

@@ -36,7 +36,7 @@ append-requires : tie.Need-append-requires Inv-loop μ-loop
 append-requires c κs =
     let t = c .before .before in
     let b = t .before .before .before in
-    let h : c .half .result < 16 = rw (c .half .ensures) (halves-below (b .before .args .digest .now) (λ i. b .shared-slice-known .given i .fits) (t .before .loop .k)) in
+    let h : c .half .result < 16 = rw (c .half .ensures) (halves-below (b .before .args .digest .now) (λ i. b .shared-slice-known .given i .fits) _) in
     (h, omega arith)
 
 -- src/lib.rt:61:9

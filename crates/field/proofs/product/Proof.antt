@@ -3,6 +3,7 @@
 use Prim.Native.Nat.{ℕ, _+_, _*_}
 use mathlib.Core.Path.{ap, _∙_}
 use mathlib.Core.List.{List, [], _∷_}
+use native.Mathlib.Omega.{arith}
 use borrow.Author.Needs.{needs}
 use borrow.Author.Tests.{lt-ltb, le-ltb}
 use lib.ListN.{getD}
@@ -23,7 +24,7 @@ returns-2 : tie.Need-returns-2
 returns-2 c =
     let x = c .before .before .args in
     refused (productQuestions (x .a) (x .b)) 16
-    (passes 17 ((isElement (x .b) else 17) ∷ []) (lt-ltb (x .a) 32 (c .before .if1 .left)) ∙ fails 17 [] (le-ltb (x .b) 32 (c .if2 .taken)))
+    (passes 17 ((isElement (x .b) else 17) ∷ []) (lt-ltb (x .a) 32 (c .before .if1 .left)) ∙ fails 17 [] (le-ltb (x .b) 32 (omega arith)))
 
 table-requires : tie.Need-table-requires
 table-requires c κs = search needs
@@ -35,7 +36,7 @@ add-at : tie.Need-add-at
 add-at c = search needs
 
 array-read-t12 : tie.Need-array-read-t12
-array-read-t12 c = search needs
+array-read-t12 c = omega arith
 
 returns-3 : tie.Need-returns-3
 returns-3 c =

@@ -1,6 +1,12 @@
 -- `action::multiplier::one_letter` meets its contract: the packed word of one letter. Assumes nothing.
+use Prim.Native.Nat.{_*_}
 use mathlib.Core.Path.{_∙_}
+use mathlib.Core.List.{[], _∷_}
 use native.Mathlib.Omega.{arith}
+use lib.ListN.{take}
+use Rattle.base.specs.Digits.{halves}
+use Rattle.field.specs.Gf32.{gf32}
+use Rattle.action.proofs.CarryLaws.{codes-word}
 use Rattle.action.proofs.MultiplierLaws.{code-fits, one-letter, one-word}
 use borrow.Author.Needs.{needs}
 use Rattle.action.proofs.multiplier.one_letter.Statement.{statement}
@@ -13,12 +19,15 @@ slice-aggregate-carry : tie.Need-slice-aggregate-carry
 slice-aggregate-carry c = search needs
 
 carry-requires : tie.Need-carry-requires
-carry-requires c κs = one-letter (c .before .args .letter) (c .before .pre)
+carry-requires c κs = search needs
 
 returns : tie.Need-returns
 returns c =
-    let a = c .before .before .args in
-    c .carry .ensures ∙ one-word (a .t-values .now) (a .letter) (a .pair)
+    let s = c .before .before in
+    let a = s .args in
+    c .carry .ensures
+    ∙ codes-word gf32 (a .t-values .now) (take 1 (halves (a .letter * 16 ∷ []))) (a .pair) (one-letter (a .letter) (s .pre))
+    ∙ one-word (a .t-values .now) (a .letter) (a .pair)
 
 pub one-letter-spec : {M : Type 1} → statement M
 one-letter-spec = tie.close (tie.spec mul-t5 slice-aggregate-carry carry-requires returns)

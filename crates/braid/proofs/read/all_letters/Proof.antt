@@ -1,77 +1,69 @@
--- `braid::read::all_letters` meets its contract. The loop's invariant: every one of the first k half bytes is a letter.
+-- `braid::read::all_letters` meets its contract: the first n half bytes are those of the first n / 2 bytes, or of all if there are fewer, and
+-- one more where n is odd.
 -- Assumes nothing.
-use Prim.Native.Nat.{ℕ, _-_, _≤_, _<_}
-use mathlib.Core.Path.{_≡_, refl, sym, ap, _∙_}
-use mathlib.Core.Bool.{true, false}
+use Prim.Native.Nat.{ℕ, _+_, _*_, _-_, _/_, _≤_}
+use mathlib.Core.Path.{_≡_, refl, sym, ap, ap₂, _∙_}
+use mathlib.Core.Bool.{Bool, _&&_}
+use mathlib.Core.Logic.{⊎-elim}
 use native.Mathlib.Omega.{arith}
-use borrow.Author.Tests.{not-true, not-false}
-use lib.ListN.{length, take, getD}
+use borrow.Author.Needs.{needs}
+use lib.ListN.{length, take}
+use lib.Seq.{take-all}
 use Rattle.base.specs.Lists.{every}
 use Rattle.base.specs.Digits.{halves}
-use Rattle.base.proofs.ListLaws.{every-step, every-stop}
+use Rattle.base.proofs.ListLaws.{every-more-all}
 use Rattle.base.proofs.DigitLaws.{length-halves}
 use Rattle.braid.specs.Letters.{isLetter}
 use Rattle.braid.proofs.read.all_letters.Statement.{statement}
 use Rattle.braid.proofs.read.all_letters.Tie as tie
 
-abbrev Inv-loop : tie.InvT-loop
-Inv-loop part n k₀ k = (k ≤ n) × (every isLetter (take k (halves part)) ≡ true)
+-- so many bytes there are, and their half bytes are the first ones
+there : (c : tie.Joined1) → c .if1 .bytes ≤ length (c .before .before .args .part .now)
+there c = ⊎-elim (λ w. omega arith) (λ w. omega arith) (c .if1 .came)
 
-abbrev μ-loop : tie.MeasureT-loop
-μ-loop part n k₀ k = n - k
+first : (c : tie.Joined1)
+    → let a = c .before .before .args in take (2 * c .if1 .bytes) (halves (a .part .now)) ≡ take (2 * (a .n / 2)) (halves (a .part .now))
+first c =
+    let a = c .before .before .args in
+    let hs = halves (a .part .now) in
+    let size = length-halves (a .part .now) in
+    ⊎-elim (λ w. ap (λ (j : ℕ). take (2 * j) hs) (w .1))
+    (λ w. take-all (2 * c .if1 .bytes) hs (omega arith) ∙ sym (take-all (2 * (a .n / 2)) hs (omega arith)))
+    (c .if1 .came)
 
-loop-holds : tie.Need-loop-holds Inv-loop μ-loop
-unfolding every
-loop-holds c = (omega arith, refl)
+whole-letters-requires : tie.Need-whole-letters-requires
+whole-letters-requires c κs = there c
 
-half-requires : tie.Need-half-requires Inv-loop μ-loop
-half-requires c κs = tt
-
-is-letter-requires : tie.Need-is-letter-requires Inv-loop μ-loop
-is-letter-requires c κs = tt
-
-returns : tie.Need-returns Inv-loop μ-loop
+returns : tie.Need-returns
 returns c =
-    let l = c .before .before .before .before in
-    let a = l .before .before .args in
-    let hs = halves (a .part .now) in
-    let e : isLetter (getD hs (l .loop .k) 0) ≡ false = sym (c .before .is-letter .ensures ∙ ap isLetter (c .before .before .half .ensures)) ∙ not-true _ (c .if1 .taken) in
-    let long : a .n ≤ length hs = omega (arith, length-halves (a .part .now)) in
-    sym (every-stop isLetter hs (a .n) (l .loop .k) (omega arith) long e)
+    let a = c .before .before .before .before .args in
+    let e : 2 * (a .n / 2) ≡ a .n = omega arith in
+    c .before .whole-letters .ensures
+    ∙ ap (every isLetter) (first (c .before .before) ∙ ap (λ (j : ℕ). take j (halves (a .part .now))) e)
 
-add-k : tie.Need-add-k Inv-loop μ-loop
-add-k c = omega arith
+sub-half : tie.Need-sub-half
+sub-half c = search needs
 
-loop-less : tie.Need-loop-less Inv-loop μ-loop
-loop-less c = omega arith
+half-requires : tie.Need-half-requires
+half-requires c κs = search needs
 
-loop-again : tie.Need-loop-again Inv-loop μ-loop
-loop-again c =
-    let l = c .before .before .before .before in
-    let a = l .before .before .args in
-    let hs = halves (a .part .now) in
-    let e : isLetter (getD hs (l .loop .k) 0) ≡ true = sym (c .before .is-letter .ensures ∙ ap isLetter (c .before .before .half .ensures)) ∙ not-false _ (c .if1 .left) in
-    let long : l .loop .k < length hs = omega (arith, length-halves (a .part .now)) in
-    (omega arith, every-step isLetter hs (l .loop .k) long (l .loop .inv .1) e)
+is-letter-requires : tie.Need-is-letter-requires
+is-letter-requires c κs = search needs
 
-returns-2 : tie.Need-returns-2 Inv-loop μ-loop
+returns-2 : tie.Need-returns-2
 returns-2 c =
-    let l = c .before in
-    let a = l .before .before .args in
-    let e : l .loop .k ≡ a .n = omega arith in
-    sym (l .loop .inv .1) ∙ ap (λ (j : ℕ). every isLetter (take j (halves (a .part .now)))) e
+    let w = c .before .before .before in
+    let a = w .before .before .before .args in
+    let hs = halves (a .part .now) in
+    let whole : 2 * (a .n / 2) ≡ a .n - 1 = omega arith in
+    let all : a .n - 1 + 1 ≡ a .n = omega arith in
+    ap₂ (λ (x y : Bool). x && y)
+    (w .whole-letters .ensures ∙ ap (every isLetter) (first (w .before) ∙ ap (λ (j : ℕ). take j hs) whole))
+    (c .is-letter .ensures ∙ ap isLetter (c .before .half .ensures))
+    ∙ sym (every-more-all isLetter refl hs (a .n - 1))
+    ∙ ap (λ (j : ℕ). every isLetter (take j hs)) all
 
 pub all-letters-spec : {M : Type 1} → statement M
 all-letters-spec =
     tie.close
-    (tie.spec
-    Inv-loop
-    μ-loop
-    loop-holds
-    half-requires
-    is-letter-requires
-    returns
-    add-k
-    loop-less
-    loop-again
-    returns-2)
+    (tie.spec whole-letters-requires returns sub-half half-requires is-letter-requires returns-2)

@@ -1,83 +1,52 @@
--- `moves::shift::remove_two` meets its contract. The loop's invariant: the first k codes are those of the word without the two letters, the
--- others are as they were. Assumes nothing.
-use Prim.Native.Nat.{_+_, _-_, _≤_}
-use mathlib.Core.Path.{_≡_, refl}
-use mathlib.Core.List.{_++_}
-use native.Mathlib.Omega.{arith}
-use lib.ListN.{length, take, drop, length-set}
-use Rattle.moves.proofs.CodeRows.{without, without-start, without-step, without-end}
+-- `moves::shift::remove_two` meets its contract: the code that stands alone beside the two is kept, and the byte goes. Assumes nothing.
+use Rattle.moves.proofs.ShiftLaws.{two-gone}
+use borrow.Author.Needs.{needs}
 use Rattle.moves.proofs.shift.remove_two.Statement.{statement}
 use Rattle.moves.proofs.shift.remove_two.Tie as tie
 
-abbrev Inv-loop : tie.InvT-loop
-Inv-loop codes₀ n place end k₀ codes k =
-    (end ≡ n - 2)
-    × (place ≤ k)
-    × (k ≤ end)
-    × (length codes ≡ length codes₀)
-    × (codes ≡ take k (without codes₀ n place) ++ drop k codes₀)
+mul-at : tie.Need-mul-at
+mul-at c = search needs
 
-abbrev μ-loop : tie.MeasureT-loop
-μ-loop codes₀ n place end k₀ codes k = end - k
+add-at : tie.Need-add-at
+add-at c = search needs
 
-sub-end : tie.Need-sub-end Inv-loop μ-loop
-sub-end c = omega arith
+add-code : tie.Need-add-code
+add-code c = search needs
 
-loop-holds : tie.Need-loop-holds Inv-loop μ-loop
-loop-holds c =
-    let a = c .args in
-    (refl, omega arith, omega arith, refl, without-start (a .codes .now) (a .n) (a .place) (c .pre .0) (c .pre .1))
+code-requires : tie.Need-code-requires
+code-requires c κs = search needs
 
-add-codes : tie.Need-add-codes Inv-loop μ-loop
-add-codes c = omega arith
+put-code-requires : tie.Need-put-code-requires
+put-code-requires c κs = search needs
 
-slice-read-codes : tie.Need-slice-read-codes Inv-loop μ-loop
-slice-read-codes c = omega arith
+add-take-out : tie.Need-add-take-out
+add-take-out c = search needs
 
-slice-write-codes : tie.Need-slice-write-codes Inv-loop μ-loop
-slice-write-codes c = omega arith
+take-out-requires : tie.Need-take-out-requires
+take-out-requires c κs = search needs
 
-add-k : tie.Need-add-k Inv-loop μ-loop
-add-k c = omega arith
+same-length : tie.Need-same-length
+same-length c = search needs
 
-loop-less : tie.Need-loop-less Inv-loop μ-loop
-loop-less c = omega arith
-
-loop-again : tie.Need-loop-again Inv-loop μ-loop
-loop-again c =
-    let l = c .before .before .loop in
-    let s = c .before .before .before in
-    let a = s .args in (
-      refl,
-      omega arith,
-      omega arith,
-      simp length-set (l .inv .3),
-      without-step (a .codes .now) (a .n) (a .place) (s .pre .0) (s .pre .1) (l .codes) (l .k) (omega arith) (omega arith) (l .inv .4),
-    )
-
-same-length : tie.Need-same-length Inv-loop μ-loop
-same-length c = c .before .loop .inv .3
-
-returns : tie.Need-returns Inv-loop μ-loop
+returns : tie.Need-returns
 returns c =
-    let l = c .before .loop in
-    let s = c .before .before in
+    let t = c .before .before .take-out in
+    let p = c .before .before .before .before .before .before .put-code in
+    let g = c .before .before .before .before .before .before .before .before .code in
+    let s = c .before .before .before .before .before .before .before .before .before .before .before in
     let a = s .args in
-    without-end (a .codes .now) (a .n) (a .place) (s .pre .0) (s .pre .1) (l .codes) (l .k) (omega arith) (l .inv .4)
+    (t .ensures .0, two-gone (a .row .now) (a .from) (a .n) (a .place) (s .pre .0) (p .last .0) (t .last .0) (g .result) (t .result) (s .pre .1) (g .ensures .0) (p .ensures) (t .ensures .1))
 
 pub remove-two-spec : {M : Type 1} → statement M
 remove-two-spec =
     tie.close
     (tie.spec
-    Inv-loop
-    μ-loop
-    sub-end
-    loop-holds
-    add-codes
-    slice-read-codes
-    slice-write-codes
-    add-k
-    loop-less
-    loop-again
+    mul-at
+    add-at
+    add-code
+    code-requires
+    put-code-requires
+    add-take-out
+    take-out-requires
     same-length
     returns)

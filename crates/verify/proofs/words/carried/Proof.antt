@@ -1,11 +1,13 @@
--- `verify::carried` meets its contract: the codes of an accepted file stand after its two length bytes. Assumes nothing.
+-- `verify::carried` meets its contract: the codes of an accepted file stand after its two length bytes, and are letters. Assumes nothing.
 use Prim.Native.Nat.{ℕ}
 use mathlib.Core.Path.{_≡_, ap, _∙_}
 use mathlib.Core.List.{List}
 use Rattle.field.specs.Gf32.{gf32}
+use Rattle.braid.specs.Words.{codes}
 use Rattle.braid.proofs.ReadLaws.{accepted-long, accepted-letters}
 use Rattle.braid.proofs.ReducerLaws.{part-codes}
-use Rattle.action.specs.Action.{wordOn}
+use Rattle.action.specs.Action.{codesOn}
+use Rattle.action.proofs.CarryLaws.{codes-word}
 use borrow.Author.Needs.{needs}
 use Rattle.verify.proofs.words.carried.Statement.{statement}
 use Rattle.verify.proofs.words.carried.Tie as tie
@@ -27,16 +29,17 @@ part-part-end c = search needs
 
 -- src/words.rt:16:5
 carry-requires : tie.Need-carry-requires
-carry-requires c κs =
-    let s = c .before .before in
-    rw (part-codes (s .args .file .now) (s .pre .0) (s .args .n) (s .pre .1)) (accepted-letters (s .args .file .now) (s .pre .0))
+carry-requires c κs = search needs
 
 -- src/words.rt:11:1
 returns : tie.Need-returns
 returns c =
     let s = c .before .before .before in
+    let a = s .args in
+    let f = a .file .now in
     c .carry .ensures
-    ∙ ap (λ (w : List ℕ). wordOn gf32 (s .args .t-values .now) w (s .args .pair)) (part-codes (s .args .file .now) (s .pre .0) (s .args .n) (s .pre .1))
+    ∙ ap (λ (w : List ℕ). codesOn gf32 (a .t-values .now) w (a .pair)) (part-codes f (s .pre .0) (a .n) (s .pre .1))
+    ∙ codes-word gf32 (a .t-values .now) (codes f) (a .pair) (accepted-letters f (s .pre .0))
 
 pub carried-spec : {M : Type 1} → statement M
 carried-spec = tie.close (tie.spec sub-part part-part-start part-part-end carry-requires returns)
