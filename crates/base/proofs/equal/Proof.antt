@@ -8,8 +8,6 @@ use lib.Seq.{ext-getD}
 use Rattle.base.proofs.ListLaws.{same-false, same-refuted, same-of}
 use Rattle.base.proofs.equal.Statement.{statement}
 use Rattle.base.proofs.equal.Tie as tie
-use Rattle.base.proofs.equal.Reads as reads
-use Rattle.base.proofs.equal.Lts as lts
 
 abbrev Inv-loop : tie.InvT-loop
 Inv-loop a b i₀ i = (i ≤ length a) × ((k : ℕ) → k < i → getD a k 0 ≡ getD b k 0)
@@ -17,39 +15,33 @@ Inv-loop a b i₀ i = (i ≤ length a) × ((k : ℕ) → k < i → getD a k 0 �
 abbrev μ-loop : tie.MeasureT-loop
 μ-loop a b i₀ i = length a - i
 
--- src/lib.rt:26:9
 returns : tie.Need-returns Inv-loop μ-loop
-returns c = sym (same-false _ _ (λ e. c .if1 .taken (ap length e)))
+returns c =
+    let a = c .before .args in
+    let other : (length (a .a .now) ≡ length (a .b .now) → ⊥) = omega arith in
+    sym (same-false _ _ (λ e. other (ap length e)))
 
--- src/lib.rt:29:5
 loop-holds : tie.Need-loop-holds Inv-loop μ-loop
 loop-holds c = (omega arith, below-none _)
 
--- src/lib.rt:30:12
 shared-slice-read-if2 : tie.Need-shared-slice-read-if2 Inv-loop μ-loop
 shared-slice-read-if2 c = omega arith
 
--- src/lib.rt:30:20
 shared-slice-read-if2-2 : tie.Need-shared-slice-read-if2-2 Inv-loop μ-loop
 shared-slice-read-if2-2 c = omega arith
 
--- src/lib.rt:31:13
 returns-2 : tie.Need-returns-2 Inv-loop μ-loop
 returns-2 c = sym (same-refuted _ _ _ (c .if2 .taken))
 
--- src/lib.rt:33:9
 add-i : tie.Need-add-i Inv-loop μ-loop
 add-i c = omega arith
 
--- src/lib.rt:29:5
 loop-less : tie.Need-loop-less Inv-loop μ-loop
 loop-less c = omega arith
 
--- src/lib.rt:29:5
 loop-again : tie.Need-loop-again Inv-loop μ-loop
 loop-again c = (omega arith, below-more _ _ (c .before .before .before .before .loop .inv .1) (c .if2 .left))
 
--- src/lib.rt:22:1
 returns-3 : tie.Need-returns-3 Inv-loop μ-loop
 returns-3 c =
     let a = c .before .before .before .args in

@@ -5,58 +5,40 @@ use Rattle.io.proofs.Counting.{counts}
 use borrow.Author.Needs.{needs}
 use Rattle.desk_io.proofs.fill.Statement.{statement}
 use Rattle.desk_io.proofs.fill.Tie as tie
-use Rattle.desk_io.proofs.fill.Reads as reads
-use Rattle.desk_io.proofs.fill.Lts as lts
-use Rattle.io.proofs.count.Reads as count-reads
-use Rattle.io.proofs.read_full.Reads as read-full-reads
-use Rattle.libc.proofs.read.Reads as read-reads
-use Rattle.os.proofs.fail.Reads as fail-reads
 
--- src/lib.rt:34:9
 read-requires : tie.Need-read-requires
 read-requires c κs = search needs
 
--- src/lib.rt:36:9
 fail-requires : tie.Need-fail-requires
 fail-requires c κs = search needs
 
--- src/lib.rt:37:9
 same-length : tie.Need-same-length
 same-length c = search needs
 
--- src/lib.rt:37:9
 returns : tie.Need-returns
 returns c = search needs
 
--- src/lib.rt:42:9
 count-requires : tie.Need-count-requires
 count-requires c κs = search needs
 
--- src/lib.rt:43:34
 sub-read-full : tie.Need-sub-read-full
 sub-read-full c = search needs
 
--- src/lib.rt:43:34
 part-read-full-start : tie.Need-part-read-full-start
 part-read-full-start c = search needs
 
--- src/lib.rt:43:34
 part-read-full-end : tie.Need-part-read-full-end
 part-read-full-end c = search needs
 
--- src/lib.rt:43:9
 read-full-requires : tie.Need-read-full-requires
 read-full-requires c κs = search needs
 
--- src/lib.rt:46:16
 add-t14 : tie.Need-add-t14
 add-t14 c = search needs
 
--- src/lib.rt:31:1
 same-length-2 : tie.Need-same-length-2
 same-length-2 c = search needs
 
--- src/lib.rt:31:1
 returns-2 : tie.Need-returns-2
 returns-2 c = counts _ _ (simp (length-append, length-take) (omega arith))
 

@@ -4,45 +4,32 @@ use Rattle.slip.proofs.DeskLaws.{line-within}
 use borrow.Author.Needs.{needs}
 use Rattle.desk_io.proofs.tell.Statement.{statement}
 use Rattle.desk_io.proofs.tell.Tie as tie
-use Rattle.desk_io.proofs.tell.Reads as reads
-use Rattle.desk_io.proofs.tell.Lts as lts
-use Rattle.io.proofs.write_all.Reads as write-all-reads
-use Rattle.os.proofs.fail.Reads as fail-reads
-use Rattle.slip.proofs.answer_line.Reads as answer-line-reads
 
--- src/lib.rt:9:9
 answer-line-requires : tie.Need-answer-line-requires
 answer-line-requires c κs = search needs
 
--- src/lib.rt:12:38
 array-share-prefix-text : tie.Need-array-share-prefix-text
 array-share-prefix-text c =
     let a = c .before .answer-line in
     line-within (a .ensures)
 
--- src/lib.rt:12:38
 slice-aggregate-write-all : tie.Need-slice-aggregate-write-all
 slice-aggregate-write-all c =
     let a = c .before .before .answer-line in
     front _ _ (line-within (a .ensures))
 
--- src/lib.rt:12:9
 write-all-requires : tie.Need-write-all-requires
 write-all-requires c κs = search needs
 
--- src/lib.rt:13:18
 slice-aggregate-fail : tie.Need-slice-aggregate-fail
 slice-aggregate-fail c = search needs
 
--- src/lib.rt:13:9
 fail-requires : tie.Need-fail-requires
 fail-requires c κs = search needs
 
--- src/lib.rt:8:1
 returns : tie.Need-returns
 returns c = search needs
 
--- src/lib.rt:8:1
 returns-2 : tie.Need-returns-2
 returns-2 c = search needs
 

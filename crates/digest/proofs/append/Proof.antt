@@ -11,10 +11,6 @@ use lib.Seq.{take-suc, take-suc-set, take-length}
 use Rattle.digest.specs.Digest.{halfByteBraid}
 use Rattle.digest.proofs.append.Statement.{statement}
 use Rattle.digest.proofs.append.Tie as tie
-use Rattle.digest.proofs.append.Reads as reads
-use Rattle.digest.proofs.append.Lts as lts
-use Rattle.digest.proofs.braid_len.Reads as braid-len-reads
-use Rattle.digest.proofs.braid_letter.Reads as braid-letter-reads
 
 -- one more letter
 one-more : (codes before xs : List ℕ) (at j : ℕ) → take (at + j) codes ≡ before ++ take j xs → at + j < length codes → j < length xs
@@ -30,35 +26,27 @@ Inv-loop codes₀ at h n j₀ codes j =
 abbrev μ-loop : tie.MeasureT-loop
 μ-loop codes₀ at h n j₀ codes j = n - j
 
--- src/lib.rt:44:9
 braid-len-requires : tie.Need-braid-len-requires Inv-loop μ-loop
 braid-len-requires c κs = c .before .pre .0
 
--- src/lib.rt:46:5
 loop-holds : tie.Need-loop-holds Inv-loop μ-loop
 loop-holds c = (omega arith, refl, rw add-zero (sym (append-nil _)))
 
--- src/lib.rt:47:25
 braid-letter-requires : tie.Need-braid-letter-requires Inv-loop μ-loop
 braid-letter-requires c κs = (c .before .before .before .before .pre .0, omega arith)
 
--- src/lib.rt:47:15
 add-codes : tie.Need-add-codes Inv-loop μ-loop
 add-codes c = omega arith
 
--- src/lib.rt:47:9
 slice-write-codes : tie.Need-slice-write-codes Inv-loop μ-loop
 slice-write-codes c = omega arith
 
--- src/lib.rt:48:9
 add-j : tie.Need-add-j Inv-loop μ-loop
 add-j c = omega arith
 
--- src/lib.rt:46:5
 loop-less : tie.Need-loop-less Inv-loop μ-loop
 loop-less c = omega arith
 
--- src/lib.rt:46:5
 loop-again : tie.Need-loop-again Inv-loop μ-loop
 loop-again c =
     let t = c .before .before in
@@ -71,15 +59,12 @@ loop-again c =
           ∙ one-more (l .codes) (take (a .at) (a .codes .now)) (halfByteBraid (a .h)) (a .at) (l .j) (l .inv .2) (omega arith) (omega arith),
     )
 
--- src/lib.rt:50:5
 add-result : tie.Need-add-result Inv-loop μ-loop
 add-result c = omega arith
 
--- src/lib.rt:40:1
 same-length : tie.Need-same-length Inv-loop μ-loop
 same-length c = c .before .loop .inv .1
 
--- src/lib.rt:40:1
 returns : tie.Need-returns Inv-loop μ-loop
 returns c =
     let b = c .before .before in

@@ -4,35 +4,25 @@ use Rattle.digest.proofs.HalfByte.{braid-length, braid-short}
 use borrow.Author.Needs.{needs}
 use Rattle.digest.proofs.braid_len.Statement.{statement}
 use Rattle.digest.proofs.braid_len.Tie as tie
-use Rattle.digest.proofs.braid_len.Reads as reads
-use Rattle.digest.proofs.braid_len.Lts as lts
-use Rattle.digest.proofs.above_selected.Reads as above-selected-reads
 
--- src/lib.rt:24:9
 above-selected-requires : tie.Need-above-selected-requires
 above-selected-requires c κs = search needs
 
--- src/lib.rt:25:17
 cast-power : tie.Need-cast-power
 cast-power c = search needs
 
--- src/lib.rt:25:17
 add-power : tie.Need-add-power
 add-power c = search needs
 
--- src/lib.rt:26:5
 mul-result : tie.Need-mul-result
 mul-result c = search needs
 
--- src/lib.rt:26:17
 mul-result-2 : tie.Need-mul-result-2
 mul-result-2 c = search needs
 
--- src/lib.rt:26:5
 add-result : tie.Need-add-result
 add-result c = search needs
 
--- src/lib.rt:20:1
 returns : tie.Need-returns
 returns c =
     let h = c .before .args .h in (

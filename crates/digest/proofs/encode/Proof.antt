@@ -17,10 +17,6 @@ use Rattle.digest.proofs.Encoded.{encoded-short, encoded-letters}
 use borrow.Author.Needs.{needs}
 use Rattle.digest.proofs.encode.Statement.{statement}
 use Rattle.digest.proofs.encode.Tie as tie
-use Rattle.digest.proofs.encode.Reads as reads
-use Rattle.digest.proofs.encode.Lts as lts
-use Rattle.braid.proofs.write_word.Reads as write-word-reads
-use Rattle.digest.proofs.encode_into.Reads as encode-into-reads
 
 module _ (room : ℕ) (digest : List ℕ) where
   no-room : room < 5002 → firstNo (encoderQuestions room digest) ≡ 15
@@ -38,40 +34,32 @@ returns c =
     wrote-refused (encoderQuestions (length (a .out .now)) (a .digest .now)) (wordFile (encoded (a .digest .now))) (a .out .now) 15
     (no-room (length (a .out .now)) (a .digest .now) (omega arith)) (λ e. omega (arith, e))
 
--- src/lib.rt:77:9
 returns-2 : tie.Need-returns-2
 returns-2 c =
     let a = c .before .before .before .before .args in
     wrote-refused (encoderQuestions (length (a .out .now)) (a .digest .now)) (wordFile (encoded (a .digest .now))) (a .out .now) 8
     (no-digest (length (a .out .now)) (a .digest .now) (omega arith) (λ e. omega arith)) (λ e. omega (arith, e))
 
--- src/lib.rt:83:33
 slice-aggregate-encode-into : tie.Need-slice-aggregate-encode-into
 slice-aggregate-encode-into c = search needs
 
--- src/lib.rt:83:9
 encode-into-requires : tie.Need-encode-into-requires
 encode-into-requires c κs = (omega arith, omega arith)
 
--- src/lib.rt:84:23
 array-share-prefix-codes : tie.Need-array-share-prefix-codes
 array-share-prefix-codes c = search needs
 
--- src/lib.rt:84:23
 slice-aggregate-write-word : tie.Need-slice-aggregate-write-word
 slice-aggregate-write-word c =
     let b = c .before .before in
     sym (length-take-le (b .encode-into .result) (b .encode-into .last .1 .0) (omega (arith, b .encode-into .ensures .0, b .encode-into .kept)))
 
--- src/lib.rt:84:5
 write-word-requires : tie.Need-write-word-requires
 write-word-requires c κs = search needs
 
--- src/lib.rt:67:1
 same-length : tie.Need-same-length
 same-length c = search needs
 
--- src/lib.rt:67:1
 returns-3 : tie.Need-returns-3
 returns-3 c =
     let w = c .before .before in

@@ -11,10 +11,6 @@ use Rattle.digest.specs.Digest.{halfByteBraid, braidOf, encoded}
 use Rattle.digest.proofs.Encoded.{braidOf-none, braidOf-more}
 use Rattle.digest.proofs.encode_into.Statement.{statement}
 use Rattle.digest.proofs.encode_into.Tie as tie
-use Rattle.digest.proofs.encode_into.Reads as reads
-use Rattle.digest.proofs.encode_into.Lts as lts
-use Rattle.braid.proofs.half.Reads as half-reads
-use Rattle.digest.proofs.append.Reads as append-reads
 
 abbrev Inv-loop : tie.InvT-loop
 Inv-loop digest codes₀ n₀ k₀ codes n k =
@@ -23,15 +19,12 @@ Inv-loop digest codes₀ n₀ k₀ codes n k =
 abbrev μ-loop : tie.MeasureT-loop
 μ-loop digest codes₀ n₀ k₀ codes n k = 64 - k
 
--- src/lib.rt:59:5
 loop-holds : tie.Need-loop-holds Inv-loop μ-loop
 loop-holds c = (omega arith, omega arith, refl, sym braidOf-none)
 
--- src/lib.rt:60:30
 half-requires : tie.Need-half-requires Inv-loop μ-loop
 half-requires c κs = tt
 
--- src/lib.rt:60:9
 append-requires : tie.Need-append-requires Inv-loop μ-loop
 append-requires c κs =
     let t = c .before .before in
@@ -39,15 +32,12 @@ append-requires c κs =
     let h : c .half .result < 16 = rw (c .half .ensures) (halves-below (b .before .args .digest .now) (λ i. b .shared-slice-known .given i .fits) _) in
     (h, omega arith)
 
--- src/lib.rt:61:9
 add-k : tie.Need-add-k Inv-loop μ-loop
 add-k c = omega arith
 
--- src/lib.rt:59:5
 loop-less : tie.Need-loop-less Inv-loop μ-loop
 loop-less c = omega arith
 
--- src/lib.rt:59:5
 loop-again : tie.Need-loop-again Inv-loop μ-loop
 loop-again c =
     let a = c .before .before in
@@ -64,11 +54,9 @@ loop-again c =
           ∙ sym (braidOf-more (halves digest) (l .k) k),
     )
 
--- src/lib.rt:53:1
 same-length : tie.Need-same-length Inv-loop μ-loop
 same-length c = c .before .loop .inv .2
 
--- src/lib.rt:53:1
 returns : tie.Need-returns Inv-loop μ-loop
 unfolding encoded
 returns c =

@@ -4,45 +4,33 @@ use Rattle.slip.proofs.DeskLaws.{told, one-digit, two-digits, three-dig
 use borrow.Author.Needs.{needs}
 use Rattle.slip.proofs.answer_line.Statement.{statement}
 use Rattle.slip.proofs.answer_line.Tie as tie
-use Rattle.slip.proofs.answer_line.Reads as reads
-use Rattle.slip.proofs.answer_line.Lts as lts
-use Rattle.slip.proofs.spelled.Reads as spelled-reads
 
--- src/lib.rt:60:16
 add-ones : tie.Need-add-ones
 add-ones c = search needs
 
--- src/lib.rt:62:9
 spelled-requires : tie.Need-spelled-requires
 spelled-requires c κs = search needs
 
--- src/lib.rt:62:9
 returns : tie.Need-returns
 unfolding overlaid
 returns c = told _ (one-digit _ (c .before .if1 .taken)) (c .spelled .ensures .0) (c .spelled .ensures .1)
 
--- src/lib.rt:64:16
 add-tens : tie.Need-add-tens
 add-tens c = search needs
 
--- src/lib.rt:66:9
 spelled-requires-2 : tie.Need-spelled-requires-2
 spelled-requires-2 c κs = search needs
 
--- src/lib.rt:66:9
 returns-2 : tie.Need-returns-2
 unfolding overlaid
 returns-2 c = told _ (two-digits _ (c .before .before .if1 .left) (c .before .if2 .taken)) (c .spelled2 .ensures .0) (c .spelled2 .ensures .1)
 
--- src/lib.rt:68:20
 add-hundreds : tie.Need-add-hundreds
 add-hundreds c = search needs
 
--- src/lib.rt:69:5
 spelled-requires-3 : tie.Need-spelled-requires-3
 spelled-requires-3 c κs = search needs
 
--- src/lib.rt:57:1
 returns-3 : tie.Need-returns-3
 unfolding overlaid
 returns-3 c = told _ (three-digits _ (c .before .if2 .left)) (c .spelled3 .ensures .0) (c .spelled3 .ensures .1)

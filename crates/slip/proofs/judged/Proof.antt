@@ -4,32 +4,22 @@ use Rattle.slip.proofs.DeskLaws.{judged-parts}
 use borrow.Author.Needs.{needs}
 use Rattle.slip.proofs.judged.Statement.{statement}
 use Rattle.slip.proofs.judged.Tie as tie
-use Rattle.slip.proofs.judged.Reads as reads
-use Rattle.slip.proofs.judged.Lts as lts
-use Rattle.slip.proofs.part.Reads as part-reads
-use Rattle.verify.proofs.verify.Reads as verify-reads
 
--- src/lib.rt:33:9
 part-requires : tie.Need-part-requires
 part-requires c κs = search needs
 
--- src/lib.rt:34:9
 part-requires-2 : tie.Need-part-requires-2
 part-requires-2 c κs = search needs
 
--- src/lib.rt:35:28
 add-part : tie.Need-add-part
 add-part c = search needs
 
--- src/lib.rt:35:9
 part-requires-3 : tie.Need-part-requires-3
 part-requires-3 c κs = search needs
 
--- src/lib.rt:36:5
 verify-requires : tie.Need-verify-requires
 verify-requires c κs = search needs
 
--- src/lib.rt:30:1
 returns : tie.Need-returns
 returns c =
     let s = c .before .before .before in

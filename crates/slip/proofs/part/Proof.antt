@@ -3,37 +3,27 @@ use Rattle.slip.proofs.DeskLaws.{cut, cut-length}
 use borrow.Author.Needs.{needs}
 use Rattle.slip.proofs.part.Statement.{statement}
 use Rattle.slip.proofs.part.Tie as tie
-use Rattle.slip.proofs.part.Reads as reads
-use Rattle.slip.proofs.part.Lts as lts
-use Rattle.slip.proofs.least.Reads as least-reads
 
--- src/lib.rt:23:9
 least-requires : tie.Need-least-requires
 least-requires c κs = search needs
 
--- src/lib.rt:24:16
 sub-rest : tie.Need-sub-rest
 sub-rest c = search needs
 
--- src/lib.rt:24:16
 part-rest-start : tie.Need-part-rest-start
 part-rest-start c = search needs
 
--- src/lib.rt:24:16
 part-rest-end : tie.Need-part-rest-end
 part-rest-end c = search needs
 
--- src/lib.rt:25:9
 least-requires-2 : tie.Need-least-requires-2
 least-requires-2 c κs = search needs
 
--- src/lib.rt:26:5
 slice-aggregate-result : tie.Need-slice-aggregate-result
 slice-aggregate-result c =
     let s = c .before .before .before .before .before in
     cut-length (s .args .at) (s .args .most) _ _ (s .args .input .now) (c .before .before .before .least .ensures) (c .before .least2 .ensures)
 
--- src/lib.rt:20:1
 returns : tie.Need-returns
 returns c =
     let s = c .before .before .before .before .before in

@@ -13,12 +13,6 @@ use Rattle.verify.proofs.CloakLaws.{isList, key-refused, list-refused, 
 use borrow.Author.Needs.{needs}
 use Rattle.verify.proofs.cloaking.cloaks.Statement.{statement}
 use Rattle.verify.proofs.cloaking.cloaks.Tie as tie
-use Rattle.verify.proofs.cloaking.cloaks.Reads as reads
-use Rattle.verify.proofs.cloaking.cloaks.Lts as lts
-use Rattle.braid.proofs.read_word.Reads as read-word-reads
-use Rattle.key.proofs.read_key.Reads as read-key-reads
-use Rattle.verify.proofs.cloaking.comes_back.Reads as comes-back-reads
-use Rattle.verify.proofs.cloaking.is_list.Reads as is-list-reads
 
 -- what the questions that were passed tell
 key-passed : (c : tie.Else1) → keyAnswer (c .before .before .before .before .before .args .key .now) ≡ 0
@@ -30,33 +24,27 @@ list-passed c = sym (c .before .is-list .ensures) ∙ not-false _ (c .if2 .left)
 word-passed : (c : tie.Else3) → wordAnswer (c .before .before .before .before .before .before .before .before .before .args .word .now) ≡ 0
 word-passed c = sym (c .before .read-word .ensures .answer-is) ∙ c .if3 .left
 
--- src/cloaking.rt:64:9
 read-key-requires : tie.Need-read-key-requires
 read-key-requires c κs = search needs
 
--- src/cloaking.rt:67:9
 returns : tie.Need-returns
 returns c =
     let k = c .before in
     let a = k .before .before .before .before .args in
     key-refused (a .key .now) (a .labels .now) (a .word .now) (k .read-key .result .answer) (k .read-key .ensures .answer-is) (c .if1 .taken)
 
--- src/cloaking.rt:72:9
 is-list-requires : tie.Need-is-list-requires
 is-list-requires c κs = search needs
 
--- src/cloaking.rt:73:9
 returns-2 : tie.Need-returns-2
 returns-2 c =
     let l = c .before in
     let a = l .before .before .before .before .before .before .args in
     list-refused (a .key .now) (a .labels .now) (a .word .now) (key-passed (l .before)) (sym (l .is-list .ensures) ∙ not-true _ (c .if2 .taken))
 
--- src/cloaking.rt:78:9
 read-word-requires : tie.Need-read-word-requires
 read-word-requires c κs = search needs
 
--- src/cloaking.rt:81:9
 returns-3 : tie.Need-returns-3
 returns-3 c =
     let w = c .before in
@@ -65,7 +53,6 @@ returns-3 c =
     word-refused (a .key .now) (a .labels .now) (a .word .now) (key-passed (l .before .before)) (list-passed l) (w .read-word .result .answer)
     (w .read-word .ensures .answer-is) (c .if3 .taken)
 
--- src/cloaking.rt:91:14
 comes-back-requires : tie.Need-comes-back-requires
 comes-back-requires c κs =
     let e = c .before .before .before in
@@ -74,7 +61,6 @@ comes-back-requires c κs =
     let a = l .before .before .before .before .before .before .before .args in
     (eqb-true (length (a .labels .now)) 8 (and-left _ _ (list-passed l)), word-passed e, w .read-word .ensures .count-is)
 
--- src/cloaking.rt:61:1
 returns-4 : tie.Need-returns-4
 returns-4 c =
     let e = c .before .before .before .before in

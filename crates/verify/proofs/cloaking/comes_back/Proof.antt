@@ -6,38 +6,25 @@ use Rattle.verify.proofs.CloakLaws.{not-back, back}
 use borrow.Author.Needs.{needs}
 use Rattle.verify.proofs.cloaking.comes_back.Statement.{statement}
 use Rattle.verify.proofs.cloaking.comes_back.Tie as tie
-use Rattle.verify.proofs.cloaking.comes_back.Reads as reads
-use Rattle.verify.proofs.cloaking.comes_back.Lts as lts
-use Rattle.action.proofs.Pair.start.Reads as start-reads
-use Rattle.base.proofs.equal.Reads as equal-reads
-use Rattle.verify.proofs.cloaking.eight.Reads as eight-reads
-use Rattle.verify.proofs.words.carried.Reads as carried-reads
 
--- src/cloaking.rt:44:9
 start-requires : tie.Need-start-requires
 start-requires c κs = search needs
 
--- src/cloaking.rt:46:9
 eight-requires : tie.Need-eight-requires
 eight-requires c κs = search needs
 
--- src/cloaking.rt:51:9
 carried-requires : tie.Need-carried-requires
 carried-requires c κs = search needs
 
--- src/cloaking.rt:54:21
 slice-aggregate-equal : tie.Need-slice-aggregate-equal
 slice-aggregate-equal c = search needs
 
--- src/cloaking.rt:54:30
 slice-aggregate-equal-2 : tie.Need-slice-aggregate-equal-2
 slice-aggregate-equal-2 c = search needs
 
--- src/cloaking.rt:54:9
 equal-requires : tie.Need-equal-requires
 equal-requires c κs = search needs
 
--- src/cloaking.rt:55:9
 returns : tie.Need-returns
 returns c =
     let e = c .before in
@@ -48,15 +35,12 @@ returns c =
     not-back (a .t-values .now) (a .labels .now) (codes (a .word .now)) (g .eight .result) (t .start .result) (k .carried .result) (t .start .ensures) (g .eight .ensures)
     (k .carried .ensures) (sym (e .equal .ensures) ∙ not-true _ (c .if1 .taken))
 
--- src/cloaking.rt:57:17
 slice-aggregate-equal-3 : tie.Need-slice-aggregate-equal-3
 slice-aggregate-equal-3 c = search needs
 
--- src/cloaking.rt:57:5
 equal-requires-2 : tie.Need-equal-requires-2
 equal-requires-2 c κs = search needs
 
--- src/cloaking.rt:40:1
 returns-2 : tie.Need-returns-2
 returns-2 c =
     let e = c .before .before .before in

@@ -4,42 +4,31 @@ use Rattle.base.proofs.ListLaws.{values-getD}
 use borrow.Author.Needs.{needs}
 use Rattle.verify.proofs.cloaking.eight.Statement.{statement}
 use Rattle.verify.proofs.cloaking.eight.Tie as tie
-use Rattle.verify.proofs.cloaking.eight.Reads as reads
-use Rattle.verify.proofs.cloaking.eight.Lts as lts
 
--- src/lib.rt:35:9
 shared-slice-read-t3 : tie.Need-shared-slice-read-t3
 shared-slice-read-t3 c = search needs
 
--- src/lib.rt:36:9
 shared-slice-read-t5 : tie.Need-shared-slice-read-t5
 shared-slice-read-t5 c = search needs
 
--- src/lib.rt:37:9
 shared-slice-read-t7 : tie.Need-shared-slice-read-t7
 shared-slice-read-t7 c = search needs
 
--- src/lib.rt:38:9
 shared-slice-read-t9 : tie.Need-shared-slice-read-t9
 shared-slice-read-t9 c = search needs
 
--- src/lib.rt:39:9
 shared-slice-read-t11 : tie.Need-shared-slice-read-t11
 shared-slice-read-t11 c = search needs
 
--- src/lib.rt:40:9
 shared-slice-read-t13 : tie.Need-shared-slice-read-t13
 shared-slice-read-t13 c = search needs
 
--- src/lib.rt:41:9
 shared-slice-read-t15 : tie.Need-shared-slice-read-t15
 shared-slice-read-t15 c = search needs
 
--- src/lib.rt:42:9
 shared-slice-read-t17 : tie.Need-shared-slice-read-t17
 shared-slice-read-t17 c = search needs
 
--- src/lib.rt:30:1
 returns : tie.Need-returns
 unfolding valuesFrom
 returns c =

@@ -7,19 +7,13 @@ use Rattle.action.specs.Multiplier.{isOrder}
 use borrow.Author.Needs.{needs}
 use Rattle.verify.proofs.cloaking.is_list.Statement.{statement}
 use Rattle.verify.proofs.cloaking.is_list.Tie as tie
-use Rattle.verify.proofs.cloaking.is_list.Reads as reads
-use Rattle.verify.proofs.cloaking.is_list.Lts as lts
-use Rattle.action.proofs.is_order.Reads as is-order-reads
 
--- src/lib.rt:24:9
 returns : tie.Need-returns
 returns c = sym (ap (λ (b : Bool). b && isOrder (c .before .before .args .labels .now)) (ne-eqb _ 8 (c .if1 .taken)))
 
--- src/lib.rt:26:5
 is-order-requires : tie.Need-is-order-requires
 is-order-requires c κs = search needs
 
--- src/lib.rt:20:1
 returns-2 : tie.Need-returns-2
 returns-2 c =
     let l = c .before .before .before .args .labels .now in

@@ -14,12 +14,6 @@ use Rattle.verify.proofs.VerdictLaws.{braid-short, braid-accepted, brai
 use borrow.Author.Needs.{needs}
 use Rattle.verify.proofs.verdict.digest_matrix.Statement.{statement}
 use Rattle.verify.proofs.verdict.digest_matrix.Tie as tie
-use Rattle.verify.proofs.verdict.digest_matrix.Reads as reads
-use Rattle.verify.proofs.verdict.digest_matrix.Lts as lts
-use Rattle.action.proofs.Pair.start.Reads as start-reads
-use Rattle.braid.proofs.read_word.Reads as read-word-reads
-use Rattle.digest.proofs.encode.Reads as encode-reads
-use Rattle.verify.proofs.words.carried.Reads as carried-reads
 
 -- the digest is of bytes, and what the encoder left is its braid's file
 module _ (e : tie.After-encode) where
@@ -38,41 +32,33 @@ module _ (e : tie.After-encode) where
   file-codes : codes (take (e .encode .result .bytes) (e .encode .last .1 .0)) ≡ encoded digest
   file-codes = braid-codes digest known (e .before .before .before .pre) (e .encode .ensures) (omega arith)
 
--- src/verdict.rt:22:42
 slice-aggregate-encode : tie.Need-slice-aggregate-encode
 slice-aggregate-encode c = search needs
 
--- src/verdict.rt:22:9
 encode-requires : tie.Need-encode-requires
 encode-requires c κs = search needs
 
--- src/verdict.rt:24:16
 array-share-prefix-file : tie.Need-array-share-prefix-file
 array-share-prefix-file c =
     let e = c .before in
     omega (arith, file-fits e, e .encode .kept .1 .0)
 
--- src/verdict.rt:24:9
 slice-aggregate-word : tie.Need-slice-aggregate-word
 slice-aggregate-word c =
     let e = c .before .before in
     sym (length-take-le (e .encode .result .bytes) (e .encode .last .1 .0) (omega (arith, file-fits e, e .encode .kept .1 .0)))
 
--- src/verdict.rt:25:9
 read-word-requires : tie.Need-read-word-requires
 read-word-requires c κs = search needs
 
--- src/verdict.rt:27:27
 start-requires : tie.Need-start-requires
 start-requires c κs = search needs
 
--- src/verdict.rt:27:9
 carried-requires : tie.Need-carried-requires
 carried-requires c κs =
     let r = c .before in
     (file-accepted (r .before .before .before), r .read-word .ensures .count-is)
 
--- src/verdict.rt:17:1
 returns : tie.Need-returns
 returns c =
     let k = c .before in

@@ -6,38 +6,25 @@ use Rattle.verify.proofs.VerdictLaws.{signed-is, sides}
 use borrow.Author.Needs.{needs}
 use Rattle.verify.proofs.verdict.judge.Statement.{statement}
 use Rattle.verify.proofs.verdict.judge.Tie as tie
-use Rattle.verify.proofs.verdict.judge.Reads as reads
-use Rattle.verify.proofs.verdict.judge.Lts as lts
-use Rattle.action.proofs.matrix_product.Reads as matrix-product-reads
-use Rattle.base.proofs.equal.Reads as equal-reads
-use Rattle.verify.proofs.verdict.digest_matrix.Reads as digest-matrix-reads
-use Rattle.verify.proofs.words.carried.Reads as carried-reads
 
--- src/verdict.rt:39:9
 carried-requires : tie.Need-carried-requires
 carried-requires c κs = search needs
 
--- src/verdict.rt:41:17
 digest-matrix-requires : tie.Need-digest-matrix-requires
 digest-matrix-requires c κs = search needs
 
--- src/verdict.rt:42:18
 matrix-product-requires : tie.Need-matrix-product-requires
 matrix-product-requires c κs = search needs
 
--- src/verdict.rt:43:20
 slice-aggregate-equal : tie.Need-slice-aggregate-equal
 slice-aggregate-equal c = search needs
 
--- src/verdict.rt:43:29
 slice-aggregate-equal-2 : tie.Need-slice-aggregate-equal-2
 slice-aggregate-equal-2 c = search needs
 
--- src/verdict.rt:43:8
 equal-requires : tie.Need-equal-requires
 equal-requires c κs = search needs
 
--- src/verdict.rt:32:1
 returns : tie.Need-returns
 returns c =
     let e = c .before in
@@ -49,7 +36,6 @@ returns c =
     (signed-is (a .held) (codes (a .word .now)) (k .carried .result) (k .carried .ensures)) (f .digest-matrix .ensures) (x .matrix-product .ensures) in
     ap (λ (b : Bool). cond b 0 14) (sym (c .if1 .taken) ∙ e .equal .ensures ∙ both)
 
--- src/verdict.rt:32:1
 returns-2 : tie.Need-returns-2
 returns-2 c =
     let e = c .before in

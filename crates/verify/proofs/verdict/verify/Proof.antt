@@ -11,11 +11,6 @@ use Rattle.verify.proofs.VerdictIff.{judged, key-refused, digest-refuse
 use borrow.Author.Needs.{needs}
 use Rattle.verify.proofs.verdict.verify.Statement.{statement}
 use Rattle.verify.proofs.verdict.verify.Tie as tie
-use Rattle.verify.proofs.verdict.verify.Reads as reads
-use Rattle.verify.proofs.verdict.verify.Lts as lts
-use Rattle.braid.proofs.read_word.Reads as read-word-reads
-use Rattle.key.proofs.read_key.Reads as read-key-reads
-use Rattle.verify.proofs.verdict.judge.Reads as judge-reads
 
 -- what the questions that were passed tell
 key-passed : (c : tie.Else1) → keyAnswer (c .before .before .before .before .before .args .key .now) ≡ 0
@@ -24,11 +19,9 @@ key-passed c = sym (c .before .read-key .ensures .answer-is) ∙ c .if1 .left
 word-passed : (c : tie.Else3) → wordAnswer (c .before .before .before .before .before .before .before .before .args .word .now) ≡ 0
 word-passed c = sym (c .before .read-word .ensures .answer-is) ∙ c .if3 .left
 
--- src/verdict.rt:50:9
 read-key-requires : tie.Need-read-key-requires
 read-key-requires c κs = search needs
 
--- src/verdict.rt:53:9
 returns : tie.Need-returns
 returns c =
     let k = c .before in
@@ -36,18 +29,15 @@ returns c =
     let e = k .read-key .ensures .answer-is in
     e ∙ sym (key-refused (a .key .now) (a .digest .now) (a .word .now) (λ z. c .if1 .taken (e ∙ z)))
 
--- src/verdict.rt:56:9
 returns-2 : tie.Need-returns-2
 returns-2 c =
     let k = c .before in
     let a = k .before .before .before .before .before .args in
     sym (digest-refused (a .key .now) (a .digest .now) (a .word .now) (key-passed k) (c .if2 .taken))
 
--- src/verdict.rt:58:9
 read-word-requires : tie.Need-read-word-requires
 read-word-requires c κs = search needs
 
--- src/verdict.rt:61:9
 returns-3 : tie.Need-returns-3
 returns-3 c =
     let w = c .before in
@@ -56,13 +46,11 @@ returns-3 c =
     let e = w .read-word .ensures .answer-is in
     e ∙ sym (word-refused (a .key .now) (a .digest .now) (a .word .now) (key-passed (d .before)) (d .if2 .left) (λ z. c .if3 .taken (e ∙ z)))
 
--- src/verdict.rt:65:5
 judge-requires : tie.Need-judge-requires
 judge-requires c κs =
     let w = c .before in
     (w .before .before .if2 .left, word-passed w, w .before .read-word .ensures .count-is)
 
--- src/verdict.rt:47:1
 returns-4 : tie.Need-returns-4
 returns-4 c =
     let w = c .before .before in

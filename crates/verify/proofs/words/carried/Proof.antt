@@ -11,27 +11,19 @@ use Rattle.action.proofs.CarryLaws.{codes-word}
 use borrow.Author.Needs.{needs}
 use Rattle.verify.proofs.words.carried.Statement.{statement}
 use Rattle.verify.proofs.words.carried.Tie as tie
-use Rattle.verify.proofs.words.carried.Reads as reads
-use Rattle.verify.proofs.words.carried.Lts as lts
-use Rattle.action.proofs.carry.Reads as carry-reads
 
--- src/words.rt:15:16
 sub-part : tie.Need-sub-part
 sub-part c = accepted-long (c .before .args .file .now) (c .before .pre .0)
 
--- src/words.rt:15:16
 part-part-start : tie.Need-part-part-start
 part-part-start c = accepted-long (c .before .args .file .now) (c .before .pre .0)
 
--- src/words.rt:15:16
 part-part-end : tie.Need-part-part-end
 part-part-end c = search needs
 
--- src/words.rt:16:5
 carry-requires : tie.Need-carry-requires
 carry-requires c κs = search needs
 
--- src/words.rt:11:1
 returns : tie.Need-returns
 returns c =
     let s = c .before .before .before in
