@@ -123,17 +123,16 @@ fn rewriting(random: &mut Random) -> Work {
     Work::Rewriting { word: word_file(&codes), moves: move_list(&walk.moves) }
 }
 
-/// As many moves as a list may have, on as long a word as they can be made on: b1 and its inverse come and go in the
-/// middle of it, by turns.
-fn in_the_middle() -> Work {
-    let codes: Vec<u8> = (0..LONGEST - 2).map(|place| (place % 2) as u8).collect();
-    let step = |turn| Move { place: LONGEST as u16 / 2, kind: if turn % 2 == 0 { 16 } else { 1 } };
+/// As many moves as a list may have: b1 and its inverse come and go at a place of a word, by turns.
+fn by_turns(letters: usize, place: usize) -> Work {
+    let codes: Vec<u8> = (0..letters).map(|place| (place % 2) as u8).collect();
+    let step = |turn| Move { place: place as u16, kind: if turn % 2 == 0 { 16 } else { 1 } };
     let moves: Vec<Move> = (0..MOVES).map(step).collect();
     Work::Rewriting { word: word_file(&codes), moves: move_list(&moves) }
 }
 
 /// How many cases there are.
-pub const CASES: usize = 5;
+pub const CASES: usize = 7;
 
 /// The case of a number, the same in every run.
 pub fn case(number: usize) -> Case {
@@ -144,6 +143,8 @@ pub fn case(number: usize) -> Case {
         1 => Case { name: "verdict, 10,000 letters", parts: 1, work: slip(random, LONGEST) },
         2 => Case { name: "a letter (cloaking, 10,000)", parts: LONGEST, work: cloaking(random) },
         3 => Case { name: "rewriter, 4,096 moves", parts: 1, work: rewriting(random) },
-        _ => Case { name: "rewriter, all in the middle", parts: 1, work: in_the_middle() },
+        4 => Case { name: "rewriter, all in the middle", parts: 1, work: by_turns(LONGEST - 2, LONGEST / 2) },
+        5 => Case { name: "rewriter, all at the front", parts: 1, work: by_turns(LONGEST - 2, 0) },
+        _ => Case { name: "rewriter, no letters", parts: 1, work: by_turns(0, 0) },
     }
 }

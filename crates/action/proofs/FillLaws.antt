@@ -8,9 +8,9 @@ use native.Mathlib.Omega.{arith}
 use native.Mathlib.Decide.{ℕ-discrete, decLt}
 use borrow.Author.Tests.{eq-eqb, ne-eqb, lt-ltb}
 use lib.Dec.{eqb}
-use lib.ListN.{length, getD, set, replicate, length-set, getD-replicate, List·getD-eq-default}
+use lib.ListN.{length, getD, set, replicate, length-set, List·getD-eq-default}
 use lib.Seq.{getD-set-same, getD-set-other}
-use Rattle.base.specs.Questions.{Question, _else_, firstNo, granted}
+use Rattle.base.specs.Questions.{_else_, firstNo, granted}
 use Rattle.base.proofs.QuestionLaws.{passes, fails, granted-zero, granted-refused}
 use Rattle.field.specs.Polynomial.{times, horner, timesX, first, reciprocalOf}
 use Rattle.field.specs.Gf32.{gf32, reciprocalQuestions, Gives}

@@ -1,23 +1,19 @@
--- Good pairs and T-values from the tests that files and the multiplier make, and the starting pair.
+-- Good pairs and T-values from the tests that files and the multiplier make.
 -- Assumes nothing.
 use Prim.Native.Nat.{ℕ, _<_}
 use mathlib.Core.Path.{_≡_, refl}
-use mathlib.Core.Bool.{Bool, true, false, cond, not}
+use mathlib.Core.Bool.{true, not}
 use mathlib.Core.List.{List}
 use native.Mathlib.Omega.{arith}
 use native.Mathlib.Decide.{decLt}
 use borrow.Author.Tests.{ltb-true, eqb-false, not-true}
 use lib.Dec.{eqb}
 use lib.ListN.{length, getD, List·getD-eq-default}
-use Rattle.base.specs.Lists.{values}
-use Rattle.base.proofs.ListLaws.{every-getD, every-all, once-below, length-values, getD-values}
-use Rattle.field.specs.Binary.{Operations, BinaryField}
+use Rattle.base.proofs.ListLaws.{every-getD, every-all, once-below}
 use Rattle.field.specs.Gf32.{gf32, isElement}
 use Rattle.action.specs.declared.Pair.{Pair}
-use Rattle.action.specs.Action.{identity, start}
 use Rattle.action.specs.Multiplier.{elements, nonzero, isOrder}
 use Rattle.action.specs.Good.{TValues, GoodPair}
-use Rattle.action.proofs.LayoutLaws.{length-matrixOf, matrixOf-below}
 
 -- a bound on the elements holds past the end too, where 0 stands
 pub all-below : (n : ℕ) (l : List ℕ) → 0 < n → ((k : ℕ) → k < length l → getD l k 0 < n) → (k : ℕ) → getD l k 0 < n
@@ -46,26 +42,3 @@ tested-values ts l e n =
   where
     positive : (t : ℕ) → not (eqb t 0) ≡ true → 0 < t
     positive t h = let d : t ≡ 0 → ⊥ = eqb-false t 0 (not-true (eqb t 0) h) in omega arith
-
--- the identity with any eight labels below 8, and the starting pair
-module _ {F : Operations} (L : BinaryField F) where
-  pub identity-good : (labels : List ℕ) → length labels ≡ 8 → ((k : ℕ) → getD labels k 0 < 8)
-      → GoodPair F (record { matrix = identity; labels = labels })
-  unfolding identity
-  identity-good labels l below =
-      record {
-        entries = length-matrixOf (λ r c. cond (eqb r c) 1 0);
-        entry-below = matrixOf-below (λ r c. cond (eqb r c) 1 0) (L .zero-below) (λ r c hr hc. bit (eqb r c));
-        strands = l;
-        label-below = below;
-      }
-    where
-      bit : (b : Bool) → cond b 1 0 < F .size
-      bit true = L .one-below
-      bit false = L .zero-below
-
-  pub start-good : GoodPair F start
-  unfolding start
-  start-good =
-      identity-good (values (λ a. a) 8) (length-values (λ a. a) 0 8)
-      (all-below 8 (values (λ a. a) 8) (omega arith) (λ k h. rw (getD-values (λ a. a) 8 k (omega (arith, length-values (λ a. a) 0 8))) (omega (arith, length-values (λ a. a) 0 8))))

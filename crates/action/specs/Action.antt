@@ -2,9 +2,9 @@
 -- Columns, rows and places count from 0 here, so the letter with generator number g + 1 has its own column at g.
 -- Assumes nothing.
 use Prim.Native.Nat.{ℕ, zero, suc, _+_}
-use mathlib.Core.Bool.{Bool, cond}
+use mathlib.Core.Bool.{cond}
 use mathlib.Core.List.{List, [], _∷_}
-use lib.Dec.{leb, eqb}
+use lib.Dec.{eqb}
 use lib.ListN.{getD, set}
 use Rattle.base.specs.Lists.{every, values}
 use Rattle.field.specs.Binary.{Operations}

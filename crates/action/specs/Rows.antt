@@ -8,7 +8,6 @@ use lib.Dec.{eqb}
 use lib.ListN.{length, getD}
 use Rattle.field.specs.Binary.{Operations}
 use Rattle.field.specs.Gf32.{gf32, products}
-use Rattle.action.specs.declared.Pair.{Pair}
 use Rattle.action.specs.Layout.{entry, matrixOf}
 use Rattle.action.specs.Action.{Share, positiveShare, inverseShare, rowAfter}
 

@@ -1,6 +1,5 @@
 // Tests on T-values, entries and labels, for the questions of the multiplier and of keys.
 ghost use mathlib.Core.Path.{_≡_};
-ghost use Prim.Native.Nat.{ℕ};
 ghost use lib.Dec.{eqb, ltb};
 ghost use Rattle.base.specs.Lists.{every, count, values};
 ghost use Rattle.action.specs.Multiplier.{elements, nonzero, isOrder};

@@ -14,7 +14,7 @@ use borrow.Author.Tests.{ltb-true, lt-ltb}
 use lib.Dec.{ltb}
 use lib.Pow.{pow-add}
 use lib.ListN.{length, take, drop, getD, length-append}
-use lib.Seq.{take-suc, take-at, drop-at, take-nil, drop-nil, ext-getD, getD-drop}
+use lib.Seq.{take-suc, take-nil, getD-drop}
 use Rattle.base.specs.Lists.{every}
 use Rattle.base.specs.Digits.{value, digits, halves}
 use Rattle.base.proofs.ListLaws.{and-true, every-from, every-append, every-all}
@@ -104,12 +104,6 @@ digits-append b (suc m) n v =
     (ap (λ (p : ℕ). v / p % b) (pow-add b m n ∙ mul-comm (b ^ m) (b ^ n)) ∙ ap (λ (d : ℕ). d % b) (sym (div-div-eq-div-mul v (b ^ n) (b ^ m))))
     (digits-append b m n v)
 
-pub take-digits : (b m n v : ℕ) → take m (digits b (m + n) v) ≡ digits b m (v / b ^ n)
-take-digits b m n v = rw (digits-append b m n v) (take-at (digits b m (v / b ^ n)) (digits b n v) m (length-digits b m (v / b ^ n)))
-
-pub drop-digits : (b m n v : ℕ) → drop m (digits b (m + n) v) ≡ digits b n v
-drop-digits b m n v = rw (digits-append b m n v) (drop-at (digits b m (v / b ^ n)) (digits b n v) m (length-digits b m (v / b ^ n)))
-
 -- the last n digits see nothing of what is a multiple of b to the power n
 pub digits-add-multiple : (b n v w : ℕ) → 0 < b → digits b n (v + w * b ^ n) ≡ digits b n v
 unfolding digits
@@ -180,12 +174,6 @@ digits-value b (x ∷ xs) h =
     ∙ digits-add-multiple b (length xs) (value b xs) x p
     ∙ digits-value b xs (λ k. h (suc k)))
 
--- rows of one length that write one number are the same
-pub value-injective : (b : ℕ) (xs ys : List ℕ) → ((k : ℕ) → getD xs k 0 < b) → ((k : ℕ) → getD ys k 0 < b)
-    → length xs ≡ length ys → value b xs ≡ value b ys → xs ≡ ys
-value-injective b xs ys h g e v =
-    sym (digits-value b xs h) ∙ ap₂ (λ (n w : ℕ). digits b n w) e v ∙ digits-value b ys g
-
 -- ---- half bytes
 
 pub length-halves : (xs : List ℕ) → length (halves xs) ≡ 2 * length xs
@@ -206,12 +194,6 @@ unfolding halves
 take-halves zero xs = refl
 take-halves (suc n) [] = take-nil (2 * suc n)
 take-halves (suc n) (x ∷ xs) = rw (two-more n) (ap (λ (l : List ℕ). x / 16 ∷ x % 16 ∷ l) (take-halves n xs))
-
-pub drop-halves : (n : ℕ) (xs : List ℕ) → drop (2 * n) (halves xs) ≡ halves (drop n xs)
-unfolding halves
-drop-halves zero xs = refl
-drop-halves (suc n) [] = drop-nil (2 * suc n)
-drop-halves (suc n) (x ∷ xs) = rw (two-more n) (drop-halves n xs)
 
 -- a test on the half bytes of one byte more
 pub every-halves : (f : ℕ → Bool) (xs : List ℕ) (k : ℕ) → k < length xs
@@ -251,24 +233,3 @@ halves-below [] h k = omega arith
 halves-below (x ∷ xs) h zero = omega (arith, h 0)
 halves-below (x ∷ xs) h (suc zero) = omega arith
 halves-below (x ∷ xs) h (suc (suc k)) = halves-below xs (λ j. h (suc j)) k
-
--- half bytes tell the bytes
-pub halves-injective : (xs ys : List ℕ) → halves xs ≡ halves ys → xs ≡ ys
-halves-injective xs ys e =
-    ext-getD 0 xs ys
-    (let l : 2 * length xs ≡ 2 * length ys = sym (length-halves xs) ∙ ap length e ∙ length-halves ys in omega arith)
-    (λ k b. byte k (at (2 * k)) (at (2 * k + 1)))
-  where
-    at : (j : ℕ) → getD (halves xs) j 0 ≡ getD (halves ys) j 0
-    at j = ap (λ (l : List ℕ). getD l j 0) e
-
-    byte : (k : ℕ) → getD (halves xs) (2 * k) 0 ≡ getD (halves ys) (2 * k) 0 → getD (halves xs) (2 * k + 1) 0 ≡ getD (halves ys) (2 * k + 1) 0
-        → getD xs k 0 ≡ getD ys k 0
-    byte k h g =
-        let e₀ : 2 * k / 2 ≡ k = omega arith in
-        let e₁ : (2 * k + 1) / 2 ≡ k = omega arith in
-        let p = rw e₀ at (half-even xs (2 * k) (omega arith)) in
-        let q = rw e₀ at (half-even ys (2 * k) (omega arith)) in
-        let r = rw e₁ at (half-odd xs (2 * k + 1) (omega arith)) in
-        let s = rw e₁ at (half-odd ys (2 * k + 1) (omega arith)) in
-        omega arith

@@ -8,7 +8,7 @@ use mathlib.Core.List.{List, [], _∷_, _++_}
 use native.Mathlib.Nat.{not-suc-le-zero, le-of-suc-le-suc, zero-lt-suc, add-zero, add-suc, zero-add, suc-add}
 use native.Mathlib.Numerals.{add-one}
 use native.Mathlib.Omega.{arith}
-use borrow.Author.Tests.{ltb-true, lt-ltb, eqb-true, eq-eqb}
+use borrow.Author.Tests.{ltb-true, eqb-true, eq-eqb}
 use lib.Dec.{eqb, ltb}
 use lib.ListN.{length, take, drop, getD, set, length-append, length-drop, take-append-drop}
 use lib.Seq.{take-suc, drop-cons, length-take-le, drop-nil, take-length, set-at, append-snoc, take-append-seam, drop-append-seam, ext-getD}
@@ -98,14 +98,6 @@ module _ (f : ℕ → Bool) where
       (every-append (take k xs) (getD xs k 0 ∷ [])
       ∙ ap (λ (b : Bool). every f (take k xs) && b) (and-true (f (getD xs k 0))))
 
-  pub every-next : (xs : List ℕ) (k : ℕ) → k < length xs → every f (drop k xs) ≡ f (getD xs k 0) && every f (drop (k + 1) xs)
-  unfolding every
-  every-next xs k h = rw (add-one k, drop-cons xs k 0 h)
-
-  -- the same for a loop that goes on while the test passes
-  pub every-step : (xs : List ℕ) (k : ℕ) → k < length xs → every f (take k xs) ≡ true → f (getD xs k 0) ≡ true → every f (take (k + 1) xs) ≡ true
-  every-step xs k h e t = every-more xs k h ∙ and-both e t
-
   -- a rest of at most one element, and a test that 0 passes
   pub every-last : f 0 ≡ true → (xs : List ℕ) (n : ℕ) → length xs ≤ n + 1 → every f (drop n xs) ≡ f (getD xs n 0)
   unfolding every
@@ -162,9 +154,6 @@ values-of f n l e h =
     ext-getD 0 l (values f n) (e ∙ sym (length-values f 0 n))
     (λ k b. let b′ : k < n = omega arith in h k b′ ∙ sym (getD-values f n k b′))
 
-pub values-ext : (f g : ℕ → ℕ) (n : ℕ) → ((k : ℕ) → k < n → f k ≡ g k) → values f n ≡ values g n
-values-ext f g n h = values-of g n (values f n) (length-values f 0 n) (λ k b. getD-values f n k b ∙ h k b)
-
 pub values-getD : (l : List ℕ) (n : ℕ) → length l ≡ n → values (λ k. getD l k 0) n ≡ l
 values-getD l n e = sym (values-of (λ k. getD l k 0) n l e (λ k b. refl))
 
@@ -173,11 +162,6 @@ pub every-values : (t : ℕ → Bool) (f : ℕ → ℕ) (n : ℕ) → every t (v
 every-values t f n e k h =
     let l : k < length (values f n) = rw (length-values f 0 n) h in
     ap t (sym (getD-values f n k h)) ∙ every-getD t (values f n) e k l
-
-pub values-every : (t : ℕ → Bool) (f : ℕ → ℕ) (n : ℕ) → ((k : ℕ) → k < n → t (f k) ≡ true) → every t (values f n) ≡ true
-values-every t f n h =
-    every-from t (values f n)
-    (λ k l. let b : k < n = rw (length-values f 0 n) at l in ap t (getD-values f n k b) ∙ h k b)
 
 -- ---- two lists compared
 
@@ -244,20 +228,6 @@ once-below n xs e k h =
     ltb-true (getD xs k 0) n
     (every-getD (λ x. ltb x n) xs
     (and-left (every (λ x. ltb x n) xs) (every (λ a. eqb (count a xs) 1) (values (λ a. a) n)) e) k h)
-
-pub once-counts : (n : ℕ) (xs : List ℕ) → eachOnce n xs ≡ true → (a : ℕ) → a < n → count a xs ≡ 1
-unfolding eachOnce
-once-counts n xs e a h =
-    eqb-true (count a xs) 1
-    (every-values (λ a. eqb (count a xs) 1) (λ a. a) n
-    (and-right (every (λ x. ltb x n) xs) (every (λ a. eqb (count a xs) 1) (values (λ a. a) n)) e) a h)
-
-pub once-from : (n : ℕ) (xs : List ℕ) → ((k : ℕ) → k < length xs → getD xs k 0 < n) → ((a : ℕ) → a < n → count a xs ≡ 1)
-    → eachOnce n xs ≡ true
-unfolding eachOnce
-once-from n xs below counts =
-    and-both (every-from (λ x. ltb x n) xs (λ k h. lt-ltb (getD xs k 0) n (below k h)))
-    (values-every (λ a. eqb (count a xs) 1) (λ a. a) n (λ a h. eq-eqb (count a xs) 1 (counts a h)))
 
 -- ---- what a writer leaves
 

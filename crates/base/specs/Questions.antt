@@ -1,7 +1,7 @@
 -- Questions with numbers. An operation's answer is the number of the first question that is answered no, and 0 where every answer is yes.
 -- Assumes nothing.
 use Prim.Native.Nat.{ℕ, zero, suc}
-use mathlib.Core.Bool.{Bool, true, false, cond}
+use mathlib.Core.Bool.{Bool, cond}
 use mathlib.Core.List.{List, [], _∷_}
 
 -- a yes or no, and the number that stands for no

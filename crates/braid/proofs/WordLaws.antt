@@ -1,13 +1,14 @@
 -- Laws of word files: a letter's code is below 15; the packed codes one by one; a word's file byte by byte.
 -- Assumes nothing.
-use Prim.Native.Nat.{ℕ, zero, suc, _+_, _-_, _*_, _/_, _%_, _≤_, _<_}
-use mathlib.Core.Path.{_≡_, refl, ap, _∙_}
+use Prim.Native.Nat.{ℕ, zero, suc, _+_, _*_, _/_, _%_, _≤_, _<_}
+use mathlib.Core.Path.{_≡_, refl, sym, ap, ap₂, _∙_}
 use mathlib.Core.Bool.{Bool, true, false, _&&_, _||_}
-use mathlib.Core.List.{List, [], _∷_}
+use mathlib.Core.List.{List, [], _∷_, _++_}
 use native.Mathlib.Omega.{arith}
 use borrow.Author.Tests.{leb-true}
 use lib.Dec.{leb}
-use lib.ListN.{length, drop, getD}
+use lib.ListN.{length, take, drop, getD}
+use lib.Seq.{take-add, getD-drop}
 use Rattle.base.specs.Lists.{every}
 use Rattle.base.specs.Digits.{digits}
 use Rattle.base.proofs.ListLaws.{and-right, every-all}
@@ -58,22 +59,23 @@ pub length-wordFile : (cs : List ℕ) → length (wordFile cs) ≡ needed (lengt
 unfolding wordFile digits
 length-wordFile cs = omega (arith, length-packed cs)
 
-pub wordFile-first : (cs : List ℕ) → getD (wordFile cs) 0 0 ≡ length cs / 256 % 256
-unfolding wordFile digits
-wordFile-first cs = refl
-
-pub wordFile-second : (cs : List ℕ) → getD (wordFile cs) 1 0 ≡ length cs % 256
-unfolding wordFile digits
-wordFile-second cs = omega arith
-
 pub wordFile-rest : (cs : List ℕ) → drop 2 (wordFile cs) ≡ packed cs
 unfolding wordFile digits
 wordFile-rest cs = refl
 
-pub wordFile-code : (cs : List ℕ) (k : ℕ) → 2 ≤ k → getD (wordFile cs) k 0 ≡ getD cs ((k - 2) * 2) 0 * 16 + getD cs ((k - 2) * 2 + 1) 0
+-- the number of letters in its first two bytes
+pub wordFile-number : (cs : List ℕ) → length cs ≤ 10000 → take 2 (wordFile cs) ≡ length cs / 256 ∷ length cs % 256 ∷ []
 unfolding wordFile digits
-wordFile-code cs zero h = absurd (omega arith)
-wordFile-code cs (suc zero) h = absurd (omega arith)
-wordFile-code cs (suc (suc k)) h =
-    let e : k * 2 ≡ (suc (suc k) - 2) * 2 = omega arith in
-    getD-packed cs k ∙ ap (λ (j : ℕ). getD cs j 0 * 16 + getD cs (j + 1) 0) e
+wordFile-number cs h =
+    let a : length cs / 256 % 256 ≡ length cs / 256 = omega arith in
+    let b : length cs / 1 % 256 ≡ length cs % 256 = omega arith in
+    ap₂ (λ (x y : ℕ). x ∷ y ∷ []) a b
+
+-- these two, and k bytes more
+pub wordFile-front : (cs : List ℕ) (k : ℕ) → take (2 + k) (wordFile cs) ≡ take 2 (wordFile cs) ++ take k (packed cs)
+wordFile-front cs k = take-add 2 k (wordFile cs) ∙ ap (λ (l : List ℕ). take 2 (wordFile cs) ++ take k l) (wordFile-rest cs)
+
+-- the byte at a place after these two: two codes, 0 past the end
+pub wordFile-byte : (cs : List ℕ) (k : ℕ) → getD (wordFile cs) (2 + k) 0 ≡ getD cs (k * 2) 0 * 16 + getD cs (k * 2 + 1) 0
+wordFile-byte cs k =
+    sym (getD-drop 2 (wordFile cs) k 0) ∙ ap (λ (l : List ℕ). getD l k 0) (wordFile-rest cs) ∙ getD-packed cs k

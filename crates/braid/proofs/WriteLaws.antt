@@ -1,16 +1,20 @@
--- Laws of the writers of words: what a writer gives and leaves on a refusal and on success, and the questions of the writer from codes.
--- Assumes nothing.
-use Prim.Native.Nat.{ℕ, _≤_, _<_}
+-- Laws of the writers of words: what a writer gives and leaves on a refusal and on success, the questions of the writer from codes, and the file as
+-- that writer writes it. Assumes nothing.
+use Prim.Native.Nat.{ℕ, _+_, _-_, _*_, _/_, _%_, _≤_, _<_}
 use mathlib.Core.Path.{_≡_, refl, sym, ap, ap₂, _∙_}
 use mathlib.Core.Bool.{true, false}
-use mathlib.Core.List.{List, []}
+use mathlib.Core.List.{List, [], _∷_, _++_, append-assoc, append-nil}
+use native.Mathlib.Omega.{arith}
 use borrow.Author.Tests.{le-leb, lt-leb}
-use lib.ListN.{length, drop}
+use lib.ListN.{length, take, drop, getD, set, length-drop, length-set, drop-of-length-le, List·getD-eq-default}
+use lib.Seq.{length-take-le, length-front, take-all, take-at, drop-at, drop-drop}
 use Rattle.base.specs.Questions.{Question, firstNo, granted}
 use Rattle.base.specs.Lists.{every, overlaid}
 use Rattle.base.proofs.QuestionLaws.{passes, fails, granted-zero, granted-refused}
+use Rattle.base.proofs.ListLaws.{overlay-step, overlay-whole}
 use Rattle.braid.specs.Letters.{isLetter}
-use Rattle.braid.specs.Words.{writerQuestions, Wrote}
+use Rattle.braid.specs.Words.{packed, wordFile, writerQuestions, Wrote}
+use Rattle.braid.proofs.WordLaws.{length-packed, length-wordFile, wordFile-number, wordFile-front, wordFile-byte}
 
 module _ (questions : List Question) (file before : List ℕ) where
   -- a refusal: no bytes, and the output as it was
@@ -63,3 +67,80 @@ module _ (room : ℕ) (cs : List ℕ) where
       passes 15 (drop 1 (writerQuestions room cs)) (le-leb 5002 room h)
       ∙ passes 10 (drop 2 (writerQuestions room cs)) (le-leb (length cs) 10000 g)
       ∙ passes 12 [] e
+
+-- ---- the file of a word, as it is written
+
+-- the first bytes of a list stand in the first places of the output
+pub overlay-part : (bytes out : List ℕ) (i : ℕ) → i ≤ length bytes → overlaid (take i bytes) out ≡ take i bytes ++ drop i out
+unfolding overlaid
+overlay-part bytes out i h = ap (λ (j : ℕ). take i bytes ++ drop j out) (length-take-le i bytes h)
+
+-- all bytes from a place on were lent, and came back changed
+lent-back : (f : List ℕ → List ℕ) (i : ℕ) (xs : List ℕ)
+    → take i xs ++ (f (take (length xs - i) (drop i xs)) ++ drop (length xs - i) (drop i xs)) ≡ take i xs ++ f (drop i xs)
+lent-back f i xs =
+    let e : length (drop i xs) ≤ length xs - i = omega (arith, length-drop i xs) in
+    ap₂ (λ (p q : List ℕ). take i xs ++ (f p ++ q)) (take-all (length xs - i) (drop i xs) e) (drop-of-length-le (drop i xs) e)
+    ∙ ap (λ (p : List ℕ). take i xs ++ p) (append-nil (f (drop i xs)))
+
+module _ (cs out : List ℕ) where
+  -- the output with the number of letters in its first two bytes
+  abbrev pub numbered : List ℕ
+  numbered = set (set out 0 (length cs / 256)) 1 (length cs % 256)
+
+  pub length-numbered : length numbered ≡ length out
+  length-numbered = simp length-set
+
+  numbered-is : length cs ≤ 10000 → 2 ≤ length out → numbered ≡ take 2 (wordFile cs) ++ drop 2 out
+  numbered-is few room = start out room ∙ ap (λ (p : List ℕ). p ++ drop 2 out) (sym (wordFile-number cs few))
+    where
+      start : (xs : List ℕ) → 2 ≤ length xs
+          → set (set xs 0 (length cs / 256)) 1 (length cs % 256) ≡ (length cs / 256 ∷ length cs % 256 ∷ []) ++ drop 2 xs
+      start [] l = absurd (omega arith)
+      start (x ∷ []) l = absurd (omega arith)
+      start (x ∷ y ∷ xs) l = refl
+
+  -- and with ys in place of all that follows them
+  abbrev pub paired : List ℕ → List ℕ
+  paired ys = take 2 numbered ++ (ys ++ drop (length numbered - 2) (drop 2 numbered))
+
+  -- the bytes that hold two codes
+  abbrev pairs : ℕ
+  pairs = length cs / 2
+
+  -- where ys begins with those bytes: the file but for a last odd code
+  module _ (few : length cs ≤ 10000) (room : 5002 ≤ length out) (ys : List ℕ) (e : ys ≡ overlaid (take pairs (packed cs)) (take (length numbered - 2) (drop 2 numbered))) where
+    paired-is : paired ys ≡ take (2 + pairs) (wordFile cs) ++ drop (2 + pairs) out
+    paired-is =
+        let two : length (take 2 (wordFile cs)) ≡ 2 = ap length (wordFile-number cs few) in
+        ap paired e
+        ∙ lent-back (overlaid (take pairs (packed cs))) 2 numbered
+        ∙ ap (λ (xs : List ℕ). take 2 xs ++ overlaid (take pairs (packed cs)) (drop 2 xs)) (numbered-is few (omega arith))
+        ∙ ap₂ (λ (p q : List ℕ). p ++ overlaid (take pairs (packed cs)) q)
+        (take-at (take 2 (wordFile cs)) (drop 2 out) 2 two) (drop-at (take 2 (wordFile cs)) (drop 2 out) 2 two)
+        ∙ ap (λ (p : List ℕ). take 2 (wordFile cs) ++ p) (overlay-part (packed cs) (drop 2 out) pairs (omega (arith, length-packed cs)))
+        ∙ sym (append-assoc (take 2 (wordFile cs)) (take pairs (packed cs)) (drop pairs (drop 2 out)))
+        ∙ ap₂ (λ (p q : List ℕ). p ++ q) (sym (wordFile-front cs pairs)) (drop-drop pairs 2 out)
+
+    pub length-paired : length (paired ys) ≡ length out
+    length-paired =
+        ap length paired-is
+        ∙ length-front out (take (2 + pairs) (wordFile cs)) (2 + pairs)
+        (length-take-le (2 + pairs) (wordFile cs) (omega (arith, length-wordFile cs)) ∙ sym (length-take-le (2 + pairs) out (omega arith)))
+
+    -- the whole file where no code is left
+    pub even-written : (length cs % 2 ≡ 1 → ⊥) → paired ys ≡ overlaid (wordFile cs) out
+    even-written h = paired-is ∙ overlay-whole (wordFile cs) out (2 + pairs) (omega (arith, length-wordFile cs))
+
+    -- and where one is, with that one in the high half of a byte more
+    pub odd-written : length cs % 2 ≡ 1 → set (paired ys) (2 + pairs) (getD cs (length cs - 1) 0 * 16) ≡ overlaid (wordFile cs) out
+    odd-written h =
+        ap₂ (λ (o : List ℕ) (b : ℕ). set o (2 + pairs) b) paired-is last
+        ∙ overlay-step (wordFile cs) out (2 + pairs) (omega (arith, length-wordFile cs)) (omega arith)
+        ∙ overlay-whole (wordFile cs) out (2 + pairs + 1) (omega (arith, length-wordFile cs))
+      where
+        last : getD cs (length cs - 1) 0 * 16 ≡ getD (wordFile cs) (2 + pairs) 0
+        last =
+            let a : pairs * 2 ≡ length cs - 1 = omega arith in
+            let z : getD cs (length cs - 1 + 1) 0 ≡ 0 = List·getD-eq-default cs 0 (omega arith) in
+            sym (wordFile-byte cs pairs ∙ ap (λ (i : ℕ). getD cs i 0 * 16 + getD cs (i + 1) 0) a ∙ omega arith)

@@ -1,9 +1,9 @@
 -- Word files (signatures): the number of letters in 2 bytes, the codes two to a byte with the earlier in the high half, and 0 in an odd word's
 -- last half byte. The questions of the reader and of the writer from codes, in the paper's order.
 -- Assumes nothing.
-use Prim.Native.Nat.{ℕ, zero, suc, _+_, _*_, _/_}
+use Prim.Native.Nat.{ℕ, _+_, _*_, _/_}
 use mathlib.Core.Path.{_≡_}
-use mathlib.Core.Bool.{Bool, true, false, cond}
+use mathlib.Core.Bool.{Bool}
 use mathlib.Core.List.{List, [], _∷_, _++_}
 use lib.Dec.{leb, ltb, eqb}
 use lib.ListN.{length, take, drop, getD}

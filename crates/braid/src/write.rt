@@ -3,65 +3,53 @@ use crate::MAX_BYTES;
 use crate::MAX_LETTERS;
 use crate::Written;
 use crate::read::is_letter;
-ghost use Prim.Native.Nat.{_≤_, _<_};
+ghost use Prim.Native.Nat.{_+_, _*_, _/_, _≤_, _<_};
 ghost use mathlib.Core.Path.{_≡_};
 ghost use mathlib.Core.Bool.{true};
-ghost use lib.ListN.{length, getD};
+ghost use lib.ListN.{length, take};
 ghost use Rattle.base.specs.Lists.{every, overlaid};
 ghost use Rattle.braid.specs.Letters.{isLetter};
-ghost use Rattle.braid.specs.Words.{needed, wordFile, writerQuestions, Wrote};
+ghost use Rattle.braid.specs.Words.{needed, packed, wordFile, writerQuestions, Wrote};
 
-// Is every code a letter?
+// Is every code a letter? No code ends the loop early, so that many are tested at once.
 fn all_codes(codes: &[u8]) -> bool
     ensures { λ r. ⌜ r ≡ every isLetter (now (codes .entry)) ⌝ }
 {
+    let mut lettered = true;
     let mut k = 0;
     while k < codes.len() {
-        if !is_letter(codes[k]) {
-            return false;
-        }
+        lettered = lettered & is_letter(codes[k]);
         k += 1;
     }
-    true
+    lettered
 }
 
-// The code at a place; 0 past the end.
-fn code_or_zero(codes: &[u8], k: usize) -> u8
-    ensures { λ r. ⌜ r ≡ getD (now (codes .entry)) k 0 ⌝ }
+// Two codes go to each byte of the output, from its first on, the earlier in the high half; a last odd code is left out.
+fn pack(codes: &[u8], out: &mut [u8])
+    requires { ⌜ (every isLetter (now codes) ≡ true) × (length (now codes) / 2 ≤ length (now out)) ⌝ }
+    ensures { λ _. ⌜ now (out .exit) ≡ overlaid (take (length (now (codes .entry)) / 2) (packed (now (codes .entry)))) (now (out .entry)) ⌝ }
 {
-    if k < codes.len() { codes[k] } else { 0 }
+    let n = codes.len() / 2;
+    let mut k = 0;
+    while k < n {
+        out[k] = codes[2 * k] * 16 + codes[2 * k + 1];
+        k += 1;
+    }
 }
 
-// The byte at a place of the word's file.
-fn file_byte(codes: &[u8], k: usize) -> u8
-    requires { ⌜ (length (now codes) ≤ 10000) × (every isLetter (now codes) ≡ true) × (k < needed (length (now codes))) ⌝ }
-    ensures { λ r. ⌜ r ≡ getD (wordFile (now (codes .entry))) k 0 ⌝ }
-{
-    let n = codes.len();
-    if k == 0 {
-        return (n / 256 % 256) as u8;
-    }
-    if k == 1 {
-        return (n % 256) as u8;
-    }
-    let at = (k - 2) * 2;
-    let high = code_or_zero(codes, at);
-    let low = code_or_zero(codes, at + 1);
-    high * 16 + low
-}
-
-// The word's file goes to the front of the output.
+// The word's file goes to the front of the output: the number of letters in two bytes, the codes two by two, and a last odd one by itself.
 fn write_file(codes: &[u8], out: &mut [u8]) -> usize
     requires { ⌜ (length (now codes) ≤ 10000) × (every isLetter (now codes) ≡ true) × (5002 ≤ length (now out)) ⌝ }
     ensures { λ r. ⌜ (r ≡ needed (length (now (codes .entry)))) × (now (out .exit) ≡ overlaid (wordFile (now (codes .entry))) (now (out .entry))) ⌝ }
 {
-    let n = 2 + (codes.len() + 1) / 2;
-    let mut k = 0;
-    while k < n {
-        out[k] = file_byte(codes, k);
-        k += 1;
+    let n = codes.len();
+    out[0] = (n / 256) as u8;
+    out[1] = (n % 256) as u8;
+    pack(codes, &mut out[2..]);
+    if n % 2 == 1 {
+        out[2 + n / 2] = codes[n - 1] * 16;
     }
-    n
+    2 + (n + 1) / 2
 }
 
 // The writer of words from codes: 15, 10, 12. The output is touched only once all three are answered yes.

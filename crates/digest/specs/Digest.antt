@@ -1,6 +1,6 @@
 -- A digest as a braid: each half byte of 32 bytes, high half first, becomes a power of a pure braid generator. Nothing is cancelled.
 -- Assumes nothing.
-use Prim.Native.Nat.{ℕ, zero, suc, _+_, _*_, _-_, _/_, _%_}
+use Prim.Native.Nat.{ℕ, _+_, _*_, _-_, _/_, _%_}
 use mathlib.Core.List.{List, [], _∷_, _++_, map, reverse}
 use lib.Dec.{eqb}
 use lib.ListN.{length, getD, replicate}

@@ -3,7 +3,6 @@ ghost use mathlib.Core.Path.{_≡_};
 ghost use mathlib.Core.List.{_++_};
 ghost use Prim.Native.Nat.{_+_, _-_, _≤_, _<_};
 ghost use lib.ListN.{length, take, getD};
-ghost use Rattle.base.specs.Digits.{halves};
 ghost use Rattle.braid.specs.Words.{wordFile, Wrote};
 ghost use Rattle.digest.specs.Digest.{selected, halfByteBraid, encoded, encoderQuestions};
 use braid::Written;

@@ -1,7 +1,7 @@
 -- Polynomials over two elements as numbers, bit k being the coefficient of x^k, and their products reduced by a polynomial p of degree n.
 -- Assumes nothing.
 use Prim.Native.Nat.{ℕ, zero, suc, _*_, _/_, _%_, _^_}
-use mathlib.Core.Bool.{Bool, true, false, cond}
+use mathlib.Core.Bool.{Bool, cond}
 use lib.Dec.{eqb, ltb}
 use lib.Bits.{bitXor}
 use Rattle.field.specs.Binary.{Operations}

@@ -39,10 +39,6 @@ pub labels-below : (file : List ℕ) → Below 8 (labels file)
 unfolding labels
 labels-below file = digits-below 8 8 (value 256 (part 44 3 file)) (omega arith)
 
-pub entries-size : (bytes : List ℕ) → length (entries bytes) ≡ 57
-unfolding entries
-entries-size bytes = length-digits 32 57 (value 256 bytes / 8)
-
 pub entries-below : (bytes : List ℕ) → Below 32 (entries bytes)
 unfolding entries
 entries-below bytes = digits-below 32 57 (value 256 bytes / 8) (omega arith)
@@ -66,9 +62,6 @@ matrix-good bytes = whole-matrix (entries bytes) (entries-below bytes)
 -- the same as tests
 pub t-values-elements : (file : List ℕ) → elements (tValues file) ≡ true
 t-values-elements file = below-all 32 (tValues file) (λ k h. t-values-below file k)
-
-pub matrix-elements : (bytes : List ℕ) → elements (wholeMatrix (entries bytes)) ≡ true
-matrix-elements bytes = below-all 32 (wholeMatrix (entries bytes)) (λ k h. matrix-good bytes .below k)
 
 -- ---- an accepted key
 
@@ -139,9 +132,7 @@ pub record Sound (key : Key) : Type 0 where
   pub ts-nonzero : (k : ℕ) → k < 8 → getD (key .«t_values») k 0 ≡ 0 → ⊥
   pub labels-count : length (key .pair .labels) ≡ 8
   pub labels-small : Below 8 (key .pair .labels)
-  pub each-once : isOrder (key .pair .labels) ≡ true
   pub first : Matrix 32 (key .pair .matrix)
-  pub second-matrix : Matrix 32 (key .second)
 
 pub key-sound : (file : List ℕ) → keyAnswer file ≡ 0 → Sound (keyOf file)
 unfolding keyOf
@@ -152,9 +143,7 @@ key-sound file e =
       ts-nonzero = t-values-nonzero file e;
       labels-count = labels-size file;
       labels-small = labels-below file;
-      each-once = accepted file e .order;
       first = matrix-good (firstBytes file);
-      second-matrix = matrix-good (secondBytes file);
     }
 
 -- ---- what the key writer asks

@@ -1,14 +1,13 @@
 -- What the multiplier by value gives, taken to a lent pair: the pair with the letter multiplied in on answer 0, and the pair as it was on a refusal.
 -- Assumes nothing.
 use Prim.Native.Nat.{ℕ}
-use mathlib.Core.Path.{_≡_, refl, sym, _∙_}
+use mathlib.Core.Path.{_≡_, sym, _∙_}
 use mathlib.Core.List.{List}
-use Rattle.base.specs.Questions.{firstNo}
 use Rattle.base.proofs.QuestionLaws.{granted-zero, granted-refused}
 use Rattle.field.specs.Gf32.{gf32}
 use Rattle.action.specs.declared.Pair.{Pair}
 use Rattle.action.specs.Action.{letterOn}
-use Rattle.action.specs.Multiplier.{multiplierQuestions, zeroPair, Multiplies}
+use Rattle.action.specs.Multiplier.{zeroPair, Multiplies}
 use Rattle.lent.specs.Lent.{Lends}
 
 module _ {p : Pair} {ts : List ℕ} {c answer : ℕ} {after : Pair} (m : Multiplies p ts c answer after) where

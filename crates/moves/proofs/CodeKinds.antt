@@ -1,5 +1,4 @@
--- Laws of one move on a list of codes, of which the first n are the word's: what each kind's questions answer, test by test, and the word that the move
--- of a kind is.
+-- Laws of one move on a row of codes: what each kind's questions answer, test by test, and the word that the move of a kind is.
 -- Assumes nothing.
 use Prim.Native.Nat.{ℕ, _+_, _-_, _≤_, _<_}
 use mathlib.Core.Path.{_≡_, refl, sym, ap, ap₂, _∙_}
@@ -15,8 +14,8 @@ use Rattle.base.proofs.QuestionLaws.{passes, fails, granted-zero, granted-refus
 use Rattle.braid.specs.Letters.{opposite}
 use Rattle.braid.specs.Moves.{Move, removal}
 use Rattle.moves.specs.Kinds.{far, neighbours, sameSign, exchange, braiding, insertion, unknown, inserts, move}
-use Rattle.moves.specs.Leaving.{outcome, Makes}
-use Rattle.moves.proofs.CodeLists.{take-without, take-within, store-two, store-three}
+use Rattle.moves.specs.Leaving.{outcome, Makes, Holds}
+use Rattle.moves.proofs.CodeRows.{within, store-two, store-three}
 
 -- ---- two questions
 
@@ -62,7 +61,10 @@ module _ (m : List ℕ → Move) (row : List ℕ) (n : ℕ) where
 
 -- ---- kind by kind
 
-module _ (row : List ℕ) (n place : ℕ) (within-row : n ≤ length row) where
+module _ (row : List ℕ) (n place : ℕ) (held : Holds n place row) where
+  within-row : n ≤ length row
+  within-row = omega (arith, held .short, held .room)
+
   -- the letters from a place on
   there : (k : ℕ) → k ≤ n → leb k (length (take n row)) ≡ true
   there k h = le-leb k (length (take n row)) (omega (arith, length-take-le n row within-row))
@@ -86,12 +88,11 @@ module _ (row : List ℕ) (n place : ℕ) (within-row : n ≤ length row) where
       makes-refused (removal place) row n 23 within-row
       (no-second 22 23 (there (place + 2) h) (removal-test h ∙ ne-eqb (getD row (place + 1) 0) (opposite (getD row place 0)) t)) (omega arith)
 
-  pub removal-done : {after : List ℕ} → n - 2 ≤ length after → place + 2 ≤ n → getD row (place + 1) 0 ≡ opposite (getD row place 0)
-      → take (n - 1) after ≡ take place row ++ take (n - 1 - place) (drop (place + 2) row) → Makes (removal place) n row after 0 (n - 2)
-  removal-done {after} s h t w =
-      makes-done (removal place) row n s
-      (no-none 22 23 (there (place + 2) h) (removal-test h ∙ eq-eqb (getD row (place + 1) 0) (opposite (getD row place 0)) t))
-      (take-without row after n place h within-row w)
+  pub removal-done : {after : List ℕ} → length after ≡ length row → place + 2 ≤ n → getD row (place + 1) 0 ≡ opposite (getD row place 0)
+      → take (n - 2) after ≡ removal place (take n row) .word → Makes (removal place) n row after 0 (n - 2)
+  removal-done s h t w =
+      makes-done (removal place) row n (omega (arith, within-row))
+      (no-none 22 23 (there (place + 2) h) (removal-test h ∙ eq-eqb (getD row (place + 1) 0) (opposite (getD row place 0)) t)) w
 
   -- kind 2
   pub exchange-22 : n < place + 2 → Makes (exchange place) n row row 22 n
@@ -105,10 +106,10 @@ module _ (row : List ℕ) (n place : ℕ) (within-row : n ≤ length row) where
   exchange-23 h t =
       makes-refused (exchange place) row n 23 within-row (no-second 22 23 (there (place + 2) h) (exchange-test h ∙ t)) (omega arith)
 
-  pub exchange-done : {after : List ℕ} → n ≤ length after → place + 2 ≤ n → far (getD row place 0) (getD row (place + 1) 0) ≡ true
+  pub exchange-done : {after : List ℕ} → length after ≡ length row → place + 2 ≤ n → far (getD row place 0) (getD row (place + 1) 0) ≡ true
       → after ≡ set (set row place (getD row (place + 1) 0)) (place + 1) (getD row place 0) → Makes (exchange place) n row after 0 n
   exchange-done s h t w =
-      makes-done (exchange place) row n s (no-none 22 23 (there (place + 2) h) (exchange-test h ∙ t))
+      makes-done (exchange place) row n (omega (arith, within-row)) (no-none 22 23 (there (place + 2) h) (exchange-test h ∙ t))
       (ap (take n) w
       ∙ store-two row n place (getD row (place + 1) 0) (getD row place 0) h within-row
       ∙ ap₂ (λ (d c : ℕ). take place (take n row) ++ (d ∷ c ∷ drop (place + 2) (take n row)))
@@ -134,12 +135,12 @@ module _ (row : List ℕ) (n place : ℕ) (within-row : n ≤ length row) where
   braiding-23 h t =
       makes-refused (braiding place) row n 23 within-row (no-second 22 23 (there (place + 3) h) (braiding-test h ∙ t)) (omega arith)
 
-  pub braiding-done : {after : List ℕ} → n ≤ length after → place + 3 ≤ n
+  pub braiding-done : {after : List ℕ} → length after ≡ length row → place + 3 ≤ n
       → shape (getD row place 0) (getD row (place + 1) 0) (getD row (place + 2) 0) ≡ true
       → after ≡ set (set (set row place (getD row (place + 1) 0)) (place + 1) (getD row place 0)) (place + 2) (getD row (place + 1) 0)
       → Makes (braiding place) n row after 0 n
   braiding-done s h t w =
-      makes-done (braiding place) row n s (no-none 22 23 (there (place + 3) h) (braiding-test h ∙ t))
+      makes-done (braiding place) row n (omega (arith, within-row)) (no-none 22 23 (there (place + 3) h) (braiding-test h ∙ t))
       (ap (take n) w
       ∙ store-three row n place (getD row (place + 1) 0) (getD row place 0) (getD row (place + 1) 0) h within-row
       ∙ ap₂ (λ (k j : ℕ). take place (take n row) ++ (k ∷ j ∷ k ∷ drop (place + 3) (take n row)))
@@ -160,10 +161,10 @@ module _ (row : List ℕ) (n place : ℕ) (within-row : n ≤ length row) where
     insertion-24 h t =
         makes-refused (insertion c place) row n 24 within-row (no-second 22 24 (there place h) (no-room-for t)) (omega arith)
 
-    pub insertion-done : {after : List ℕ} → n + 2 ≤ length after → place ≤ n → n + 2 ≤ 10000
-        → take (n + 3) after ≡ take place row ++ (c ∷ opposite c ∷ take (n + 1 - place) (drop place row)) → Makes (insertion c place) n row after 0 (n + 2)
-    insertion-done {after} s h t w =
-        makes-done (insertion c place) row n s (no-none 22 24 (there place h) (room-for t)) (take-within row after n place c (opposite c) h within-row w)
+    pub insertion-done : {after : List ℕ} → length after ≡ length row → place ≤ n → n + 2 ≤ 10000
+        → take (n + 2) after ≡ within row n place c (opposite c) → Makes (insertion c place) n row after 0 (n + 2)
+    insertion-done s h t w =
+        makes-done (insertion c place) row n (omega (arith, held .room)) (no-none 22 24 (there place h) (room-for t)) w
 
 -- ---- the move of a kind
 
@@ -192,8 +193,8 @@ module _ (kind place : ℕ) (w : List ℕ) where
     move-unknown e = move-others ∙ rw e
 
 -- no kind of the above
-pub unknown-21 : (row : List ℕ) (n place kind : ℕ) → n ≤ length row → (kind ≡ 1 → ⊥) → (kind ≡ 2 → ⊥) → (kind ≡ 3 → ⊥) → inserts kind ≡ false
+pub unknown-21 : (row : List ℕ) (n place kind : ℕ) → Holds n place row → (kind ≡ 1 → ⊥) → (kind ≡ 2 → ⊥) → (kind ≡ 3 → ⊥) → inserts kind ≡ false
     → Makes (move kind place) n row row 21 n
-unknown-21 row n place kind l n1 n2 n3 e =
+unknown-21 row n place kind held n1 n2 n3 e =
     makes-as (move kind place) row n unknown (move-unknown kind place (take n row) n1 n2 n3 e)
-    (makes-refused unknown row n 21 l (fails 21 [] refl) (omega arith))
+    (makes-refused unknown row n 21 (within-row row n place held) (fails 21 [] refl) (omega arith))

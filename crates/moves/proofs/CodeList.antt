@@ -5,7 +5,7 @@ use mathlib.Core.Path.{_≡_, refl, sym, ap, ap₂, _∙_, subst}
 use mathlib.Core.List.{List, [], _∷_, map}
 use native.Mathlib.Numerals.{add-one}
 use native.Mathlib.Omega.{arith}
-use borrow.Author.Tests.{le-leb, lt-leb, leb-true, eq-eqb, ne-eqb, eqb-true}
+use borrow.Author.Tests.{le-leb, lt-leb, eq-eqb, ne-eqb, eqb-true}
 use lib.ListN.{length, take, drop, getD, length-drop}
 use lib.Seq.{getD-drop}
 use Rattle.base.specs.Questions.{firstNo}
@@ -50,10 +50,6 @@ module _ (moves : List ℕ) where
   -- an accepted list's length
   pub listed : firstNo (listQuestions moves) ≡ 0 → length moves ≡ 2 + 3 * moveCount moves
   listed e = eqb-true (length moves) (2 + 3 * moveCount moves) (answers-passed (listQuestions moves) tt e .1 .1 .0)
-
-  -- and the number of its moves
-  pub list-few : firstNo (listQuestions moves) ≡ 0 → moveCount moves ≤ 4096
-  list-few e = leb-true (moveCount moves) 4096 (answers-passed (listQuestions moves) tt e .1 .0)
 
 -- ---- one more move
 

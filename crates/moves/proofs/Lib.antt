@@ -4,12 +4,8 @@ pub mod Parts
 pub mod MoveLaws
 pub mod MoveByMove
 pub mod ListClaim
-pub mod RowLaws
-pub mod FileLaws
-pub mod ShiftLaws
-pub mod CodeLists
+pub mod CodeRows
 pub mod CodeKinds
-pub mod MadeLaws
 pub mod CodeList
 pub mod CodeRewrite
 pub mod RewritingKeepsMeaning

@@ -52,7 +52,7 @@ module _ (room : ℕ) (word moves : List ℕ) (e : firstNo (rewriterQuestions ro
 -- ---- from what is kept of the letters to the meaning of the files
 
 -- two words that carry each pair alike reach the same matrix from Pub(S) of an accepted key
-same-signed : (key v w : List ℕ) → Carried w v → keyAnswer key ≡ 0 → signed (keyOf key) v ≡ signed (keyOf key) w
+same-signed : (key v w : List ℕ) → Carried w v → keyAnswer key ≡ 0 → signed gf32 (keyOf key) v ≡ signed gf32 (keyOf key) w
 unfolding signed
 same-signed key v w c k =
     ap (λ (q : Pair). q .matrix) (c gf32 gf32-field (keyOf key .«t_values») (key-values key k) (keyOf key .pair) (key-pair key k))

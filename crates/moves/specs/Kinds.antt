@@ -5,7 +5,7 @@ use mathlib.Core.Bool.{Bool, false, cond, _&&_, _||_, Bool·beq}
 use mathlib.Core.List.{List, [], _∷_, _++_}
 use lib.Dec.{leb, eqb}
 use lib.ListN.{length, take, drop, getD}
-use Rattle.base.specs.Questions.{Question, _else_}
+use Rattle.base.specs.Questions.{_else_}
 use Rattle.braid.specs.Letters.{isLetter, isInverse, generator, opposite}
 use Rattle.braid.specs.Words.{maxLetters}
 use Rattle.braid.specs.Moves.{Move, removal}

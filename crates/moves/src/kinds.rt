@@ -1,18 +1,14 @@
-// One move of a word, by its kind: its questions in the paper's order, and the word that it leaves. The word is n codes, two to a byte, from a byte of a
-// row on. On a refusal it stays as it was.
+// One move of a word, by its kind: its questions in the paper's order, and the word that it leaves. On a refusal the word stays as it was.
 use crate::Change;
-use crate::row::code;
-use crate::row::put_code;
 use crate::shift::insert_two;
 use crate::shift::remove_two;
-ghost use Prim.Native.Nat.{_<_};
 ghost use mathlib.Core.Path.{_≡_};
-ghost use mathlib.Core.Bool.{true, _&&_};
+ghost use mathlib.Core.Bool.{_&&_};
 ghost use lib.Dec.{eqb};
-ghost use Rattle.braid.specs.Letters.{isLetter, isInverse};
+ghost use Rattle.braid.specs.Letters.{isInverse};
 ghost use Rattle.braid.specs.Moves.{removal};
 ghost use Rattle.moves.specs.Kinds.{far, neighbours, sameSign, exchange, braiding, insertion, move};
-ghost use Rattle.moves.specs.Leaving.{Made, Held};
+ghost use Rattle.moves.specs.Leaving.{Makes, Holds};
 
 // Is the letter an inverse?
 fn is_inverse(c: u8) -> bool
@@ -56,149 +52,130 @@ fn is_braid(j: u8, k: u8, l: u8) -> bool
 }
 
 // Kind 1: a letter and the inverse right after it go.
-fn try_remove(row: &mut [u8], from: usize, n: usize, place: usize) -> Change
-    requires { ⌜ Held from n (now row) × (place < 65536) ⌝ }
-    ensures { λ r. ⌜ Made (removal place) from n (now (row .entry)) (now (row .exit)) (r .answer) (r .from) (r .letters) ⌝ }
+fn try_remove(codes: &mut [u8], n: usize, place: usize) -> Change
+    requires { ⌜ Holds n place (now codes) ⌝ }
+    ensures { λ r. ⌜ Makes (removal place) n (now (codes .entry)) (now (codes .exit)) (r .answer) (r .letters) ⌝ }
 {
     if n < place + 2 {
         return Change {
             answer: 22,
-            from,
             letters: n,
         };
     }
-    let at = 2 * from + place;
-    let c = code(row, at);
-    let d = code(row, at + 1);
-    if d != braid::inverse(c) {
+    if codes[place + 1] != braid::inverse(codes[place]) {
         return Change {
             answer: 23,
-            from,
             letters: n,
         };
     }
-    let start = remove_two(row, from, n, place);
+    remove_two(codes, n, place);
     Change {
         answer: 0,
-        from: start,
         letters: n - 2,
     }
 }
 
 // Kind 2: two letters whose generators differ by at least 2 change places.
-fn try_swap(row: &mut [u8], from: usize, n: usize, place: usize) -> Change
-    requires { ⌜ Held from n (now row) × (place < 65536) ⌝ }
-    ensures { λ r. ⌜ Made (exchange place) from n (now (row .entry)) (now (row .exit)) (r .answer) (r .from) (r .letters) ⌝ }
+fn try_swap(codes: &mut [u8], n: usize, place: usize) -> Change
+    requires { ⌜ Holds n place (now codes) ⌝ }
+    ensures { λ r. ⌜ Makes (exchange place) n (now (codes .entry)) (now (codes .exit)) (r .answer) (r .letters) ⌝ }
 {
     if n < place + 2 {
         return Change {
             answer: 22,
-            from,
             letters: n,
         };
     }
-    let at = 2 * from + place;
-    let c = code(row, at);
-    let d = code(row, at + 1);
+    let c = codes[place];
+    let d = codes[place + 1];
     if !are_far(c, d) {
         return Change {
             answer: 23,
-            from,
             letters: n,
         };
     }
-    put_code(row, at, d);
-    put_code(row, at + 1, c);
+    codes[place] = d;
+    codes[place + 1] = c;
     Change {
         answer: 0,
-        from,
         letters: n,
     }
 }
 
 // Kind 3: j k j becomes k j k.
-fn try_braid(row: &mut [u8], from: usize, n: usize, place: usize) -> Change
-    requires { ⌜ Held from n (now row) × (place < 65536) ⌝ }
-    ensures { λ r. ⌜ Made (braiding place) from n (now (row .entry)) (now (row .exit)) (r .answer) (r .from) (r .letters) ⌝ }
+fn try_braid(codes: &mut [u8], n: usize, place: usize) -> Change
+    requires { ⌜ Holds n place (now codes) ⌝ }
+    ensures { λ r. ⌜ Makes (braiding place) n (now (codes .entry)) (now (codes .exit)) (r .answer) (r .letters) ⌝ }
 {
     if n < place + 3 {
         return Change {
             answer: 22,
-            from,
             letters: n,
         };
     }
-    let at = 2 * from + place;
-    let j = code(row, at);
-    let k = code(row, at + 1);
-    let l = code(row, at + 2);
-    if !is_braid(j, k, l) {
+    let j = codes[place];
+    let k = codes[place + 1];
+    if !is_braid(j, k, codes[place + 2]) {
         return Change {
             answer: 23,
-            from,
             letters: n,
         };
     }
-    put_code(row, at, k);
-    put_code(row, at + 1, j);
-    put_code(row, at + 2, k);
+    codes[place] = k;
+    codes[place + 1] = j;
+    codes[place + 2] = k;
     Change {
         answer: 0,
-        from,
         letters: n,
     }
 }
 
 // Kind 16 + c: the letter c and then its inverse stand before the place.
-fn try_insert(row: &mut [u8], from: usize, n: usize, place: usize, c: u8) -> Change
-    requires { ⌜ Held from n (now row) × (place < 65536) × (isLetter c ≡ true) ⌝ }
-    ensures { λ r. ⌜ Made (insertion c place) from n (now (row .entry)) (now (row .exit)) (r .answer) (r .from) (r .letters) ⌝ }
+fn try_insert(codes: &mut [u8], n: usize, place: usize, c: u8) -> Change
+    requires { ⌜ Holds n place (now codes) ⌝ }
+    ensures { λ r. ⌜ Makes (insertion c place) n (now (codes .entry)) (now (codes .exit)) (r .answer) (r .letters) ⌝ }
 {
     if n < place {
         return Change {
             answer: 22,
-            from,
             letters: n,
         };
     }
     if braid::MAX_LETTERS < n + 2 {
         return Change {
             answer: 24,
-            from,
             letters: n,
         };
     }
-    let start = insert_two(row, from, n, place, c, braid::inverse(c));
+    insert_two(codes, n, place, c, braid::inverse(c));
     Change {
         answer: 0,
-        from: start,
         letters: n + 2,
     }
 }
 
 // The move of a kind at a place.
-pub(crate) fn one_move(row: &mut [u8], from: usize, n: usize, kind: u8, place: usize) -> Change
-    requires { ⌜ Held from n (now row) × (place < 65536) ⌝ }
-    ensures { λ r. ⌜ Made (move kind place) from n (now (row .entry)) (now (row .exit)) (r .answer) (r .from) (r .letters) ⌝ }
+pub(crate) fn one_move(codes: &mut [u8], n: usize, kind: u8, place: usize) -> Change
+    requires { ⌜ Holds n place (now codes) ⌝ }
+    ensures { λ r. ⌜ Makes (move kind place) n (now (codes .entry)) (now (codes .exit)) (r .answer) (r .letters) ⌝ }
 {
     if kind == 1 {
-        return try_remove(row, from, n, place);
+        return try_remove(codes, n, place);
     }
     if kind == 2 {
-        return try_swap(row, from, n, place);
+        return try_swap(codes, n, place);
     }
     if kind == 3 {
-        return try_braid(row, from, n, place);
+        return try_braid(codes, n, place);
     }
     if 16 <= kind {
         let c = kind - 16;
         if braid::is_letter(c) {
-            return try_insert(row, from, n, place, c);
+            return try_insert(codes, n, place, c);
         }
     }
     Change {
         answer: 21,
-        from,
         letters: n,
     }
 }

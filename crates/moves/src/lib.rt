@@ -1,62 +1,35 @@
 // The rewriter: a list of moves, one after another, on a braid word.
 mod list; // list.rt: the move list, and its moves in order
 mod kinds; // kinds.rt: one move, by its kind
-mod shift; // shift.rt: two letters taken out, and two put in
-mod chunks; // chunks.rt: bytes that move by one place
-mod row; // row.rt: the codes in a row of bytes
+mod shift; // shift.rt: letters that move up or down
 
 use crate::list::all_moves;
 use crate::list::list_answer;
 use braid::Written;
-ghost use Prim.Native.Nat.{_+_, _≤_, _<_};
+ghost use Prim.Native.Nat.{_*_, _≤_};
 ghost use mathlib.Core.Path.{_≡_};
-ghost use mathlib.Core.List.{[], _∷_, _++_};
 ghost use lib.ListN.{length};
 ghost use Rattle.base.specs.Lists.{overlaid};
-ghost use Rattle.base.specs.Digits.{digits};
-ghost use Rattle.moves.specs.Leaving.{laid};
+ghost use Rattle.base.specs.Digits.{halves};
 ghost use Rattle.moves.specs.Meaning.{Rewrote};
 
-// What a move gives: the number of the first question answered no, 0 if there is none, and the byte of the row at which the word then begins, with how
-// many letters it has.
+// What a move gives: the number of the first question answered no, 0 if there is none, and how many letters the word then has.
 pub(crate) struct Change {
     pub(crate) answer: u8,
-    pub(crate) from: usize,
     pub(crate) letters: usize,
 }
 
-// The bytes of the working row, and where the word handed in begins: 5,001 bytes for the longest word and a 0 after it, and on either side one for each of
-// 4,096 moves with some more for whole chunks.
-const ROW: usize = 13440;
-
-pub(crate) const MIDDLE: usize = 4224;
-
-// The bytes that hold the word go to the middle of the row, and a 0 after them.
-fn load(bytes: &[u8], row: &mut [u8])
-    requires { ⌜ 4224 + length (now bytes) < length (now row) ⌝ }
-    ensures { λ _. ⌜ now (row .exit) ≡ laid 4224 (now (bytes .entry) ++ (0 ∷ [])) (now (row .entry)) ⌝ }
+// The half bytes of a row of bytes go to the front of the row of codes, one to a byte.
+fn unpack(bytes: &[u8], codes: &mut [u8])
+    requires { ⌜ 2 * length (now bytes) ≤ length (now codes) ⌝ }
+    ensures { λ _. ⌜ now (codes .exit) ≡ overlaid (halves (now (bytes .entry))) (now (codes .entry)) ⌝ }
 {
     let mut k = 0;
     while k < bytes.len() {
-        row[MIDDLE + k] = bytes[k];
+        codes[2 * k] = bytes[k] / 16;
+        codes[2 * k + 1] = bytes[k] % 16;
         k += 1;
     }
-    row[MIDDLE + bytes.len()] = 0;
-}
-
-// The file of n letters that the bytes hold goes to the front of the output: how many bytes it has.
-fn write_file(bytes: &[u8], n: usize, out: &mut [u8]) -> usize
-    requires { ⌜ (n ≤ 10000) × (2 + length (now bytes) ≤ length (now out)) ⌝ }
-    ensures { λ r. ⌜ (r ≡ 2 + length (now (bytes .entry))) × (now (out .exit) ≡ overlaid (digits 256 2 n ++ now (bytes .entry)) (now (out .entry))) ⌝ }
-{
-    out[0] = (n / 256) as u8;
-    out[1] = (n % 256) as u8;
-    let mut k = 0;
-    while k < bytes.len() {
-        out[k + 2] = bytes[k];
-        k += 1;
-    }
-    2 + bytes.len()
 }
 
 // The rewriter: 15, the word, the move list, then move by move. The output is touched only once every move is made.
@@ -83,17 +56,15 @@ pub fn rewrite(word: &[u8], moves: &[u8], out: &mut [u8]) -> Written
             bytes: 0,
         };
     }
-    let mut row = [0u8; ROW];
-    load(&word[2..], &mut row);
-    let last = all_moves(&mut row, w.letters, moves);
+    let mut codes = [0u8; braid::MAX_LETTERS];
+    unpack(&word[2..], &mut codes);
+    let last = all_moves(&mut codes, w.letters, moves);
     if last.answer != 0 {
         return Written {
             answer: last.answer,
             bytes: 0,
         };
     }
-    let start = last.from;
-    let end = start + (last.letters + 1) / 2;
-    let bytes = write_file(&row[start..end], last.letters, out);
-    Written { answer: 0, bytes }
+    let n = last.letters;
+    braid::write_word(&codes[..n], out)
 }

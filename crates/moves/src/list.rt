@@ -1,6 +1,5 @@
 // The move list: the number of moves, then all places, then all kinds. Its questions, and its moves one after another.
 use crate::Change;
-use crate::MIDDLE;
 use crate::kinds::one_move;
 ghost use Prim.Native.Nat.{_+_, _*_, _≤_, _<_};
 ghost use mathlib.Core.Path.{_≡_};
@@ -9,7 +8,7 @@ ghost use Rattle.base.specs.Questions.{firstNo};
 ghost use Rattle.base.specs.Digits.{value, part};
 ghost use Rattle.moves.specs.Kinds.{move};
 ghost use Rattle.moves.specs.Rewriting.{moveCount, stepAt, steps, listQuestions};
-ghost use Rattle.moves.specs.Leaving.{moved, codesFrom, Held, Made, AllMade};
+ghost use Rattle.moves.specs.Leaving.{moved, Leaves, Makes};
 
 // The number that two bytes write, the high one first.
 fn two(bytes: &[u8], at: usize) -> usize
@@ -37,42 +36,31 @@ pub(crate) fn list_answer(moves: &[u8]) -> u8
 }
 
 // Move k of the list, on a word of n letters.
-fn move_at(row: &mut [u8], from: usize, n: usize, moves: &[u8], k: usize) -> Change
-    requires { ⌜ Held from n (now row) × (length (now moves) ≡ 2 + 3 * moveCount (now moves)) × (k < moveCount (now moves)) ⌝ }
-    ensures { λ r. ⌜ Made (move (stepAt (now (moves .entry)) k .kind) (stepAt (now (moves .entry)) k .place)) from n (now (row .entry)) (now (row .exit)) (r .answer) (r .from) (r .letters) ⌝ }
+fn move_at(codes: &mut [u8], n: usize, moves: &[u8], k: usize) -> Change
+    requires { ⌜ (n ≤ 10000) × (length (now codes) ≡ 10000) × (length (now moves) ≡ 2 + 3 * moveCount (now moves)) × (k < moveCount (now moves)) ⌝ }
+    ensures { λ r. ⌜ Makes (move (stepAt (now (moves .entry)) k .kind) (stepAt (now (moves .entry)) k .place)) n (now (codes .entry)) (now (codes .exit)) (r .answer) (r .letters) ⌝ }
 {
     let count = two(moves, 0);
     let place = two(moves, 2 + 2 * k);
     let kind = moves[2 + 2 * count + k];
-    one_move(row, from, n, kind, place)
+    one_move(codes, n, kind, place)
 }
 
-// All moves of the list, each on the word that the last one left; a refused move ends it. Each may move the word by a byte, and there is room for that.
-pub(crate) fn all_moves(row: &mut [u8], n: usize, moves: &[u8]) -> Change
-    requires { ⌜
-        Held 4224 n (now row)
-        × (length (now row) ≡ 13440)
-        × (length (now moves) ≡ 2 + 3 * moveCount (now moves))
-        × (moveCount (now moves) ≤ 4096)
-        ⌝ }
-    ensures { λ r. ⌜ AllMade (moved (steps (now (moves .entry))) (take n (codesFrom 4224 (now (row .entry))))) (now (row .exit)) (r .answer) (r .from) (r .letters) ⌝ }
+// All moves of the list, each on the word that the last one left; a refused move ends it.
+pub(crate) fn all_moves(codes: &mut [u8], n: usize, moves: &[u8]) -> Change
+    requires { ⌜ (n ≤ 10000) × (length (now codes) ≡ 10000) × (length (now moves) ≡ 2 + 3 * moveCount (now moves)) ⌝ }
+    ensures { λ r. ⌜ Leaves (moved (steps (now (moves .entry))) (take n (now (codes .entry)))) (now (codes .exit)) (r .answer) (r .letters) ⌝ }
 {
     let count = two(moves, 0);
-    let mut from: usize = MIDDLE;
     let mut letters = n;
     let mut k = 0;
     while k < count {
-        let m = move_at(row, from, letters, moves, k);
+        let m = move_at(codes, letters, moves, k);
         if m.answer != 0 {
             return m;
         }
-        from = m.from;
         letters = m.letters;
         k += 1;
     }
-    Change {
-        answer: 0,
-        from,
-        letters,
-    }
+    Change { answer: 0, letters }
 }

@@ -1,91 +1,51 @@
-// Two letters taken out of a word, and two put in: one byte of its row goes or is doubled, and the shorter part of the word beside it moves by a
-// byte. Whole chunks move, so bytes before the word's first or after its last may move too.
-use crate::chunks::backward;
-use crate::chunks::chunks_for;
-use crate::chunks::forward;
-use crate::row::code;
-use crate::row::put_code;
-ghost use Prim.Native.Nat.{_+_, _-_, _*_, _≤_, _<_};
+// Two letters taken out of a word, and two put in. The word is the first n codes of a row, and what stands after the place moves by two: plain loops over
+// a part that is lent for it, from the part's own first code on, which the compiler makes into one move of many bytes.
+ghost use Prim.Native.Nat.{_+_, _-_, _≤_};
 ghost use mathlib.Core.Path.{_≡_};
 ghost use mathlib.Core.List.{_∷_, _++_};
 ghost use lib.ListN.{length, take, drop};
-ghost use Rattle.moves.specs.Leaving.{codesFrom, Room, Near};
+ghost use Rattle.base.specs.Lists.{overlaid};
+ghost use Rattle.braid.specs.Moves.{removal};
 
-// The byte at a place of the word goes. Where the word then begins; its letters are n - 2, and the half byte after them is still there.
-fn take_out(row: &mut [u8], from: usize, n: usize, at: usize) -> usize
-    requires { ⌜ Room from n (now row) × (from ≤ at) × (2 * (at - from) < n) ⌝ }
-    ensures { λ r.
-        ⌜
-        Near from r
-        × (take (n - 1) (codesFrom r (now (row .exit)))
-        ≡ take (2 * (at - from)) (codesFrom from (now (row .entry)))
-        ++ take (n - 1 - 2 * (at - from)) (drop (2 * (at - from) + 2) (codesFrom from (now (row .entry)))))
-        ⌝ }
+// The codes after the first two move up to the front; the last two stay as they were.
+fn move_up(part: &mut [u8])
+    requires { ⌜ 2 ≤ length (now part) ⌝ }
+    ensures { λ _. ⌜ now (part .exit) ≡ overlaid (drop 2 (now (part .entry))) (now (part .entry)) ⌝ }
 {
-    let end = from + n / 2;
-    if at - from < end - at {
-        let chunks = chunks_for(at - from);
-        backward(row, at - 64 * chunks, chunks);
-        return from + 1;
+    let end = part.len() - 2;
+    let mut k = 0;
+    while k < end {
+        part[k] = part[k + 2];
+        k += 1;
     }
-    let chunks = chunks_for(end - at);
-    forward(row, at + 1, chunks);
-    from
 }
 
-// The byte at a place of the word, or the one after its last, is doubled. Where the word then begins.
-fn double(row: &mut [u8], from: usize, n: usize, at: usize) -> usize
-    requires { ⌜ Room from n (now row) × (from ≤ at) × (2 * (at - from) ≤ n) ⌝ }
-    ensures { λ r.
-        ⌜
-        Near from r
-        × (take (n + 3) (codesFrom r (now (row .exit)))
-        ≡ take (2 * (at - from) + 2) (codesFrom from (now (row .entry)))
-        ++ take (n + 1 - 2 * (at - from)) (drop (2 * (at - from)) (codesFrom from (now (row .entry)))))
-        ⌝ }
+// The codes before the last two move down, and two others stand in front of them.
+fn move_down(part: &mut [u8], c: u8, d: u8)
+    requires { ⌜ 2 ≤ length (now part) ⌝ }
+    ensures { λ _. ⌜ now (part .exit) ≡ c ∷ d ∷ take (length (now (part .entry)) - 2) (now (part .entry)) ⌝ }
 {
-    let end = from + n / 2;
-    if at - from < end - at {
-        let chunks = chunks_for(at + 1 - from);
-        forward(row, at + 1 - 64 * chunks, chunks);
-        return from - 1;
+    let mut k = part.len() - 2;
+    while 0 < k {
+        k -= 1;
+        part[k + 2] = part[k];
     }
-    let chunks = chunks_for(end + 1 - at);
-    backward(row, at, chunks);
-    from
+    part[1] = d;
+    part[0] = c;
 }
 
-// The two letters at a place go. Where the word then begins.
-pub(crate) fn remove_two(row: &mut [u8], from: usize, n: usize, place: usize) -> usize
-    requires { ⌜ Room from n (now row) × (place + 2 ≤ n) ⌝ }
-    ensures { λ r.
-        ⌜
-        Near from r
-        × (take (n - 1) (codesFrom r (now (row .exit)))
-        ≡ take place (codesFrom from (now (row .entry)))
-        ++ take (n - 1 - place) (drop (place + 2) (codesFrom from (now (row .entry)))))
-        ⌝ }
+// The two letters at a place go.
+pub(crate) fn remove_two(codes: &mut [u8], n: usize, place: usize)
+    requires { ⌜ (place + 2 ≤ n) × (n ≤ length (now codes)) ⌝ }
+    ensures { λ _. ⌜ take (n - 2) (now (codes .exit)) ≡ removal place (take n (now (codes .entry))) .word ⌝ }
 {
-    let at = 2 * from + place;
-    let next = code(row, at + 2);
-    put_code(row, at, next);
-    take_out(row, from, n, (at + 1) / 2)
+    move_up(&mut codes[place..n]);
 }
 
-// Two letters come to stand before a place. Where the word then begins.
-pub(crate) fn insert_two(row: &mut [u8], from: usize, n: usize, place: usize, c: u8, d: u8) -> usize
-    requires { ⌜ Room from n (now row) × (place ≤ n) × (c < 16) × (d < 16) ⌝ }
-    ensures { λ r.
-        ⌜
-        Near from r
-        × (take (n + 3) (codesFrom r (now (row .exit)))
-        ≡ take place (codesFrom from (now (row .entry)))
-        ++ (c ∷ d ∷ take (n + 1 - place) (drop place (codesFrom from (now (row .entry))))))
-        ⌝ }
+// Two letters come to stand before a place.
+pub(crate) fn insert_two(codes: &mut [u8], n: usize, place: usize, c: u8, d: u8)
+    requires { ⌜ (place ≤ n) × (n + 2 ≤ length (now codes)) ⌝ }
+    ensures { λ _. ⌜ take (n + 2) (now (codes .exit)) ≡ take place (take n (now (codes .entry))) ++ (c ∷ d ∷ drop place (take n (now (codes .entry)))) ⌝ }
 {
-    let start = double(row, from, n, (2 * from + place) / 2);
-    let at = 2 * start + place;
-    put_code(row, at, c);
-    put_code(row, at + 1, d);
-    start
+    move_down(&mut codes[place..n + 2], c, d);
 }

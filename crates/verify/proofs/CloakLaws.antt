@@ -1,22 +1,20 @@
 -- Laws of cloaking: the answer on each question's refusal and where all are passed, and the comparison of the pair that comes back.
 -- Assumes nothing.
 use Prim.Native.Nat.{ℕ}
-use mathlib.Core.Path.{_≡_, refl, sym, ap, _∙_}
+use mathlib.Core.Path.{_≡_, sym, ap, _∙_}
 use mathlib.Core.Bool.{Bool, true, false, _&&_}
-use mathlib.Core.List.{List, [], _∷_, _++_}
+use mathlib.Core.List.{List, _∷_}
 use native.Mathlib.Omega.{arith}
 use lib.Dec.{eqb}
-use lib.ListN.{length, take}
-use Rattle.base.specs.Questions.{Question, _else_, firstNo, granted}
-use Rattle.base.specs.Lists.{every, same}
-use Rattle.base.specs.Digits.{halves}
+use lib.ListN.{length}
+use Rattle.base.specs.Questions.{_else_, firstNo}
+use Rattle.base.specs.Lists.{same}
 use Rattle.base.proofs.QuestionLaws.{passes, fails, in-a-row, granted-zero, granted-refused}
+use Rattle.field.specs.Binary.{Operations}
 use Rattle.field.specs.Gf32.{gf32}
-use Rattle.braid.specs.Letters.{isLetter}
-use Rattle.braid.specs.Words.{codes, letters, codePart, wordQuestions, wordAnswer}
-use Rattle.braid.proofs.ReadLaws.{letters-of-part, letters-accepted, accepted-letters}
+use Rattle.braid.specs.Words.{codes, wordQuestions, wordAnswer}
 use Rattle.action.specs.declared.Pair.{Pair}
-use Rattle.action.specs.Action.{pairOf, wordOn, identityWith, start}
+use Rattle.action.specs.Action.{pairOf, wordOn, start}
 use Rattle.action.specs.Multiplier.{isOrder}
 use Rattle.key.specs.Keys.{keyQuestions, keyAnswer, keyOf}
 use Rattle.verify.specs.Cloaking.{samePair, comesBack, cloakQuestions, Cloaks}
@@ -50,21 +48,21 @@ module _ (key order word : List ℕ) where
 
   -- every question is passed
   pub answered : keyAnswer key ≡ 0 → isList order ≡ true → wordAnswer word ≡ 0 → {yes : Bool}
-      → yes ≡ comesBack (keyOf key .«t_values») order (codes word) → Cloaks key order word 0 yes
+      → yes ≡ comesBack gf32 (keyOf key .«t_values») order (codes word) → Cloaks key order word 0 yes
   unfolding wordAnswer
   answered k l w e =
       let z : firstNo (cloakQuestions key order word) ≡ 0 = after-key k ∙ passes 25 (wordQuestions word) l ∙ w in
       record { answer-is = sym z; yes-is = e ∙ sym (granted-zero _ _ z) }
 
 -- the pair that comes back, compared as the code does it
-module _ (ts order w labels : List ℕ) (s after : Pair) (is-start : s ≡ start) (is-order : labels ≡ order)
-    (is-after : after ≡ wordOn gf32 ts w (pairOf (s .matrix) labels)) where
-  comes : comesBack ts order w ≡ (same (after .matrix) (s .matrix) && same (after .labels) order)
+module _ (F : Operations) (ts order w labels : List ℕ) (s after : Pair) (is-start : s ≡ start) (is-order : labels ≡ order)
+    (is-after : after ≡ wordOn F ts w (pairOf (s .matrix) labels)) where
+  comes : comesBack F ts order w ≡ (same (after .matrix) (s .matrix) && same (after .labels) order)
   unfolding comesBack samePair start
   comes = rw (is-after, is-order, is-start)
 
-  pub not-back : same (after .matrix) (s .matrix) ≡ false → false ≡ comesBack ts order w
+  pub not-back : same (after .matrix) (s .matrix) ≡ false → false ≡ comesBack F ts order w
   not-back e = sym (comes ∙ ap (λ (b : Bool). b && same (after .labels) order) e)
 
-  pub back : same (after .matrix) (s .matrix) ≡ true → {b : Bool} → b ≡ same (after .labels) order → b ≡ comesBack ts order w
+  pub back : same (after .matrix) (s .matrix) ≡ true → {b : Bool} → b ≡ same (after .labels) order → b ≡ comesBack F ts order w
   back e d = d ∙ sym (comes ∙ ap (λ (b : Bool). b && same (after .labels) order) e)

@@ -8,7 +8,7 @@ use lib.ListN.{getD}
 use Rattle.field.specs.Gf32.{gf32}
 use Rattle.action.specs.Good.{TValues, GoodPair}
 use Rattle.key.specs.Keys.{keyAnswer, keyOf}
-use Rattle.key.proofs.KeyFacts.{Sound, key-sound}
+use Rattle.key.proofs.KeyFacts.{key-sound}
 
 positive : (n : ℕ) → (n ≡ 0 → ⊥) → 0 < n
 positive n h = omega arith

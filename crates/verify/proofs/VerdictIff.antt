@@ -15,6 +15,7 @@ use Rattle.base.specs.Questions.{Question, _else_, firstNo}
 use Rattle.base.specs.Lists.{same}
 use Rattle.base.proofs.QuestionLaws.{numbered, passes, fails, in-a-row, granted-zero, granted-refused}
 use Rattle.base.proofs.ListLaws.{same-true, same-of, same-false}
+use Rattle.field.specs.Gf32.{gf32}
 use Rattle.braid.specs.Words.{codes, wordQuestions, wordAnswer}
 use Rattle.key.specs.Keys.{keyQuestions, keyAnswer, keyOf}
 use Rattle.digest.specs.Digest.{digestQuestions}
@@ -30,10 +31,10 @@ refused-there ps qs t h = in-a-row ps qs t ∙ granted-refused (firstNo qs) (fir
 module _ (key digest word : List ℕ) where
   -- the last question: are the matrices equal?
   abbrev Equal : Type 0
-  Equal = signed (keyOf key) (codes word) ≡ target (keyOf key) digest
+  Equal = signed gf32 (keyOf key) (codes word) ≡ target gf32 (keyOf key) digest
 
   abbrev equal : Bool
-  equal = same (signed (keyOf key) (codes word)) (target (keyOf key) digest)
+  equal = same (signed gf32 (keyOf key) (codes word)) (target gf32 (keyOf key) digest)
 
   abbrev last : List Question
   last = (equal else 14) ∷ []
@@ -75,7 +76,7 @@ module _ (key digest word : List ℕ) where
     equal-zero e = after-word k d w ∙ passes 14 [] (same-of e)
 
     pub unequal-14 : (Equal → ⊥) → verdict key digest word ≡ 14
-    unequal-14 h = after-word k d w ∙ fails 14 [] (same-false (signed (keyOf key) (codes word)) (target (keyOf key) digest) h)
+    unequal-14 h = after-word k d w ∙ fails 14 [] (same-false (signed gf32 (keyOf key) (codes word)) (target gf32 (keyOf key) digest) h)
 
     -- one of the two holds
     decided : ((verdict key digest word ≡ 0) × Equal) ⊎ (verdict key digest word ≡ 14)
@@ -83,7 +84,7 @@ module _ (key digest word : List ℕ) where
     decided = go equal refl
       where
         go : (b : Bool) → equal ≡ b → ((verdict key digest word ≡ 0) × Equal) ⊎ (verdict key digest word ≡ 14)
-        go true e = inl (after-word k d w ∙ passes 14 [] e, same-true (signed (keyOf key) (codes word)) (target (keyOf key) digest) e)
+        go true e = inl (after-word k d w ∙ passes 14 [] e, same-true (signed gf32 (keyOf key) (codes word)) (target gf32 (keyOf key) digest) e)
         go false e = inr (after-word k d w ∙ fails 14 [] e)
 
     pub zero-or-14 : (verdict key digest word ≡ 0) ⊎ (verdict key digest word ≡ 14)
@@ -105,10 +106,10 @@ module _ (key digest word : List ℕ) where
 
 -- two accepted words that reach the same matrix from Pub(S) are answered alike
 pub same-verdict : (key digest word new : List ℕ) → keyAnswer key ≡ 0 → length digest ≡ 32 → wordAnswer word ≡ 0 → wordAnswer new ≡ 0
-    → signed (keyOf key) (codes new) ≡ signed (keyOf key) (codes word) → verdict key digest new ≡ verdict key digest word
+    → signed gf32 (keyOf key) (codes new) ≡ signed gf32 (keyOf key) (codes word) → verdict key digest new ≡ verdict key digest word
 same-verdict key digest word new k d w n e =
     after-word key digest new k d n
-    ∙ ap (λ (m : List ℕ). firstNo ((same m (target (keyOf key) digest) else 14) ∷ [])) e
+    ∙ ap (λ (m : List ℕ). firstNo ((same m (target gf32 (keyOf key) digest) else 14) ∷ [])) e
     ∙ sym (after-word key digest word k d w)
 
 -- ---- on all inputs
@@ -118,7 +119,7 @@ pub record Signs (key digest word : List ℕ) : Type 0 where
   pub key-accepted : keyAnswer key ≡ 0
   pub digest-accepted : length digest ≡ 32
   pub word-accepted : wordAnswer word ≡ 0
-  pub matrices-equal : signed (keyOf key) (codes word) ≡ target (keyOf key) digest
+  pub matrices-equal : signed gf32 (keyOf key) (codes word) ≡ target gf32 (keyOf key) digest
 
 -- where the verdict is 0, a number that would be the verdict if it were not 0 is 0
 zero-by : (n v : ℕ) → v ≡ 0 → ((n ≡ 0 → ⊥) → v ≡ n) → n ≡ 0

@@ -1,16 +1,14 @@
 -- The digest's braid as the verdict takes it from the encoder, and the comparison of the two matrices. Assumes nothing.
 use Prim.Native.Nat.{ℕ, _≤_, _<_}
-use mathlib.Core.Path.{_≡_, refl, sym, ap, ap₂, _∙_}
-use mathlib.Core.Bool.{Bool, true, false, cond}
+use mathlib.Core.Path.{_≡_, sym, ap, ap₂, _∙_}
 use mathlib.Core.List.{List}
 use native.Mathlib.Omega.{arith}
 use borrow.Author.Tests.{le-leb, eq-eqb}
 use lib.ListN.{length, take, getD}
 use Rattle.base.specs.Questions.{firstNo}
-use Rattle.base.specs.Lists.{same, overlaid}
+use Rattle.base.specs.Lists.{same}
 use Rattle.base.proofs.QuestionLaws.{passed-answers, granted-zero}
-use Rattle.base.proofs.ListLaws.{length-overlaid}
-use Rattle.field.specs.Gf32.{gf32}
+use Rattle.field.specs.Binary.{Operations}
 use Rattle.braid.specs.Words.{codes, letters, wordFile, wordAnswer, Wrote}
 use Rattle.braid.proofs.ReadLaws.{letters-accepted}
 use Rattle.braid.proofs.RoundTrip.{wrote-file, file-short}
@@ -45,13 +43,14 @@ module _ (digest : List ℕ) (bytes-below : (k : ℕ) → getD digest k 0 < 256)
   braid-codes = sym (letters-accepted (take bytes after) braid-accepted) ∙ ap letters braid-file ∙ encoded-read digest bytes-below size
 
 -- the matrix that the word reaches from Pub(S)
-pub signed-is : (key : Key) (w : List ℕ) (reached : Pair) → reached ≡ wordOn gf32 (key .«t_values») w (key .pair) → reached .matrix ≡ signed key w
+pub signed-is : (F : Operations) (key : Key) (w : List ℕ) (reached : Pair) → reached ≡ wordOn F (key .«t_values») w (key .pair)
+    → reached .matrix ≡ signed F key w
 unfolding signed
-signed-is key w reached e = ap (λ (p : Pair). p .matrix) e
+signed-is F key w reached e = ap (λ (p : Pair). p .matrix) e
 
 -- the comparison that the code makes is that of the two sides
-module _ (key : Key) (w digest matrix first wanted : List ℕ) (m : matrix ≡ signed key w)
-    (f : first ≡ wordOn gf32 (key .«t_values») (encoded digest) start .matrix) (x : wanted ≡ matrixProduct gf32 first (key .second)) where
-  pub sides : same matrix wanted ≡ same (signed key w) (target key digest)
+module _ (F : Operations) (key : Key) (w digest matrix first wanted : List ℕ) (m : matrix ≡ signed F key w)
+    (f : first ≡ wordOn F (key .«t_values») (encoded digest) start .matrix) (x : wanted ≡ matrixProduct F first (key .second)) where
+  pub sides : same matrix wanted ≡ same (signed F key w) (target F key digest)
   unfolding target
-  sides = ap₂ same m (x ∙ ap (λ (l : List ℕ). matrixProduct gf32 l (key .second)) f)
+  sides = ap₂ same m (x ∙ ap (λ (l : List ℕ). matrixProduct F l (key .second)) f)

@@ -11,6 +11,7 @@ use Rattle.base.specs.Questions.{firstNo}
 use Rattle.base.specs.Lists.{valuesFrom, every, count, eachOnce}
 use Rattle.base.specs.Digits.{value, digits, halves}
 use Rattle.field.specs.Polynomial.{timesX, horner, times}
+use Rattle.field.specs.Gf32.{gf32}
 use Rattle.braid.specs.Words.{codes, filler, wordAnswer}
 use Rattle.action.specs.Layout.{entry, matrixOf}
 use Rattle.action.specs.Action.{wordOn, sum, matrixProduct}
@@ -55,19 +56,19 @@ unfolding firstNo every value codes filler halves wordAnswer
 empty-accepted = refl
 
 -- what the empty word reaches, and what it has to reach: anything times the zero matrix
-zero-signed : signed (keyOf (keyWith zeroMatrix)) (codes emptyWord) ≡ replicate 64 0
+zero-signed : signed gf32 (keyOf (keyWith zeroMatrix)) (codes emptyWord) ≡ replicate 64 0
 unfolding valuesFrom value digits halves codes matrixOf wordOn tValues entries labels wholeMatrix keyOf signed
 zero-signed = refl
 
-identity-signed : getD (signed (keyOf (keyWith identityMatrix)) (codes emptyWord)) 0 0 ≡ 1
+identity-signed : getD (signed gf32 (keyOf (keyWith identityMatrix)) (codes emptyWord)) 0 0 ≡ 1
 unfolding valuesFrom value digits halves codes matrixOf wordOn tValues entries labels wholeMatrix keyOf signed
 identity-signed = refl
 
-zero-target : (digest : List ℕ) → target (keyOf (keyWith zeroMatrix)) digest ≡ replicate 64 0
+zero-target : (digest : List ℕ) → target gf32 (keyOf (keyWith zeroMatrix)) digest ≡ replicate 64 0
 unfolding valuesFrom value digits timesX horner times entry matrixOf sum matrixProduct tValues entries wholeMatrix keyOf target
 zero-target digest = refl
 
-identity-target : (digest : List ℕ) → target (keyOf (keyWith identityMatrix)) digest ≡ replicate 64 0
+identity-target : (digest : List ℕ) → target gf32 (keyOf (keyWith identityMatrix)) digest ≡ replicate 64 0
 unfolding valuesFrom value digits timesX horner times entry matrixOf sum matrixProduct tValues entries wholeMatrix keyOf target
 identity-target digest = refl
 

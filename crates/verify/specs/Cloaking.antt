@@ -3,15 +3,15 @@
 use Prim.Native.Nat.{ℕ}
 use mathlib.Core.Path.{_≡_}
 use mathlib.Core.Bool.{Bool, false, _&&_}
-use mathlib.Core.List.{List, [], _∷_, _++_}
+use mathlib.Core.List.{List, _∷_, _++_}
 use lib.Dec.{eqb}
 use lib.ListN.{length}
 use Rattle.base.specs.Questions.{Question, _else_, firstNo, granted}
 use Rattle.base.specs.Lists.{same}
+use Rattle.field.specs.Binary.{Operations}
 use Rattle.field.specs.Gf32.{gf32}
 use Rattle.braid.specs.Words.{codes, wordQuestions}
 use Rattle.action.specs.declared.Pair.{Pair}
-use Rattle.key.specs.declared.Key.{Key}
 use Rattle.action.specs.Action.{wordOn, identityWith}
 use Rattle.action.specs.Multiplier.{isOrder}
 use Rattle.key.specs.Keys.{keyQuestions, keyOf}
@@ -20,9 +20,9 @@ use Rattle.key.specs.Keys.{keyQuestions, keyOf}
 unfoldable pub samePair : Pair → Pair → Bool
 samePair p q = same (p .matrix) (q .matrix) && same (p .labels) (q .labels)
 
--- the word comes back to the pair that it started from
-unfoldable pub comesBack : List ℕ → List ℕ → List ℕ → Bool
-comesBack ts order w = samePair (wordOn gf32 ts w (identityWith order)) (identityWith order)
+-- over a field, the word comes back to the pair that it started from
+unfoldable pub comesBack : Operations → List ℕ → List ℕ → List ℕ → Bool
+comesBack F ts order w = samePair (wordOn F ts w (identityWith order)) (identityWith order)
 
 -- Cloaking: the key's questions, 25, the word's
 abbrev pub cloakQuestions : List ℕ → List ℕ → List ℕ → List Question
@@ -32,4 +32,4 @@ cloakQuestions key order word =
 -- an answer, and beside it yes or no, which is no on a refusal
 pub record Cloaks (key order word : List ℕ) (answer : ℕ) (yes : Bool) : Type 0 where
   pub answer-is : answer ≡ firstNo (cloakQuestions key order word)
-  pub yes-is : yes ≡ granted (firstNo (cloakQuestions key order word)) (comesBack (keyOf key .«t_values») order (codes word)) false
+  pub yes-is : yes ≡ granted (firstNo (cloakQuestions key order word)) (comesBack gf32 (keyOf key .«t_values») order (codes word)) false

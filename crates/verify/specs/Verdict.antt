@@ -1,10 +1,10 @@
 -- The verdict: a slip is accepted if and only if the matrix reached from Pub(S) by its word equals the matrix reached from the identity by the
 -- encoded digest, times the matrix of Pub(S'), over GF(32). Lists are not compared. Assumes nothing.
 use Prim.Native.Nat.{ℕ}
-use mathlib.Core.Path.{_≡_}
 use mathlib.Core.List.{List, [], _∷_, _++_}
 use Rattle.base.specs.Questions.{Question, _else_, firstNo}
 use Rattle.base.specs.Lists.{same}
+use Rattle.field.specs.Binary.{Operations}
 use Rattle.field.specs.Gf32.{gf32}
 use Rattle.braid.specs.Words.{codes, wordQuestions}
 use Rattle.action.specs.Action.{wordOn, start, matrixProduct}
@@ -12,13 +12,13 @@ use Rattle.key.specs.Keys.{keyQuestions, keyOf}
 use Rattle.key.specs.declared.Key.{Key}
 use Rattle.digest.specs.Digest.{digestQuestions, encoded}
 
--- the matrix reached from Pub(S) by the signature's letters
-unfoldable pub signed : Key → List ℕ → List ℕ
-signed key w = wordOn gf32 (key .«t_values») w (key .pair) .matrix
+-- the matrix reached from Pub(S) by the signature's letters, over a field
+unfoldable pub signed : Operations → Key → List ℕ → List ℕ
+signed F key w = wordOn F (key .«t_values») w (key .pair) .matrix
 
 -- the matrix reached from the identity by the encoded digest, times the matrix of Pub(S')
-unfoldable pub target : Key → List ℕ → List ℕ
-target key digest = matrixProduct gf32 (wordOn gf32 (key .«t_values») (encoded digest) start .matrix) (key .second)
+unfoldable pub target : Operations → Key → List ℕ → List ℕ
+target F key digest = matrixProduct F (wordOn F (key .«t_values») (encoded digest) start .matrix) (key .second)
 
 -- Verdict, after key, digest, word: Are the matrices equal? 14
 abbrev pub verdictQuestions : List ℕ → List ℕ → List ℕ → List Question
@@ -26,7 +26,7 @@ verdictQuestions key digest word =
     keyQuestions key
     ++ (digestQuestions digest
     ++ (wordQuestions word
-    ++ ((same (signed (keyOf key) (codes word)) (target (keyOf key) digest) else 14) ∷ [])))
+    ++ ((same (signed gf32 (keyOf key) (codes word)) (target gf32 (keyOf key) digest) else 14) ∷ [])))
 
 unfoldable pub verdict : List ℕ → List ℕ → List ℕ → ℕ
 verdict key digest word = firstNo (verdictQuestions key digest word)

@@ -5,6 +5,7 @@ ghost use mathlib.Core.Path.{_≡_};
 ghost use mathlib.Core.Bool.{_&&_};
 ghost use lib.Dec.{eqb};
 ghost use lib.ListN.{length};
+ghost use Rattle.field.specs.Gf32.{gf32};
 ghost use Rattle.braid.specs.Words.{codes, letters, wordAnswer};
 ghost use Rattle.action.specs.Multiplier.{isOrder};
 ghost use Rattle.verify.specs.Cloaking.{comesBack, Cloaks};
@@ -46,7 +47,7 @@ fn eight(labels: &[u8]) -> [u8; 8]
 // Does an accepted word of n letters bring the identity matrix with the list back, list included?
 fn comes_back(t_values: &[u8; 8], labels: &[u8], word: &[u8], n: usize) -> bool
     requires { ⌜ (length (now labels) ≡ 8) × (wordAnswer (now word) ≡ 0) × (n ≡ length (letters (now word))) ⌝ }
-    ensures { λ r. ⌜ r ≡ comesBack (now («t_values» .entry)) (now (labels .entry)) (codes (now (word .entry))) ⌝ }
+    ensures { λ r. ⌜ r ≡ comesBack gf32 (now («t_values» .entry)) (now (labels .entry)) (codes (now (word .entry))) ⌝ }
 {
     let start = Pair::start();
     let identity = start.matrix;

@@ -30,7 +30,7 @@ fn digest_matrix(t_values: &[u8; 8], digest: &[u8]) -> [u8; 64]
 // The verdict under a key on a digest of 32 bytes and an accepted word of n letters: 0 or 14.
 fn judge(held: Key, digest: &[u8], word: &[u8], n: usize) -> u8
     requires { ⌜ (length (now digest) ≡ 32) × (wordAnswer (now word) ≡ 0) × (n ≡ length (letters (now word))) ⌝ }
-    ensures { λ r. ⌜ r ≡ cond (same (signed held (codes (now (word .entry)))) (target held (now (digest .entry)))) 0 14 ⌝ }
+    ensures { λ r. ⌜ r ≡ cond (same (signed gf32 held (codes (now (word .entry)))) (target gf32 held (now (digest .entry)))) 0 14 ⌝ }
 {
     let t_values = held.t_values;
     let pair = held.pair;

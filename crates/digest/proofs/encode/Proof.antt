@@ -1,16 +1,15 @@
 -- `digest::encode` meets its contract: on 15 and 8 nothing is written; else the writer from codes writes the braid of the digest, which passes that
 -- writer's own questions. Assumes nothing.
 use Prim.Native.Nat.{ℕ, _≤_, _<_}
-use mathlib.Core.Path.{_≡_, refl, sym, ap, _∙_, subst}
-use mathlib.Core.Bool.{true}
+use mathlib.Core.Path.{_≡_, refl, sym, _∙_}
 use mathlib.Core.List.{List, []}
 use native.Mathlib.Omega.{arith}
 use borrow.Author.Tests.{lt-leb, le-leb, ne-eqb, eq-eqb}
-use lib.ListN.{length, take, drop, getD, length-take}
+use lib.ListN.{length, drop, getD}
 use lib.Seq.{length-take-le}
-use Rattle.base.specs.Questions.{Question, firstNo}
+use Rattle.base.specs.Questions.{firstNo}
 use Rattle.base.proofs.QuestionLaws.{passes, fails, passed-answers}
-use Rattle.braid.specs.Words.{wordFile, writerQuestions, Wrote}
+use Rattle.braid.specs.Words.{wordFile}
 use Rattle.braid.proofs.WriteLaws.{wrote-refused, wrote-same, writable}
 use Rattle.digest.specs.Digest.{encoded, encoderQuestions}
 use Rattle.digest.proofs.Encoded.{encoded-short, encoded-letters}

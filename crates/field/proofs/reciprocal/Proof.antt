@@ -11,7 +11,7 @@ use lib.Dec.{eqb}
 use lib.ListN.{getD}
 use Rattle.base.specs.Questions.{_else_}
 use Rattle.base.proofs.QuestionLaws.{passes, fails, passed-answers}
-use Rattle.field.specs.Gf32.{isElement, reciprocalQuestions}
+use Rattle.field.specs.Gf32.{reciprocalQuestions}
 use Rattle.field.proofs.GivesLaws.{given, refused}
 use Rattle.field.proofs.TableLaws.{reciprocal-at}
 use Rattle.field.proofs.reciprocal.Statement.{statement}

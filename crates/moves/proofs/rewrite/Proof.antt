@@ -1,21 +1,18 @@
 -- `moves::rewrite` meets its contract: a refusal for the output, the word, the list and the moves, and the new word's file.
 -- Assumes nothing.
-use Prim.Native.Nat.{ℕ, _+_, _-_, _/_, _≤_}
-use mathlib.Core.Path.{_≡_, refl, sym, ap, _∙_}
-use mathlib.Core.List.{List}
+use Prim.Native.Nat.{_-_, _≤_}
+use mathlib.Core.Path.{_≡_, sym, ap, _∙_}
 use native.Mathlib.Omega.{arith}
-use lib.ListN.{length, take, getD}
+use lib.ListN.{length}
+use lib.Seq.{length-take-le}
 use Rattle.base.specs.Questions.{firstNo}
-use Rattle.base.specs.Lists.{overlaid}
-use Rattle.base.specs.Digits.{part}
 use Rattle.braid.specs.Words.{codes, wordAnswer}
 use Rattle.braid.proofs.ReadLaws.{accepted-long}
 use Rattle.braid.proofs.WriteLaws.{wrote-refused}
-use Rattle.moves.specs.Rewriting.{moveCount, steps, listQuestions}
-use Rattle.moves.specs.Leaving.{moved, codesFrom, AllMade}
-use Rattle.moves.proofs.CodeList.{listed, list-few, leaves-as}
-use Rattle.moves.proofs.FileLaws.{fileOf}
-use Rattle.moves.proofs.CodeRewrite.{rewriter-15, rewriter-word, rewriter-list, rewriter-answer, letters-few, held-length, loaded, loaded-end, rewrote}
+use Rattle.moves.specs.Rewriting.{steps, listQuestions}
+use Rattle.moves.specs.Leaving.{moved, Leaves}
+use Rattle.moves.proofs.CodeList.{listed, leaves-as}
+use Rattle.moves.proofs.CodeRewrite.{rewriter-15, rewriter-word, rewriter-list, rewriter-answer, letters-few, bytes-fit, unpacked, rewrote}
 use Rattle.moves.proofs.RewritingKeepsMeaning.{rewrote-whole}
 use borrow.Author.Needs.{needs}
 use Rattle.moves.proofs.rewrite.Statement.{statement}
@@ -28,6 +25,26 @@ word-accepted c = sym (c .before .before .before .before .read-word .ensures .an
 -- and 18 to 20
 list-accepted : (c : tie.Else3) → firstNo (listQuestions (c .before .before .before .before .before .before .before .before .before .args .moves .now)) ≡ 0
 list-accepted c = sym (c .before .list-answer .ensures) ∙ c .if3 .left
+
+-- the moves, on the word's codes
+made : (c : tie.After-all-moves)
+    → let a = c .before .before .before .before .before .before .before .before .before .before .before .before .before .before .before .args in
+    let m = c .all-moves in
+    Leaves (moved (steps (a .moves .now)) (codes (a .word .now))) (m .last .0) (m .result .answer) (m .result .letters)
+made c =
+    let t = c .before .before .before .before .before .before in
+    let a = t .before .before .before .before .before .before .before .before .before .args in
+    let u = c .before .before .before .unpack in
+    leaves-as
+    (ap (moved (steps (a .moves .now)))
+    (unpacked (a .word .now) (t .before .before .before .before .read-word .ensures) (word-accepted t) _ (u .last .1 .0) (u .ensures)))
+    (c .all-moves .ensures)
+
+-- the row has room for 10,000
+few : (c : tie.After-all-moves) → c .all-moves .result .letters ≤ 10000
+few c =
+    let m = c .all-moves in
+    omega (arith, m .ensures .letters-in, m .kept .0, c .before .before .before .unpack .kept .1 .0)
 
 returns : tie.Need-returns
 returns c =
@@ -60,124 +77,70 @@ returns-3 c =
     (sym (c .before .before .before .before .read-word .ensures .answer-is) ∙ c .before .before .if2 .left) (λ z. c .if3 .taken (e ∙ z)) ∙ sym e)
     (c .if3 .taken))
 
-sub-load : tie.Need-sub-load
-sub-load c = accepted-long (c .before .before .before .before .before .before .before .before .before .args .word .now) (word-accepted c)
+sub-unpack : tie.Need-sub-unpack
+sub-unpack c = accepted-long (c .before .before .before .before .before .before .before .before .before .args .word .now) (word-accepted c)
 
-part-load-start : tie.Need-part-load-start
-part-load-start c = accepted-long (c .before .before .before .before .before .before .before .before .before .args .word .now) (word-accepted c)
+part-unpack-start : tie.Need-part-unpack-start
+part-unpack-start c = accepted-long (c .before .before .before .before .before .before .before .before .before .args .word .now) (word-accepted c)
 
-part-load-end : tie.Need-part-load-end
-part-load-end c = search needs
+part-unpack-end : tie.Need-part-unpack-end
+part-unpack-end c = search needs
 
-slice-aggregate-load : tie.Need-slice-aggregate-load
-slice-aggregate-load c = search needs
+slice-aggregate-unpack : tie.Need-slice-aggregate-unpack
+slice-aggregate-unpack c = search needs
 
-load-requires : tie.Need-load-requires
-load-requires c κs =
+unpack-requires : tie.Need-unpack-requires
+unpack-requires c κs =
     let t = c .before .before in
-    let w = t .before .before .before .before .before .before .before .before .before .args .word .now in
     let r = t .before .before .before .before .read-word .ensures in
-    omega (arith, held-length w r (word-accepted t), letters-few w r (word-accepted t))
+    let w = t .before .before .before .before .before .before .before .before .before .args .word .now in
+    bytes-fit w r (word-accepted t)
 
 slice-aggregate-all-moves : tie.Need-slice-aggregate-all-moves
 slice-aggregate-all-moves c = search needs
 
--- the word stands in the row, and a 0 after it
-word-loaded : (c : tie.After-row3)
-    → let t = c .before .before .before .before .before in
-    let r = t .before .before .before .before .read-word in
-    take (r .result .letters) (codesFrom 4224 (c .before .before .load .last .1 .0))
-    ≡ codes (t .before .before .before .before .before .before .before .before .before .args .word .now)
-word-loaded c =
-    let t = c .before .before .before .before .before in
-    let w = t .before .before .before .before .before .before .before .before .before .args .word .now in
-    let r = t .before .before .before .before .read-word .ensures in
-    loaded w r (word-accepted t) _ (c .before .before .load .last .1 .0)
-    (omega (arith, held-length w r (word-accepted t), letters-few w r (word-accepted t))) (c .before .before .load .ensures)
-
-word-ended : (c : tie.After-row3)
-    → getD (codesFrom 4224 (c .before .before .load .last .1 .0)) (c .before .before .before .before .before .before .before .before .before .read-word .result .letters) 0 ≡ 0
-word-ended c =
-    let t = c .before .before .before .before .before in
-    let w = t .before .before .before .before .before .before .before .before .before .args .word .now in
-    let r = t .before .before .before .before .read-word .ensures in
-    loaded-end w r (word-accepted t) _ (c .before .before .load .last .1 .0)
-    (omega (arith, held-length w r (word-accepted t), letters-few w r (word-accepted t))) (c .before .before .load .ensures)
-
 all-moves-requires : tie.Need-all-moves-requires
 all-moves-requires c κs =
     let t = c .before .before .before .before .before in
-    let a = t .before .before .before .before .before .before .before .before .before .args in
-    let few = letters-few (a .word .now) (t .before .before .before .before .read-word .ensures) (word-accepted t) in
-    let l = c .before .before .load .kept .1 .0 in (
-      record {
-        room = record { few = few; front = omega arith; low = omega arith; back = omega (arith, l) };
-        ended = word-ended c;
-      },
-      l,
+    let a = t .before .before .before .before .before .before .before .before .before .args in (
+      letters-few (a .word .now) (t .before .before .before .before .read-word .ensures) (word-accepted t),
+      c .before .before .unpack .kept .1 .0,
       listed (a .moves .now) (list-accepted t),
-      list-few (a .moves .now) (list-accepted t),
     )
-
--- the moves, on the word's codes
-made : (c : tie.After-all-moves)
-    → let a = c .before .before .before .before .before .before .before .before .before .before .before .before .before .before .before .args in
-    let m = c .all-moves in
-    AllMade (moved (steps (a .moves .now)) (codes (a .word .now))) (m .last .0) (m .result .answer) (m .result .from) (m .result .letters)
-made c =
-    let a = c .before .before .before .before .before .before .before .before .before .before .before .before .before .before .before .args in
-    let m = c .all-moves .ensures in
-    record {
-      leaves = leaves-as (ap (moved (steps (a .moves .now))) (word-loaded (c .before))) (m .leaves);
-      few = m .few;
-      room = m .room;
-      ended = m .ended;
-    }
 
 returns-4 : tie.Need-returns-4
 returns-4 c =
     let t = c .before .before .before .before .before .before .before .before .before in
     let a = t .before .before .before .before .before .before .before .before .before .args in
+    let l = made (c .before .before .before) in
     rewrote-whole (a .word .now) (a .moves .now)
     (wrote-refused _ _ (a .out .now) _
     (rewriter-answer (a .word .now) (a .moves .now) (a .out .now) (t .before .before .before .before .before .if1 .left) (word-accepted t)
     (list-accepted t)
-    ∙ sym (made (c .before .before .before) .leaves .answer-is)) (c .if4 .taken))
+    ∙ sym (l .answer-is)) (c .if4 .taken))
 
-add-end : tie.Need-add-end
-add-end c = search needs
+array-share-prefix-codes : tie.Need-array-share-prefix-codes
+array-share-prefix-codes c = search needs
 
-add-end-2 : tie.Need-add-end-2
-add-end-2 c = search needs
+slice-aggregate-write-word : tie.Need-slice-aggregate-write-word
+slice-aggregate-write-word c =
+    let m = c .before .before .before .before .all-moves in
+    sym (length-take-le (m .result .letters) (m .last .0) (m .ensures .letters-in))
 
-sub-write-file : tie.Need-sub-write-file
-sub-write-file c = search needs
-
-part-write-file-start : tie.Need-part-write-file-start
-part-write-file-start c = search needs
-
-part-write-file-end : tie.Need-part-write-file-end
-part-write-file-end c = search needs
-
-write-file-requires : tie.Need-write-file-requires
-write-file-requires c κs = search needs
+write-word-requires : tie.Need-write-word-requires
+write-word-requires c κs = search needs
 
 same-length : tie.Need-same-length
 same-length c = search needs
 
 returns-5 : tie.Need-returns-5
 returns-5 c =
-    let t = c .before .before .before .before .before .before .before .before .before .before .before .before .before .before .before .before in
+    let t = c .before .before .before .before .before .before .before .before .before .before .before .before .before .before in
     let a = t .before .before .before .before .before .before .before .before .before .args in
-    let m = c .before .before .before .before .before .before .before .before .before .before in
-    let f = c .before .before .write-file .ensures in
-    let g = m .all-moves .result in
-    let k : g .from + (g .letters + 1) / 2 - g .from ≡ (g .letters + 1) / 2 = omega arith in
+    let m = c .before .before .before .before .before .before .before .before in
     rewrote-whole (a .word .now) (a .moves .now)
     (rewrote (a .word .now) (a .moves .now) (a .out .now) (t .before .before .before .before .before .if1 .left) (word-accepted t) (list-accepted t)
-    (c .before .before .before .before .before .before .before .if4 .left) (made m)
-    (f .0 ∙ ap (λ (i : ℕ). 2 + length (part (g .from) i (m .all-moves .last .0))) k)
-    (f .1 ∙ ap (λ (i : ℕ). overlaid (fileOf (g .letters) (part (g .from) i (m .all-moves .last .0))) (a .out .now)) k))
+    (c .before .before .before .before .before .if4 .left) (few m) (made m) (c .before .before .write-word .ensures))
 
 pub rewrite-spec : {M : Type 1} → statement M
 rewrite-spec =
@@ -188,19 +151,16 @@ rewrite-spec =
     returns-2
     list-answer-requires
     returns-3
-    sub-load
-    part-load-start
-    part-load-end
-    slice-aggregate-load
-    load-requires
+    sub-unpack
+    part-unpack-start
+    part-unpack-end
+    slice-aggregate-unpack
+    unpack-requires
     slice-aggregate-all-moves
     all-moves-requires
     returns-4
-    add-end
-    add-end-2
-    sub-write-file
-    part-write-file-start
-    part-write-file-end
-    write-file-requires
+    array-share-prefix-codes
+    slice-aggregate-write-word
+    write-word-requires
     same-length
     returns-5)

@@ -1,6 +1,6 @@
 -- `action::letter::letter` meets its contract: the rows and the labels after the letter. Assumes nothing.
 use Prim.Native.Nat.{ℕ}
-use mathlib.Core.Path.{_≡_, sym, ap, _∙_}
+use mathlib.Core.Path.{_≡_, _∙_}
 use mathlib.Core.List.{List}
 use Rattle.action.specs.Action.{pairOf}
 use Rattle.action.proofs.CarryLaws.{column-below, letter-is}

@@ -1,5 +1,5 @@
 -- `action::letter::row` meets its contract: what the row's own entry and its product make of the row. Assumes nothing.
-use mathlib.Core.Path.{refl, sym, ap, _∙_}
+use mathlib.Core.Path.{refl, _∙_}
 use Rattle.action.specs.Layout.{entry}
 use Rattle.action.proofs.StoreLaws.{inverse-row, positive-row}
 use borrow.Author.Needs.{needs}

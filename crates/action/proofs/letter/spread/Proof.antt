@@ -1,6 +1,5 @@
 -- `action::letter::spread` meets its contract: the three stores, of which the first is made where there is a column before.
 -- Assumes nothing.
-use mathlib.Core.Path.{sym, ap, _∙_}
 use mathlib.Core.Logic.{⊎-elim}
 use Rattle.action.proofs.StoreLaws.{none-gained, one-gained, row-stored}
 use borrow.Author.Needs.{needs}

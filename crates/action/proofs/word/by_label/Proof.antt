@@ -1,8 +1,7 @@
 -- `action::word::by_label` meets its contract. The loop's invariant: the places before i are filled.
 -- Assumes nothing.
-use Prim.Native.Nat.{ℕ, _≤_, _-_}
-use mathlib.Core.Path.{_≡_, refl, ap}
-use mathlib.Core.List.{List}
+use Prim.Native.Nat.{_≤_, _-_}
+use mathlib.Core.Path.{_≡_, refl}
 use native.Mathlib.Omega.{arith}
 use Rattle.action.proofs.FillLaws.{Filled, filled-start, filled-next, filled-all}
 use Rattle.action.proofs.word.by_label.Statement.{statement}

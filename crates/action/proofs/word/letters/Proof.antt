@@ -1,15 +1,13 @@
 -- `action::word::letters` meets its contract. The loop's invariant: the letters from i on, on the pair so far, do what all do on the first pair.
 -- Assumes nothing.
-use Prim.Native.Nat.{ℕ, _+_, _*_, _-_, _≤_}
+use Prim.Native.Nat.{ℕ, _-_, _≤_}
 use mathlib.Core.Path.{_≡_, refl, sym, ap, _∙_}
-use mathlib.Core.List.{List}
 use native.Mathlib.Omega.{arith}
 use borrow.Author.Needs.{needs}
-use lib.ListN.{length, take, drop, getD}
+use lib.ListN.{length, take, drop}
 use Rattle.base.specs.Digits.{halves}
 use Rattle.field.specs.Gf32.{gf32}
-use Rattle.action.specs.declared.Pair.{Pair}
-use Rattle.action.specs.Action.{letterOn, wordOn, pairOf}
+use Rattle.action.specs.Action.{wordOn, pairOf}
 use Rattle.action.specs.Rows.{Lent}
 use Rattle.action.proofs.CarryLaws.{length-codes, code-at, code-letter, lent-next, word-step, word-end}
 use Rattle.action.proofs.word.letters.Statement.{statement}

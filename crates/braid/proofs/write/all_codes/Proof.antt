@@ -1,23 +1,22 @@
--- `braid::write::all_codes` meets its contract. The loop's invariant: every one of the first k codes is a letter.
+-- `braid::write::all_codes` meets its contract. The loop's invariant: the flag tells whether every one of the first k codes is a letter.
 -- Assumes nothing.
 use Prim.Native.Nat.{_-_, _≤_}
-use mathlib.Core.Path.{_≡_, refl, sym, ap, _∙_}
-use mathlib.Core.Bool.{true, false}
+use mathlib.Core.Path.{_≡_, refl, sym, ap, ap₂, _∙_}
+use mathlib.Core.Bool.{Bool, _&&_}
 use native.Mathlib.Omega.{arith}
-use borrow.Author.Tests.{not-true, not-false}
-use lib.ListN.{length, take, getD}
+use lib.ListN.{length, take}
 use lib.Seq.{take-all}
 use Rattle.base.specs.Lists.{every}
-use Rattle.base.proofs.ListLaws.{every-step, every-refuted}
+use Rattle.base.proofs.ListLaws.{every-more}
 use Rattle.braid.specs.Letters.{isLetter}
 use Rattle.braid.proofs.write.all_codes.Statement.{statement}
 use Rattle.braid.proofs.write.all_codes.Tie as tie
 
 abbrev Inv-loop : tie.InvT-loop
-Inv-loop codes k₀ k = (k ≤ length codes) × (every isLetter (take k codes) ≡ true)
+Inv-loop codes lettered₀ k₀ lettered k = (k ≤ length codes) × (lettered ≡ every isLetter (take k codes))
 
 abbrev μ-loop : tie.MeasureT-loop
-μ-loop codes k₀ k = length codes - k
+μ-loop codes lettered₀ k₀ lettered k = length codes - k
 
 loop-holds : tie.Need-loop-holds Inv-loop μ-loop
 unfolding every
@@ -29,13 +28,6 @@ shared-slice-read-is-letter c = omega arith
 is-letter-requires : tie.Need-is-letter-requires Inv-loop μ-loop
 is-letter-requires c κs = tt
 
-returns : tie.Need-returns Inv-loop μ-loop
-returns c =
-    let l = c .before .before .before .before in
-    let a = l .before .before .args in
-    let e : isLetter (getD (a .codes .now) (l .loop .k) 0) ≡ false = sym (c .before .is-letter .ensures) ∙ not-true _ (c .if1 .taken) in
-    sym (every-refuted isLetter (a .codes .now) (l .loop .k) (omega arith) e)
-
 add-k : tie.Need-add-k Inv-loop μ-loop
 add-k c = omega arith
 
@@ -44,16 +36,15 @@ loop-less c = omega arith
 
 loop-again : tie.Need-loop-again Inv-loop μ-loop
 loop-again c =
-    let l = c .before .before .before .before in
-    let a = l .before .before .args in
-    let e : isLetter (getD (a .codes .now) (l .loop .k) 0) ≡ true = sym (c .before .is-letter .ensures) ∙ not-false _ (c .if1 .left) in
-    (omega arith, every-step isLetter (a .codes .now) (l .loop .k) (omega arith) (l .loop .inv .1) e)
+    let l = c .before .before .before in
+    let more = every-more isLetter (l .before .before .args .codes .now) (l .loop .k) (omega arith) in
+    (omega arith, ap₂ (λ (x y : Bool). x && y) (l .loop .inv .1) (c .is-letter .ensures) ∙ sym more)
 
-returns-2 : tie.Need-returns-2 Inv-loop μ-loop
-returns-2 c =
+returns : tie.Need-returns Inv-loop μ-loop
+returns c =
     let l = c .before in
-    let a = l .before .before .args in
-    sym (l .loop .inv .1) ∙ ap (every isLetter) (take-all (l .loop .k) (a .codes .now) (omega arith))
+    let codes = l .before .before .args .codes .now in
+    l .loop .inv .1 ∙ ap (every isLetter) (take-all (l .loop .k) codes (omega arith))
 
 pub all-codes-spec : {M : Type 1} → statement M
 all-codes-spec =
@@ -64,8 +55,7 @@ all-codes-spec =
     loop-holds
     shared-slice-read-is-letter
     is-letter-requires
-    returns
     add-k
     loop-less
     loop-again
-    returns-2)
+    returns)

@@ -1,80 +1,113 @@
--- `braid::write::write_file` meets its contract. The loop's invariant: the first k bytes of the output are the file's, the others are as they were.
+-- `braid::write::write_file` meets its contract: the number of letters, the codes two by two, and a last odd one by itself.
 -- Assumes nothing.
-use Prim.Native.Nat.{ℕ, _-_, _≤_}
-use mathlib.Core.Path.{_≡_, refl, ap₂, _∙_}
-use mathlib.Core.List.{List, _++_}
+use Prim.Native.Nat.{_-_}
+use mathlib.Core.Path.{_≡_, refl, ap, _∙_}
+use mathlib.Core.Logic.{⊎-elim}
 use native.Mathlib.Omega.{arith}
-use lib.ListN.{length, take, drop, set, length-set}
-use Rattle.base.proofs.ListLaws.{overlay-step, overlay-whole}
-use Rattle.braid.specs.Words.{needed, wordFile}
-use Rattle.braid.proofs.WordLaws.{length-wordFile}
+use borrow.Author.Needs.{needs}
+use lib.ListN.{length, drop, length-take, length-drop, length-set}
+use Rattle.base.specs.Lists.{overlaid}
+use Rattle.base.proofs.ListLaws.{length-overlaid}
+use Rattle.braid.specs.Words.{wordFile}
+use Rattle.braid.proofs.WordLaws.{letters-below, length-wordFile}
+use Rattle.braid.proofs.WriteLaws.{numbered, length-numbered, length-paired, even-written, odd-written}
 use Rattle.braid.proofs.write.write_file.Statement.{statement}
 use Rattle.braid.proofs.write.write_file.Tie as tie
 
-abbrev Inv-loop : tie.InvT-loop
-Inv-loop codes out₀ n k₀ out k = (n ≡ needed (length codes)) × (k ≤ n) × (length out ≡ length out₀) × (out ≡ take k (wordFile codes) ++ drop k out₀)
+-- where the function was entered
+abbrev start : tie.After-slice-known2 → tie.Start
+start c = c .before .before .before .before .before .before
 
-abbrev μ-loop : tie.MeasureT-loop
-μ-loop codes out₀ n k₀ out k = n - k
+cast-out : tie.Need-cast-out
+cast-out c = search needs
 
-add-n : tie.Need-add-n Inv-loop μ-loop
-add-n c = omega arith
+slice-write-out : tie.Need-slice-write-out
+slice-write-out c = search needs
 
-add-n-2 : tie.Need-add-n-2 Inv-loop μ-loop
-add-n-2 c = omega arith
+cast-out-2 : tie.Need-cast-out-2
+cast-out-2 c = search needs
 
-loop-holds : tie.Need-loop-holds Inv-loop μ-loop
-loop-holds c = (refl, omega arith, refl, refl)
+slice-write-out-2 : tie.Need-slice-write-out-2
+slice-write-out-2 c = simp length-set (omega arith)
 
-file-byte-requires : tie.Need-file-byte-requires Inv-loop μ-loop
-file-byte-requires c κs =
-    let s = c .before .before .before .before in
-    (s .pre .0, s .pre .1, omega arith)
+sub-pack : tie.Need-sub-pack
+sub-pack c = simp length-set (omega arith)
 
-slice-write-out : tie.Need-slice-write-out Inv-loop μ-loop
-slice-write-out c = omega arith
+part-pack-start : tie.Need-part-pack-start
+part-pack-start c = simp length-set (omega arith)
 
-add-k : tie.Need-add-k Inv-loop μ-loop
-add-k c = omega arith
+part-pack-end : tie.Need-part-pack-end
+part-pack-end c = search needs
 
-loop-less : tie.Need-loop-less Inv-loop μ-loop
-loop-less c = omega arith
+pack-requires : tie.Need-pack-requires
+pack-requires c κs =
+    let s = c .before .before .before in
+    let file = numbered (s .args .codes .now) (s .args .out .now) in
+    let l = length-numbered (s .args .codes .now) (s .args .out .now) in
+    (s .pre .1, omega (arith, l, length-take (length file - 2) (drop 2 file), length-drop 2 file))
 
-loop-again : tie.Need-loop-again Inv-loop μ-loop
-loop-again c =
-    let l = c .before .before .loop in
-    let a = c .before .before .before .before .before .args in
-    let f = wordFile (a .codes .now) in (
-      refl,
-      omega arith,
-      simp length-set (l .inv .2),
-      ap₂ (λ (o : List ℕ) (b : ℕ). set o (l .k) b) (l .inv .3) (c .file-byte .ensures)
-          ∙ overlay-step f (a .out .now) (l .k) (omega (arith, length-wordFile (a .codes .now))) (omega arith),
-    )
+sub-out : tie.Need-sub-out
+sub-out c = search needs
 
-same-length : tie.Need-same-length Inv-loop μ-loop
-same-length c = c .before .loop .inv .2
+shared-slice-read-out : tie.Need-shared-slice-read-out
+shared-slice-read-out c = search needs
 
-returns : tie.Need-returns Inv-loop μ-loop
-returns c =
-    let l = c .before .loop in
-    let a = c .before .before .before .before .args in
-    let e : l .k ≡ length (wordFile (a .codes .now)) = omega (arith, length-wordFile (a .codes .now)) in
-    (refl, l .inv .3 ∙ overlay-whole (wordFile (a .codes .now)) (a .out .now) (l .k) e)
+mul-out : tie.Need-mul-out
+mul-out c =
+    let s = start (c .before .before) in
+    omega (arith, letters-below (s .args .codes .now) (s .pre .1) (length (s .args .codes .now) - 1))
+
+add-out : tie.Need-add-out
+add-out c = search needs
+
+slice-write-out-3 : tie.Need-slice-write-out-3
+slice-write-out-3 c =
+    let p = c .before .before .before .before .pack in
+    let s = start (c .before .before) in
+    omega (arith, length-paired (s .args .codes .now) (s .args .out .now) (s .pre .0) (s .pre .2) (p .last .1 .0) (p .ensures))
+
+add-result : tie.Need-add-result
+add-result c = search needs
+
+add-result-2 : tie.Need-add-result-2
+add-result-2 c = search needs
+
+-- the output holds the file
+written : (c : tie.Joined1) → c .if1 .out ≡ overlaid (wordFile (start (c .before) .args .codes .now)) (start (c .before) .args .out .now)
+written c =
+    let p = c .before .before .before .pack in
+    let s = start (c .before) in
+    ⊎-elim (λ w. w .2 ∙ odd-written (s .args .codes .now) (s .args .out .now) (s .pre .0) (s .pre .2) (p .last .1 .0) (p .ensures) (w .0 .taken))
+    (λ w. w .1 ∙ even-written (s .args .codes .now) (s .args .out .now) (s .pre .0) (s .pre .2) (p .last .1 .0) (p .ensures) (w .0 .left))
+    (c .if1 .came)
+
+same-length : tie.Need-same-length
+same-length c =
+    let s = start (c .before) in
+    let codes = s .args .codes .now in
+    ap length (written c) ∙ length-overlaid (wordFile codes) (s .args .out .now) (omega (arith, length-wordFile codes))
+
+returns : tie.Need-returns
+returns c = (refl, written c)
 
 pub write-file-spec : {M : Type 1} → statement M
 write-file-spec =
     tie.close
     (tie.spec
-    Inv-loop
-    μ-loop
-    add-n
-    add-n-2
-    loop-holds
-    file-byte-requires
+    cast-out
     slice-write-out
-    add-k
-    loop-less
-    loop-again
+    cast-out-2
+    slice-write-out-2
+    sub-pack
+    part-pack-start
+    part-pack-end
+    pack-requires
+    sub-out
+    shared-slice-read-out
+    mul-out
+    add-out
+    slice-write-out-3
+    add-result
+    add-result-2
     same-length
     returns)

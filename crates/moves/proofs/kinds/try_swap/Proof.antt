@@ -1,10 +1,10 @@
--- `moves::kinds::try_swap` meets its contract: a refusal for each question, and two codes put in each other's place.
+-- `moves::kinds::try_swap` meets its contract: a refusal for each question, and two stores.
 -- Assumes nothing.
-use mathlib.Core.Path.{sym, _∙_}
+use mathlib.Core.Path.{refl, sym, _∙_}
+use native.Mathlib.Omega.{arith}
 use borrow.Author.Tests.{not-true, not-false}
-use Rattle.moves.specs.Leaving.{codesFrom}
-use Rattle.moves.proofs.CodeKinds.{exchange-22}
-use Rattle.moves.proofs.MadeLaws.{within, made-refused, exchange-made-23, exchange-made}
+use lib.ListN.{length-set}
+use Rattle.moves.proofs.CodeKinds.{exchange-22, exchange-23, exchange-done}
 use borrow.Author.Needs.{needs}
 use Rattle.moves.proofs.kinds.try_swap.Statement.{statement}
 use Rattle.moves.proofs.kinds.try_swap.Tie as tie
@@ -15,65 +15,43 @@ add-if1 c = search needs
 returns : tie.Need-returns
 returns c =
     let s = c .before .before in
-    let a = s .args in
-    let held = s .pre .0 in
-    made-refused (a .from) (a .n) (a .place) (a .row .now) held
-    (exchange-22 (codesFrom (a .from) (a .row .now)) (a .n) (a .place) (within (a .from) (a .n) (a .place) (a .row .now) held) (c .if1 .taken))
+    exchange-22 (s .args .codes .now) (s .args .n) (s .args .place) (s .pre) (c .if1 .taken)
 
-mul-at : tie.Need-mul-at
-mul-at c = search needs
+slice-read-c : tie.Need-slice-read-c
+slice-read-c c = search needs
 
-add-at : tie.Need-add-at
-add-at c = search needs
+add-d : tie.Need-add-d
+add-d c = search needs
 
-code-requires : tie.Need-code-requires
-code-requires c κs = search needs
-
-add-code : tie.Need-add-code
-add-code c = search needs
-
-code-requires-2 : tie.Need-code-requires-2
-code-requires-2 c κs = search needs
+slice-read-d : tie.Need-slice-read-d
+slice-read-d c = search needs
 
 are-far-requires : tie.Need-are-far-requires
 are-far-requires c κs = search needs
 
+returns-2 : tie.Need-returns-2
+returns-2 c =
+    let s = c .before .before .before .before .before .before in
+    exchange-23 (s .args .codes .now) (s .args .n) (s .args .place) (s .pre) (c .before .before .before .before .if1 .left)
+    (sym (c .before .are-far .ensures) ∙ not-true _ (c .if2 .taken))
+
+slice-write-codes : tie.Need-slice-write-codes
+slice-write-codes c = search needs
+
+add-codes : tie.Need-add-codes
+add-codes c = search needs
+
+slice-write-codes-2 : tie.Need-slice-write-codes-2
+slice-write-codes-2 c = simp length-set (omega arith)
+
 same-length : tie.Need-same-length
 same-length c = search needs
 
-returns-2 : tie.Need-returns-2
-returns-2 c =
-    let first = c .before .before .before .before .code in
-    let second = c .before .before .code2 in
-    let s = c .before .before .before .before .before .before .before .before in
-    let a = s .args in
-    exchange-made-23 (a .from) (a .n) (a .place) (a .row .now) (s .pre .0) (first .result) (second .result) (first .ensures .0) (second .ensures .0)
-    (c .before .before .before .before .before .before .if1 .left) (sym (c .before .are-far .ensures) ∙ not-true _ (c .if2 .taken))
-
-put-code-requires : tie.Need-put-code-requires
-put-code-requires c κs = search needs
-
-add-put-code : tie.Need-add-put-code
-add-put-code c = search needs
-
-put-code-requires-2 : tie.Need-put-code-requires-2
-put-code-requires-2 c κs = search needs
-
-same-length-2 : tie.Need-same-length-2
-same-length-2 c = search needs
-
 returns-3 : tie.Need-returns-3
 returns-3 c =
-    let put = c .before .before .before .before .before .before .put-code in
-    let put′ = c .before .before .put-code2 in
-    let t = c .before .before .before .before .before .before .before .before in
-    let first = c .before .before .before .before .before .before .before .before .before .before .before .before .code in
-    let second = c .before .before .before .before .before .before .before .before .before .before .code2 in
-    let s = c .before .before .before .before .before .before .before .before .before .before .before .before .before .before .before .before in
-    let a = s .args in
-    exchange-made (a .from) (a .n) (a .place) (a .row .now) (s .pre .0) (first .result) (second .result) (first .ensures .0) (second .ensures .0)
-    (put .last .0) (put′ .last .0) (put .ensures) (put′ .ensures) (c .before .before .before .before .before .before .before .before .before .before .before .before .before .before .if1 .left)
-    (sym (t .before .are-far .ensures) ∙ not-false _ (t .if2 .left))
+    let s = c .before .before .before .before .before .before in
+    exchange-done (s .args .codes .now) (s .args .n) (s .args .place) (s .pre) (simp length-set) (c .before .before .before .before .if1 .left)
+    (sym (c .before .are-far .ensures) ∙ not-false _ (c .if2 .left)) refl
 
 pub try-swap-spec : {M : Type 1} → statement M
 try-swap-spec =
@@ -81,16 +59,13 @@ try-swap-spec =
     (tie.spec
     add-if1
     returns
-    mul-at
-    add-at
-    code-requires
-    add-code
-    code-requires-2
+    slice-read-c
+    add-d
+    slice-read-d
     are-far-requires
-    same-length
     returns-2
-    put-code-requires
-    add-put-code
-    put-code-requires-2
-    same-length-2
+    slice-write-codes
+    add-codes
+    slice-write-codes-2
+    same-length
     returns-3)

@@ -4,8 +4,8 @@ use Prim.Native.Nat.{ℕ, _+_, _*_}
 use mathlib.Core.Path.{sym, ap₂}
 use lib.ListN.{take, getD}
 use Rattle.moves.specs.Kinds.{move}
-use Rattle.moves.specs.Leaving.{codesFrom}
-use Rattle.moves.proofs.MadeLaws.{made-as}
+use Rattle.moves.specs.Rewriting.{stepAt}
+use Rattle.moves.proofs.CodeKinds.{makes-as}
 use borrow.Author.Needs.{needs}
 use Rattle.moves.proofs.list.move_at.Statement.{statement}
 use Rattle.moves.proofs.list.move_at.Tie as tie
@@ -46,8 +46,9 @@ returns c =
     let place = c .before .before .before .before .before .two2 in
     let a = c .before .before .before .before .before .before .before .before .before .args in
     let m = a .moves .now in
-    made-as (a .from) (a .n) (a .row .now)
-    (ap₂ (λ (j p : ℕ). move (getD m (2 + 2 * j + a .k) 0) p (take (a .n) (codesFrom (a .from) (a .row .now)))) (sym (count .ensures .0)) (sym (place .ensures .0)))
+    makes-as (move (stepAt m (a .k) .kind) (stepAt m (a .k) .place)) (a .codes .now) (a .n)
+    (move (getD m (2 + 2 * count .result + a .k) 0) (place .result))
+    (ap₂ (λ (j p : ℕ). move (getD m (2 + 2 * j + a .k) 0) p (take (a .n) (a .codes .now))) (sym (count .ensures .0)) (sym (place .ensures .0)))
     (c .before .before .one-move .ensures)
 
 pub move-at-spec : {M : Type 1} → statement M

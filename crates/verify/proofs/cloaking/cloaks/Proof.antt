@@ -5,6 +5,7 @@ use borrow.Author.Tests.{not-true, not-false, eqb-true}
 use lib.ListN.{length}
 use Rattle.base.proofs.ListLaws.{and-left}
 use Rattle.base.proofs.QuestionLaws.{granted-zero}
+use Rattle.field.specs.Gf32.{gf32}
 use Rattle.braid.specs.Words.{codes, wordAnswer}
 use Rattle.key.specs.declared.Key.{Key}
 use Rattle.key.specs.Keys.{keyAnswer}
@@ -70,7 +71,7 @@ returns-4 c =
     let a = k .before .before .before .before .args in
     let key-is = k .read-key .ensures .key-is ∙ granted-zero _ _ (key-passed (l .before .before)) in
     answered (a .key .now) (a .labels .now) (a .word .now) (key-passed (l .before .before)) (list-passed l) (word-passed e)
-    (c .comes-back .ensures ∙ ap (λ (q : Key). comesBack (q .«t_values») (a .labels .now) (codes (a .word .now))) key-is)
+    (c .comes-back .ensures ∙ ap (λ (q : Key). comesBack gf32 (q .«t_values») (a .labels .now) (codes (a .word .now))) key-is)
 
 pub cloaks-spec : {M : Type 1} → statement M
 cloaks-spec =

@@ -1,6 +1,7 @@
 -- `verify::comes_back` meets its contract: the two comparisons are those of the pair that comes back. Assumes nothing.
 use mathlib.Core.Path.{sym, _∙_}
 use borrow.Author.Tests.{not-true, not-false}
+use Rattle.field.specs.Gf32.{gf32}
 use Rattle.braid.specs.Words.{codes}
 use Rattle.verify.proofs.CloakLaws.{not-back, back}
 use borrow.Author.Needs.{needs}
@@ -32,7 +33,7 @@ returns c =
     let g = k .before in
     let t = g .before .before in
     let a = t .before .before .before .args in
-    not-back (a .t-values .now) (a .labels .now) (codes (a .word .now)) (g .eight .result) (t .start .result) (k .carried .result) (t .start .ensures) (g .eight .ensures)
+    not-back gf32 (a .t-values .now) (a .labels .now) (codes (a .word .now)) (g .eight .result) (t .start .result) (k .carried .result) (t .start .ensures) (g .eight .ensures)
     (k .carried .ensures) (sym (e .equal .ensures) ∙ not-true _ (c .if1 .taken))
 
 slice-aggregate-equal-3 : tie.Need-slice-aggregate-equal-3
@@ -48,7 +49,7 @@ returns-2 c =
     let g = k .before in
     let t = g .before .before in
     let a = t .before .before .before .args in
-    back (a .t-values .now) (a .labels .now) (codes (a .word .now)) (g .eight .result) (t .start .result) (k .carried .result) (t .start .ensures) (g .eight .ensures)
+    back gf32 (a .t-values .now) (a .labels .now) (codes (a .word .now)) (g .eight .result) (t .start .result) (k .carried .result) (t .start .ensures) (g .eight .ensures)
     (k .carried .ensures) (sym (e .equal .ensures) ∙ not-false _ (c .before .before .if1 .left)) (c .equal2 .ensures)
 
 pub comes-back-spec : {M : Type 1} → statement M

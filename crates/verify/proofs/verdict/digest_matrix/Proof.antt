@@ -1,9 +1,9 @@
 -- `verify::digest_matrix` meets its contract: the encoder's file is an accepted word with the digest's braid as its codes. Assumes nothing.
 use Prim.Native.Nat.{ℕ, _≤_, _<_}
-use mathlib.Core.Path.{_≡_, refl, sym, ap, ap₂, _∙_}
+use mathlib.Core.Path.{_≡_, sym, ap, ap₂, _∙_}
 use mathlib.Core.List.{List}
 use native.Mathlib.Omega.{arith}
-use lib.ListN.{length, take, getD}
+use lib.ListN.{take, getD}
 use lib.Seq.{length-take-le}
 use Rattle.field.specs.Gf32.{gf32}
 use Rattle.braid.specs.Words.{wordAnswer, codes}

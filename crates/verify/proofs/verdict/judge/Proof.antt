@@ -1,6 +1,7 @@
 -- `verify::judge` meets its contract: the two matrices that it compares are the two sides of the verdict. Assumes nothing.
 use mathlib.Core.Path.{sym, ap, _∙_}
 use mathlib.Core.Bool.{Bool, cond}
+use Rattle.field.specs.Gf32.{gf32}
 use Rattle.braid.specs.Words.{codes}
 use Rattle.verify.proofs.VerdictLaws.{signed-is, sides}
 use borrow.Author.Needs.{needs}
@@ -32,8 +33,8 @@ returns c =
     let f = x .before .before .before in
     let k = f .before .before .before in
     let a = k .before .before .before .before .before .before .before .args in
-    let both = sides (a .held) (codes (a .word .now)) (a .digest .now) (k .carried .result .matrix) (f .digest-matrix .result) (x .matrix-product .result)
-    (signed-is (a .held) (codes (a .word .now)) (k .carried .result) (k .carried .ensures)) (f .digest-matrix .ensures) (x .matrix-product .ensures) in
+    let both = sides gf32 (a .held) (codes (a .word .now)) (a .digest .now) (k .carried .result .matrix) (f .digest-matrix .result) (x .matrix-product .result)
+    (signed-is gf32 (a .held) (codes (a .word .now)) (k .carried .result) (k .carried .ensures)) (f .digest-matrix .ensures) (x .matrix-product .ensures) in
     ap (λ (b : Bool). cond b 0 14) (sym (c .if1 .taken) ∙ e .equal .ensures ∙ both)
 
 returns-2 : tie.Need-returns-2
@@ -43,8 +44,8 @@ returns-2 c =
     let f = x .before .before .before in
     let k = f .before .before .before in
     let a = k .before .before .before .before .before .before .before .args in
-    let both = sides (a .held) (codes (a .word .now)) (a .digest .now) (k .carried .result .matrix) (f .digest-matrix .result) (x .matrix-product .result)
-    (signed-is (a .held) (codes (a .word .now)) (k .carried .result) (k .carried .ensures)) (f .digest-matrix .ensures) (x .matrix-product .ensures) in
+    let both = sides gf32 (a .held) (codes (a .word .now)) (a .digest .now) (k .carried .result .matrix) (f .digest-matrix .result) (x .matrix-product .result)
+    (signed-is gf32 (a .held) (codes (a .word .now)) (k .carried .result) (k .carried .ensures)) (f .digest-matrix .ensures) (x .matrix-product .ensures) in
     ap (λ (b : Bool). cond b 0 14) (sym (c .if1 .left) ∙ e .equal .ensures ∙ both)
 
 pub judge-spec : {M : Type 1} → statement M

@@ -3,6 +3,7 @@ use mathlib.Core.Path.{_≡_, sym, ap, _∙_}
 use mathlib.Core.Bool.{cond}
 use Rattle.base.specs.Lists.{same}
 use Rattle.base.proofs.QuestionLaws.{granted-zero}
+use Rattle.field.specs.Gf32.{gf32}
 use Rattle.braid.specs.Words.{codes, wordAnswer}
 use Rattle.key.specs.declared.Key.{Key}
 use Rattle.key.specs.Keys.{keyAnswer}
@@ -59,7 +60,7 @@ returns-4 c =
     let a = k .before .before .before .before .args in
     let key-is = k .read-key .ensures .key-is ∙ granted-zero _ _ (key-passed (d .before)) in
     c .judge .ensures
-    ∙ ap (λ (q : Key). cond (same (signed q (codes (a .word .now))) (target q (a .digest .now))) 0 14) key-is
+    ∙ ap (λ (q : Key). cond (same (signed gf32 q (codes (a .word .now))) (target gf32 q (a .digest .now))) 0 14) key-is
     ∙ sym (judged (a .key .now) (a .digest .now) (a .word .now) (key-passed (d .before)) (d .if2 .left) (word-passed w))
 
 pub verify-spec : {M : Type 1} → statement M

@@ -1,6 +1,6 @@
 -- `verify::carried` meets its contract: the codes of an accepted file stand after its two length bytes, and are letters. Assumes nothing.
 use Prim.Native.Nat.{ℕ}
-use mathlib.Core.Path.{_≡_, ap, _∙_}
+use mathlib.Core.Path.{ap, _∙_}
 use mathlib.Core.List.{List}
 use Rattle.field.specs.Gf32.{gf32}
 use Rattle.braid.specs.Words.{codes}
