@@ -13,8 +13,8 @@
  *    5  the first two T-values are not 1          18  the move list has fewer than 2 bytes
  *    6  the list is not 0 to 7, each once         19  the move list states more than 4,096 moves
  *    7  filler bits of the key are not zero       20  the move list's length is not what its number needs
- *    8  the digest is not 32 bytes                21  a move's kind is none
- *    9  the word has fewer than 2 bytes           22  the letters that a move needs do not exist
+ *    8  the digest is not 32 bytes                21  a move's kind is none of 1, 2, 3, 16 to 22, 24 to 30
+ *    9  the word has fewer than 2 bytes           22  a move's letters do not exist, or an insertion's place is past the end
  *   10  more than 10,000 letters                  23  the letters at a move's place have not its shape
  *   11  the word's length is not what it needs    24  an insertion would leave more than 10,000 letters
  *   12  a code is no letter                       25  the labels are not 8 bytes, 0 to 7 each once

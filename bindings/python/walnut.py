@@ -1,7 +1,7 @@
 """Braid words, keys, E-multiplication and verdicts for WalnutDSA at strength 128, over the proved library walnut.
 
 Every function takes any bytes. It gives its value, or raises Refusal with the number of the first question that the input fails; the verdict
-alone gives its number.
+alone gives its number. A number that is no byte, or a fixed array of another length, is no input of the library's: it raises ValueError.
 The shared library libwalnut.so is looked for in the folder that the environment variable WALNUT_LIB_DIR names, else beside this file.
 """
 
@@ -34,8 +34,8 @@ TEXTS = (
     "the move list has fewer than 2 bytes",
     "the move list states more than 4,096 moves",
     "the move list's length is not what its number needs",
-    "a move's kind is none",
-    "the letters that a move needs do not exist",
+    "a move's kind is none of 1, 2, 3, 16 to 22, 24 to 30",
+    "a move's letters do not exist, or an insertion's place is past the end",
     "the letters at a move's place have not its shape",
     "an insertion would leave more than 10,000 letters",
     "the labels are not 8 bytes, 0 to 7 each once",
@@ -112,9 +112,14 @@ def _granted(answer, value=None):
     return value
 
 
+def _bytes(data):
+    """Bytes, or numbers that are bytes, one after another; a number alone is none."""
+    return bytes(iter(data))
+
+
 def _fixed(data, length, name):
     """Bytes that the library takes as a fixed array."""
-    data = bytes(data)
+    data = _bytes(data)
     if len(data) != length:
         raise ValueError(f"{name}: {length} numbers are needed, not {len(data)}")
     return data
@@ -131,7 +136,7 @@ def _slices(*parts):
     """Each part's bytes and their number, one after another."""
     passed = []
     for part in parts:
-        part = bytes(part)
+        part = _bytes(part)
         passed += [part, len(part)]
     return passed
 

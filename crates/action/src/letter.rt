@@ -1,4 +1,5 @@
 // One letter multiplied into a pair, in place.
+use crate::Pair;
 ghost use mathlib.Core.Path.{_≡_};
 ghost use Prim.Native.Nat.{_+_, _*_, _<_};
 ghost use mathlib.Core.Bool.{true, cond};
@@ -52,7 +53,7 @@ fn rows(m: &mut [u8; 64], table: &[u8; 1024], k: u8, inverse: bool, g: usize)
     ensures { λ _. ⌜ now (m .exit) ≡ rowsOn gf32 (shareBy gf32 inverse k) g (now (m .entry)) ⌝ }
 {
     let mut r = 0;
-    while r < 8 {
+    while r < Pair::STRANDS {
         row(m, table, k, inverse, g, r);
         r += 1;
     }

@@ -29,8 +29,10 @@ pub struct Multiplied {
 }
 
 impl Pair {
+    // The strands: rows and columns of the matrix, and labels of the list.
     pub const STRANDS: usize = 8;
 
+    // The most letters of a word that is multiplied into a pair as a file.
     pub const LETTERS: usize = braid::MAX_LETTERS;
 
     // The starting pair: the identity matrix with the list 0 to 7.

@@ -1,4 +1,5 @@
 // The product of two matrices.
+use crate::Pair;
 use crate::letter::times;
 ghost use mathlib.Core.Path.{_≡_};
 ghost use Prim.Native.Nat.{_<_};
@@ -13,7 +14,7 @@ fn dot(table: &[u8; 1024], a: &[u8; 64], b: &[u8; 64], row: usize, column: usize
 {
     let mut total: u8 = 0;
     let mut k = 0;
-    while k < 8 {
+    while k < Pair::STRANDS {
         total = total ^ times(table, a[8 * row + k], b[8 * k + column]);
         k += 1;
     }

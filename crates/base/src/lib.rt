@@ -1,4 +1,4 @@
-// Copying bytes to the front of an output: the last step of every writer.
+// Bytes copied to the front of an output, and two rows of bytes compared.
 ghost use mathlib.Core.Path.{_≡_};
 ghost use lib.ListN.{length, take};
 ghost use Rattle.base.specs.Lists.{overlaid, same};

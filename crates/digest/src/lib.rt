@@ -75,7 +75,7 @@ fn encode_into(digest: &[u8], codes: &mut [u8]) -> usize
 pub fn encode(digest: &[u8], out: &mut [u8]) -> Written
     ensures { λ r. ⌜ Wrote (encoderQuestions (length (now (out .entry))) (now (digest .entry))) (wordFile (encoded (now (digest .entry)))) (now (out .entry)) (now (out .exit)) (r .answer) (r .bytes) ⌝ }
 {
-    if out.len() < 5002 {
+    if out.len() < braid::MAX_BYTES {
         return Written {
             answer: 15,
             bytes: 0,

@@ -11,8 +11,7 @@ pub record Operations : Type 0 where
   pub mul : ℕ → ℕ → ℕ
   pub inv : ℕ → ℕ
 
--- the laws of a binary field, for any size and operations. Those with no bound hold of every number, an element or not: the operations take a
--- number that is none for an element
+-- the laws of a binary field, for any size and operations. Those with no bound hold of every number, an element or not
 pub record BinaryField (F : Operations) : Type 0 where
   pub zero-below : 0 < F .size
   pub one-below : 1 < F .size

@@ -1,5 +1,5 @@
-// Two letters taken out of a word, and two put in. The word is the first n codes of a row, and what stands after the place moves by two: plain loops over
-// a part that is lent for it, from the part's own first code on, which the compiler makes into one move of many bytes.
+// Two letters taken out of a word, and two put in. The word is the first n codes of a row, and what stands after the place moves by two, in plain loops
+// over a part of the row that is lent to them, so that its places count from 0.
 ghost use Prim.Native.Nat.{_+_, _-_, _≤_};
 ghost use mathlib.Core.Path.{_≡_};
 ghost use mathlib.Core.List.{_∷_, _++_};

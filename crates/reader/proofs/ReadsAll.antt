@@ -14,6 +14,7 @@ use lib.Seq.{drop-cons}
 use denote.Ref.{RefT, now}
 use Rattle.braid.specs.Words.{codes, letters, LetterAt}
 use Rattle.braid.specs.declared.Letter.{Letter}
+use Rattle.braid.proofs.RoundTrip.{letters-few}
 use Rattle.reader.specs.Reader.{opened, readAt, nextPlace, placeAfter, readFrom, Moves}
 use Rattle.reader.specs.declared.WordReader.{WordReader}
 use Rattle.reader.proofs.CodeLaws.{codes-opened}
@@ -90,6 +91,13 @@ module _ (file : List ℕ) where
   -- the reader's place after k moves
   pub place-after : (k : ℕ) → placeAfter (opened file) k ≡ min k (length (letters file))
   place-after k = place-is (opened file) k ∙ ap (min k) count-is
+
+  -- more moves than a word may have letters reach no further
+  pub place-capped : (k m : ℕ) {word : List ℕ} → word ≡ opened file → m ≡ min k 10000 → placeAfter word m ≡ placeAfter word k
+  place-capped k m {word} w e =
+      let few : length (codes word) ≤ 10000 = omega (arith, ap (λ (f : List ℕ). length (codes f)) w, count-is, letters-few file) in
+      let same : min m (length (codes word)) ≡ min k (length (codes word)) = omega arith in
+      place-is word m ∙ same ∙ sym (place-is word k)
 
   -- the letter there
   letter-at : (k p : ℕ) → p ≡ min k (length (codes (opened file))) → {t : Letter} → t ≡ readAt (opened file) p → LetterAt file k (t .left) (t .code)

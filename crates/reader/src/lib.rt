@@ -10,8 +10,8 @@ ghost use Rattle.reader.specs.Reader.{opened, readAt, nextPlace};
 
 // The file is an accepted word file, or the empty part of a refused one, which has no letters.
 pub struct WordReader<'a> {
-    pub file: &'a [u8],
-    pub at: usize,
+    pub(crate) file: &'a [u8],
+    pub(crate) at: usize,
 }
 
 // The number of letters that a file states in its first two bytes.
@@ -38,7 +38,7 @@ fn count(file: &[u8]) -> usize
 }
 
 // The file itself if it is accepted as a word; its empty part if not.
-pub fn kept(file: &[u8]) -> &[u8]
+fn kept(file: &[u8]) -> &[u8]
     ensures { λ r. ⌜ now r ≡ opened (now (file .entry)) ⌝ }
 {
     let w = braid::read_word(file);
@@ -49,7 +49,7 @@ pub fn kept(file: &[u8]) -> &[u8]
 }
 
 // The letter at a place of a file, which is not tested again.
-pub fn letter_of(file: &[u8], at: usize) -> Letter
+fn letter_of(file: &[u8], at: usize) -> Letter
     ensures { λ r. ⌜ r ≡ readAt (now (file .entry)) at ⌝ }
 {
     let n = count(file);
@@ -65,7 +65,7 @@ pub fn letter_of(file: &[u8], at: usize) -> Letter
 }
 
 // The place after a place: past the last letter it stays.
-pub fn next_place(file: &[u8], at: usize) -> usize
+fn next_place(file: &[u8], at: usize) -> usize
     ensures { λ r. ⌜ r ≡ nextPlace (now (file .entry)) at ⌝ }
 {
     let n = count(file);
@@ -104,14 +104,19 @@ pub fn second(file: &[u8]) -> Letter
     next(moved_on(open(file)))
 }
 
-// The letter that stands k moves after the first one.
+// The letter that stands k moves after the first one. A word has at most 10,000 letters, and past the last a reader stays, so more moves are not made.
 pub fn nth(file: &[u8], k: usize) -> Letter
     ensures { λ t. ⌜ LetterAt (now (file .entry)) k (t .left) (t .code) ⌝ }
 {
     let word = kept(file);
+    let moves = if k < braid::MAX_LETTERS {
+        k
+    } else {
+        braid::MAX_LETTERS
+    };
     let mut at = 0;
     let mut i = 0;
-    while i < k {
+    while i < moves {
         at = next_place(word, at);
         i += 1;
     }

@@ -56,7 +56,7 @@ pub(crate) fn letters() {
     letter(b"letter at 0 of a refused word", b"\x00\x02\x07", 0);
 }
 
-// Through the reader that keeps the file and the next letter's place: the letter after k moves.
+// The letter after k moves of a reader of words, by the functions that the reader's own are made of.
 fn read_on(name: &[u8], file: &[u8], k: usize) {
     let found = reader::nth(file, k);
     let code = [found.code];

@@ -1,5 +1,5 @@
 // The papers' worked examples, run over the library: a line for each, with the answer in decimal and the bytes beside it in hexadecimal. What this
-// program must write, the file stdout, is typed from the papers.
+// program must write, the file stdout, is typed from the papers or follows from them.
 mod fields; // fields.rt: products and reciprocals
 mod files; // files.rt: words, free reduction and the digest
 mod keys; // keys.rt: key files and cloaking

@@ -31,7 +31,16 @@ fn from_start(name: &[u8], codes: &[u8]) {
     show::pair(name, last.answer, pair);
 }
 
+// The limits that the pair's type states.
+fn limits() {
+    io::write_all(1, b"strands and letters:");
+    show::number(Pair::STRANDS);
+    show::number(Pair::LETTERS);
+    show::end();
+}
+
 pub(crate) fn letters() {
+    limits();
     from_start(b"starting pair", b"");
     from_start(b"b3", b"\x02");
     from_start(b"b3 inverse", b"\x0A");

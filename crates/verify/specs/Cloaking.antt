@@ -20,7 +20,7 @@ use Rattle.key.specs.Keys.{keyQuestions, keyOf}
 unfoldable pub samePair : Pair → Pair → Bool
 samePair p q = same (p .matrix) (q .matrix) && same (p .labels) (q .labels)
 
--- over a field, the word comes back to the pair that it started from
+-- over a field, the identity matrix with the list comes back from the word unchanged, list included
 unfoldable pub comesBack : Operations → List ℕ → List ℕ → List ℕ → Bool
 comesBack F ts order w = samePair (wordOn F ts w (identityWith order)) (identityWith order)
 

@@ -1,5 +1,5 @@
--- The verdict: a slip is accepted if and only if the matrix reached from Pub(S) by its word equals the matrix reached from the identity by the
--- encoded digest, times the matrix of Pub(S'), over GF(32). Lists are not compared. Assumes nothing.
+-- The verdict: a slip whose key, digest and word pass their questions is accepted if and only if the matrix reached from Pub(S) by its word equals the
+-- matrix reached from the identity by the encoded digest, times the matrix of Pub(S'), over GF(32). Lists are not compared. Assumes nothing.
 use Prim.Native.Nat.{ℕ}
 use mathlib.Core.List.{List, [], _∷_, _++_}
 use Rattle.base.specs.Questions.{Question, _else_, firstNo}

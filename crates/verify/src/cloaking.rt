@@ -21,7 +21,7 @@ pub struct Cloak {
 fn is_list(labels: &[u8]) -> bool
     ensures { λ r. ⌜ r ≡ (eqb (length (now (labels .entry))) 8 && isOrder (now (labels .entry))) ⌝ }
 {
-    if labels.len() != 8 {
+    if labels.len() != Pair::STRANDS {
         return false;
     }
     action::is_order(labels)

@@ -17,7 +17,7 @@ fn digest_matrix(t_values: &[u8; 8], digest: &[u8]) -> [u8; 64]
     requires { ⌜ length (now digest) ≡ 32 ⌝ }
     ensures { λ r. ⌜ r ≡ wordOn gf32 (now («t_values» .entry)) (encoded (now (digest .entry))) start .matrix ⌝ }
 {
-    let mut file = [0u8; 5002];
+    let mut file = [0u8; braid::MAX_BYTES];
     let written = digest::encode(digest, &mut file);
     let bytes = written.bytes;
     let word = &file[..bytes];

@@ -1,4 +1,4 @@
-// The exported functions: thin, one for each operation, with the contract of the function that they pass on. include/walnut.h states them in C.
+// The exported functions: thin, one for each operation of include/walnut.h, with the contract of the function that they pass on. The header states them in C.
 // Slices pass as a pointer and a length, fixed arrays as a pointer, structs by value in C's layout.
 ghost use mathlib.Core.Path.{_≡_};
 ghost use lib.ListN.{length};
