@@ -26,7 +26,7 @@ generator-below c e = ⊎-elim (λ p. omega arith) (λ p. omega arith) (letter-c
 pub opposite-generator : (c : ℕ) → isLetter c ≡ true → generator (opposite c) ≡ generator c
 opposite-generator c e =
     ⊎-elim (λ p. ap generator (opposite-low c (omega arith)) ∙ up (omega arith))
-    (λ p. ap generator (opposite-high c (p .0)) ∙ down (p .0))
+    (λ p. ap generator (opposite-high c (p .0) (omega arith)) ∙ down (p .0))
     (letter-cases c e)
   where
     up : c ≤ 6 → (c + 8) % 8 ≡ c % 8
@@ -46,7 +46,7 @@ opposite-sign c e =
     ⊎-elim
     (λ p. ap isInverse (opposite-low c (omega arith)) ∙ inverse-high (c + 8) (omega arith) (omega arith)
     ∙ sym (ap not (inverse-low c (omega arith))))
-    (λ p. ap isInverse (opposite-high c (p .0)) ∙ inverse-low (c - 8) (omega arith)
+    (λ p. ap isInverse (opposite-high c (p .0) (omega arith)) ∙ inverse-low (c - 8) (omega arith)
     ∙ sym (ap not (inverse-high c (p .0) (p .1))))
     (letter-cases c e)
 

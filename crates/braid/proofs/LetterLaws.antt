@@ -7,7 +7,7 @@ use mathlib.Core.Bool.{Bool, true, false, cond, not, _&&_, _||_, Bool·beq}
 use mathlib.Core.List.{List, _∷_}
 use mathlib.Core.Logic.{_⊎_, inl, inr, ⊎-elim}
 use native.Mathlib.Omega.{arith}
-use borrow.Author.Tests.{leb-true, le-leb, lt-leb}
+use borrow.Author.Tests.{leb-true, le-leb, lt-leb, eqb-true}
 use lib.Dec.{leb, eqb}
 use Rattle.base.specs.Lists.{every, valuesFrom, values}
 use Rattle.base.proofs.ListLaws.{and-left, and-right, and-both, beq-true, every-values}
@@ -50,18 +50,28 @@ byte-letters b p =
     ap₂ (λ (x y : Bool). x && y) (half-letter (b / 16) (omega arith))
     (ap (λ (r : ℕ). not (eqb r 7)) low ∙ half-letter (b % 16) (omega arith))
 
--- the high bit turned
-pub opposite-low : (c : ℕ) → c < 8 → opposite c ≡ c + 8
-opposite-low c h = ap (λ (b : Bool). cond b (c - 8) (c + 8)) (lt-leb 8 c h)
+-- the high bit of a half byte turned, as a sum and as a difference: one test over the sixteen
+abbrev oppositeRule : ℕ → Bool
+oppositeRule c = eqb (opposite c) (cond (leb 8 c) (c - 8) (c + 8))
 
-pub opposite-high : (c : ℕ) → 8 ≤ c → opposite c ≡ c - 8
-opposite-high c h = ap (λ (b : Bool). cond b (c - 8) (c + 8)) (le-leb 8 c h)
+opposite-rules : every oppositeRule (values (λ c. c) 16) ≡ true
+unfolding valuesFrom every
+opposite-rules = refl
+
+turned : (c : ℕ) → c < 16 → opposite c ≡ cond (leb 8 c) (c - 8) (c + 8)
+turned c h = eqb-true (opposite c) (cond (leb 8 c) (c - 8) (c + 8)) (every-values oppositeRule (λ k. k) 16 opposite-rules c h)
+
+pub opposite-low : (c : ℕ) → c < 8 → opposite c ≡ c + 8
+opposite-low c h = turned c (omega arith) ∙ ap (λ (b : Bool). cond b (c - 8) (c + 8)) (lt-leb 8 c h)
+
+pub opposite-high : (c : ℕ) → 8 ≤ c → c < 16 → opposite c ≡ c - 8
+opposite-high c h l = turned c l ∙ ap (λ (b : Bool). cond b (c - 8) (c + 8)) (le-leb 8 c h)
 
 -- the inverse of a letter is a letter
 pub opposite-letter : (c : ℕ) → isLetter c ≡ true → isLetter (opposite c) ≡ true
 opposite-letter c e =
     ⊎-elim (λ p. ap isLetter (opposite-low c (omega arith)) ∙ inverse-letter (c + 8) (omega arith) (omega arith))
-    (λ p. ap isLetter (opposite-high c (p .0)) ∙ positive-letter (c - 8) (omega arith))
+    (λ p. ap isLetter (opposite-high c (p .0) (omega arith)) ∙ positive-letter (c - 8) (omega arith))
     (letter-cases c e)
 
 -- the inverse of the inverse is the letter
@@ -70,10 +80,10 @@ opposite-twice c e =
     ⊎-elim
     (λ p.
     let back : c + 8 - 8 ≡ c = omega arith in
-    ap opposite (opposite-low c (omega arith)) ∙ (opposite-high (c + 8) (omega arith) ∙ back))
+    ap opposite (opposite-low c (omega arith)) ∙ (opposite-high (c + 8) (omega arith) (omega arith) ∙ back))
     (λ p.
     let back : c - 8 + 8 ≡ c = omega arith in
-    ap opposite (opposite-high c (p .0)) ∙ (opposite-low (c - 8) (omega arith) ∙ back))
+    ap opposite (opposite-high c (p .0) (omega arith)) ∙ (opposite-low (c - 8) (omega arith) ∙ back))
     (letter-cases c e)
 
 -- a word of letters, taken apart and put together

@@ -1,8 +1,9 @@
 -- Letters of braid words: the Artin generators b1 to b7 and their inverses, by their codes of four bits.
 -- Assumes nothing.
-use Prim.Native.Nat.{ℕ, _+_, _-_, _%_}
-use mathlib.Core.Bool.{Bool, cond, _&&_, _||_}
+use Prim.Native.Nat.{ℕ, _%_}
+use mathlib.Core.Bool.{Bool, _&&_, _||_}
 use lib.Dec.{leb}
+use lib.Bits.{bitXor}
 
 -- codes 0 to 6 are b1 to b7
 abbrev pub isPositive : ℕ → Bool
@@ -22,4 +23,4 @@ generator c = c % 8
 
 -- the code of the same generator with the other sign: the high bit turned
 abbrev pub opposite : ℕ → ℕ
-opposite c = cond (leb 8 c) (c - 8) (c + 8)
+opposite c = bitXor c 8

@@ -22,7 +22,7 @@ ghost use Rattle.braid.specs.Reduction.{reduced, Irreducible, reducerQue
 pub fn inverse(c: u8) -> u8
     ensures { λ r. ⌜ r ≡ opposite c ⌝ }
 {
-    if 8 <= c { c - 8 } else { c + 8 }
+    c ^ 8
 }
 
 // Is the letter the inverse of the last of the stack's n?

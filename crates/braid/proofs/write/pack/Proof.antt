@@ -35,7 +35,8 @@ mul-out-2 : tie.Need-mul-out-2 Inv-loop μ-loop
 mul-out-2 c =
     let l = c .before .before .loop in
     let s = c .before .before .before in
-    omega (arith, letters-below (s .args .codes .now) (s .pre .0) (2 * l .k))
+    let below = letters-below (s .args .codes .now) (s .pre .0) in
+    omega (arith, below (2 * l .k), below (2 * l .k + 1))
 
 mul-out-3 : tie.Need-mul-out-3 Inv-loop μ-loop
 mul-out-3 c = omega arith
