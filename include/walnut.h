@@ -71,7 +71,10 @@ uint8_t walnut_multiply(walnut_pair *pair, const uint8_t t_values[8], uint8_t le
 /* Reads a key file. Answers: 1, 2, 3, 4, 5, 6, 7, 0. Changes nothing. */
 walnut_key walnut_read_key(const uint8_t *file, size_t len);
 
-/* Writes a key file from T-values, labels and the 57 packed entries of each matrix (rows 1 to 7 whole, then the last entry of row 8).
+/* The 57 entries that a key file has of a matrix: rows 1 to 7 whole, then the last entry of row 8. It has no answer. Changes the 57. */
+void walnut_file_entries(const uint8_t matrix[64], uint8_t entries[57]);
+
+/* Writes a key file from T-values, labels and the 57 entries of each matrix, as walnut_file_entries has them.
    Answers: 16, 17, 4, 5, 6, 0. Changes the first 83 bytes of out on 0 alone. */
 uint8_t walnut_write_key(const uint8_t t_values[8], const uint8_t labels[8],
                          const uint8_t first[57], const uint8_t second[57], uint8_t *out, size_t len);

@@ -15,14 +15,21 @@ static void print_hex(const char *text, const uint8_t *bytes, size_t n)
     printf("\n");
 }
 
-/* The key whose matrices are both the identity: rows 1 to 7, then the last entry of row 8. */
-static uint8_t plain_key(uint8_t key[WALNUT_KEY_BYTES])
+static void print_decimal(const char *text, const uint8_t *numbers, size_t n)
 {
-    uint8_t entries[57] = {0};
-    for (int row = 0; row < 7; row++)
-        entries[9 * row] = 1;
-    entries[56] = 1;
-    return walnut_write_key(t_values, order, entries, entries, key, WALNUT_KEY_BYTES);
+    printf("%s", text);
+    for (size_t i = 0; i < n; i++)
+        printf(" %u", numbers[i]);
+    printf("\n");
+}
+
+/* Writes the key file of T-values, the pair Pub(S) and the matrix of Pub(S'). */
+static uint8_t write_key(const uint8_t t[8], const walnut_pair *pair, const uint8_t matrix[64], uint8_t key[WALNUT_KEY_BYTES])
+{
+    uint8_t first[57], second[57];
+    walnut_file_entries(pair->matrix, first);
+    walnut_file_entries(matrix, second);
+    return walnut_write_key(t, pair->labels, first, second, key, WALNUT_KEY_BYTES);
 }
 
 static void print_cloak(const char *text, const uint8_t *key, const uint8_t *word, size_t n)
@@ -43,19 +50,32 @@ int main(void)
     print_hex("b1 b2' b3 b4 b5' b6 b7' is", out, written.bytes);
     printf("its letters: %zu\n", walnut_read_word(out, written.bytes).letters);
 
-    walnut_pair pair = walnut_start();
+    walnut_pair start = walnut_start(), pair = start;
     if (walnut_multiply(&pair, t_values, 2) != 0)
         return 1;
-    printf("row 3 after b3:");
-    for (int column = 0; column < 8; column++)
-        printf(" %u", pair.matrix[16 + column]);
-    printf("\n");
+    print_decimal("row 3 after b3:", pair.matrix + 16, 8);
 
     uint8_t key[WALNUT_KEY_BYTES];
-    if (plain_key(key) != 0)
+    if (write_key(t_values, &start, start.matrix, key) != 0)
         return 1;
     print_hex("plain T-values pack to", key + 3, 5);
     print_hex("the list 0 to 7 packs to", key + 44, 3);
+
+    /* Pub(S) is the starting pair times b3, and Pub(S') has the matrix of b3's inverse */
+    walnut_pair inverse = start;
+    uint8_t file[WALNUT_KEY_BYTES], back[WALNUT_KEY_BYTES];
+    if (walnut_multiply(&inverse, t_values, 10) != 0 || write_key(t_values, &pair, inverse.matrix, file) != 0)
+        return 1;
+    print_hex("row 3 after b3 packs to", file + 18, 5);
+    walnut_key held = walnut_read_key(file, sizeof file);
+    printf("a key with b3 and b3' read back:\n");
+    print_decimal("T-values", held.t_values, 8);
+    print_decimal("row 3 of Pub(S):", held.pair.matrix + 16, 8);
+    print_decimal("list of Pub(S):", held.pair.labels, 8);
+    print_decimal("row 3 of Pub(S'):", held.second + 16, 8);
+    if (held.answer != 0 || write_key(held.t_values, &held.pair, held.second, back) != 0)
+        return 1;
+    printf("that key, read and written back, is the same: %s\n", memcmp(back, file, sizeof file) == 0 ? "yes" : "no");
 
     const uint8_t three[4] = {0x00, 0x03, 0x01, 0x00}, turn[5] = {0, 1, 0, 0, 3};
     written = walnut_rewrite(three, sizeof three, turn, sizeof turn, out, sizeof out);
@@ -63,6 +83,11 @@ int main(void)
     const uint8_t both[3] = {0x00, 0x02, 0x08};
     written = walnut_free_reduce(both, sizeof both, out, sizeof out);
     print_hex("00 02 08 freely reduced is", out, written.bytes);
+    uint8_t sixes[32];
+    memset(sixes, 0x66, sizeof sixes);
+    if (walnut_encode_digest(sixes, sizeof sixes, out, sizeof out).bytes != 2 + 64 * 6)
+        return 1;
+    print_hex("half byte 6 gives", out + 2, 6);
 
     const uint8_t ones[3] = {0x00, 0x02, 0x00}, threes[3] = {0x00, 0x02, 0x22};
     print_cloak("b1 b1", key, ones, sizeof ones);

@@ -5,8 +5,10 @@ import walnut
 T_VALUES = [1, 1, 2, 3, 4, 5, 6, 7]
 ORDER = range(8)
 
-# the first 57 entries that a key file packs of the identity matrix: rows 1 to 7, then the last entry of row 8
-IDENTITY = [int(column == row) for row in range(7) for column in range(8)] + [1]
+
+def write_key(t_values, pair, second):
+    """The key file of T-values, the pair Pub(S) and the matrix of Pub(S')."""
+    return walnut.write_key(t_values, pair.labels, walnut.file_entries(pair.matrix), walnut.file_entries(second))
 
 
 def text(data):
@@ -37,13 +39,28 @@ pair = walnut.Pair.start()
 pair.multiply(T_VALUES, 2)
 print("row 3 after b3:", *pair.matrix[16:24])
 
-key = walnut.write_key(T_VALUES, ORDER, IDENTITY, IDENTITY)
+start = walnut.Pair.start()
+key = write_key(T_VALUES, start, start.matrix)
 print("plain T-values pack to", text(key[3:8]))
 print("the list 0 to 7 packs to", text(key[44:47]))
+
+# Pub(S) is the starting pair times b3, and Pub(S') has the matrix of b3's inverse
+inverse = walnut.Pair.start()
+inverse.multiply(T_VALUES, 10)
+file = write_key(T_VALUES, pair, inverse.matrix)
+print("row 3 after b3 packs to", text(file[18:23]))
+held = walnut.read_key(file)
+print("a key with b3 and b3' read back:")
+print("T-values", *held.t_values)
+print("row 3 of Pub(S):", *held.pair.matrix[16:24])
+print("list of Pub(S):", *held.pair.labels)
+print("row 3 of Pub(S'):", *held.second[16:24])
+print("that key, read and written back, is the same:", yes_or_no(write_key(held.t_values, held.pair, held.second) == file))
 
 moved = walnut.rewrite(bytes.fromhex("00 03 01 00"), bytes.fromhex("00 01 00 00 03"))
 print("00 03 01 00 with kind 3 at place 0 gives", text(moved))
 print("00 02 08 freely reduced is", text(walnut.free_reduce(bytes.fromhex("00 02 08"))))
+print("half byte 6 gives", text(walnut.encode_digest([0x66] * 32)[2:8]))
 
 print("b1 b1 cloaks:", yes_or_no(walnut.cloaks(key, ORDER, bytes.fromhex("00 02 00"))))
 print("b3 b3 cloaks:", yes_or_no(walnut.cloaks(key, ORDER, bytes.fromhex("00 02 22"))))

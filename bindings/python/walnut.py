@@ -96,6 +96,7 @@ _reciprocal = _exported("reciprocal", _Element, c_uint8)
 _start = _exported("start", _Pair)
 _multiply = _exported("multiply", c_uint8, POINTER(_Pair), c_char_p, c_uint8)
 _read_key = _exported("read_key", _Key, _BYTES)
+_file_entries = _exported("file_entries", None, c_char_p, POINTER(c_uint8))
 _write_key = _exported("write_key", c_uint8, c_char_p, c_char_p, c_char_p, c_char_p, _OUT)
 _read_word = _exported("read_word", _Number, _BYTES)
 _write_word = _exported("write_word", _Number, _BYTES, _OUT)
@@ -205,8 +206,15 @@ def read_key(file):
     return _granted(key.answer, Key(bytes(key.t_values), Pair._of(key.pair), bytes(key.second)))
 
 
+def file_entries(matrix):
+    """The 57 entries that a key file has of a matrix: rows 1 to 7 whole, then the last entry of row 8."""
+    entries = (c_uint8 * 57)()
+    _file_entries(_fixed(matrix, 64, "matrix"), entries)
+    return bytes(entries)
+
+
 def write_key(t_values, labels, first, second):
-    """The key file of T-values, labels and each matrix's 57 packed entries."""
+    """The key file of T-values, labels and each matrix's 57 entries."""
     out = (c_uint8 * KEY_BYTES)()
     lists = [_fixed(t_values, 8, "t_values"), _fixed(labels, 8, "labels"), _fixed(first, 57, "first"), _fixed(second, 57, "second")]
     return _granted(_write_key(*lists, out, KEY_BYTES), bytes(out))

@@ -110,6 +110,16 @@ pub fn read_key(file: &[u8]) -> Key {
     }
 }
 
+/// The entries that a key file has of a matrix: rows 1 to 7 whole, then the last entry of row 8.
+pub fn file_entries(matrix: &Matrix) -> Entries {
+    let rows = (1..STRANDS).flat_map(|row| (1..=STRANDS).map(move |column| (row, column)));
+    let mut entries = [0; PACKED_ENTRIES];
+    for (entry, (row, column)) in entries.iter_mut().zip(rows.chain([(STRANDS, STRANDS)])) {
+        *entry = matrix[at(row, column)];
+    }
+    entries
+}
+
 /// What the key writer is given, and the room that its output has.
 struct Parts {
     room: usize,

@@ -39,7 +39,7 @@ pub mod word;
 pub use cloak::{cloaks, Cloak};
 pub use digest::encode_digest;
 pub use field::{product, reciprocal, Element};
-pub use key::{read_key, write_key, Key};
+pub use key::{file_entries, read_key, write_key, Key};
 pub use matrix::{matrix_product, Matrix};
 pub use pair::{multiply, start, Pair};
 pub use reduce::free_reduce;

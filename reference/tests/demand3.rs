@@ -8,7 +8,7 @@ use reference::letter::{codes_of, letters_of};
 use reference::matrix::identity;
 use reference::pair::carried;
 use reference::rewrite::{move_answer, moves, Move, MOST_MOVES};
-use reference::testkit::slips::{has_key_shape, key_file};
+use reference::testkit::slips::has_key_shape;
 use reference::testkit::{accepted_slip, exponent_sum, inverse_matrix, move_list, Slip};
 use reference::word::word_file;
 use reference::{free_reduce, letters, matrix_product, read_key, read_word, rewrite, verify};
@@ -93,8 +93,7 @@ fn verdicts_stay() {
 fn verdicts_of_free_keys_stay() {
     let mut random = Random::seeded(34);
     for _ in 0..20 {
-        let second = random.key_pair().matrix;
-        let key = key_file(&random.key_t_values(), &random.key_pair(), &second);
+        let key = random.invertible_key();
         let (digest, codes) = (random.digest(), random.tangled_word(20));
         let before = verify(&key, &digest, &word_file(&codes));
         let (_, file) = rewriting(&mut random, &codes, 40);
@@ -127,21 +126,20 @@ fn inverse_matrices() {
     assert_eq!(inverse_matrix(&[7; 64]), None);
 }
 
-/// Letters keep the shape of a key's matrix, so that the solved one fits the file; the slip is accepted,
-/// whether Pub(S) has an inverse or not, and another digest is not if it has one.
+/// Letters keep the shape of a key's matrix, so that the solved one fits the file, and has an inverse if that of
+/// Pub(S) has; the slip is accepted, and with another digest it is not.
 #[test]
 fn solved_slips_are_accepted() {
     let mut random = Random::seeded(36);
     for _ in 0..20 {
         let (t_values, codes, digest) = (random.key_t_values(), random.word(30), random.digest());
-        for pair in [random.key_pair(), random.invertible_key_pair()] {
-            assert!(has_key_shape(&carried(&pair, &t_values, &codes).matrix));
-            let slip = accepted_slip(&t_values, &pair, &digest, &codes);
-            let key = read_key(&slip.key);
-            assert_eq!((key.answer, key.t_values, key.pair), (0, t_values, pair));
-            assert_eq!(verify(&slip.key, &slip.digest, &slip.word), 0);
-        }
-        let slip = accepted_slip(&t_values, &random.invertible_key_pair(), &digest, &codes);
+        let pair = random.invertible_key_pair();
+        assert!(has_key_shape(&carried(&pair, &t_values, &codes).matrix));
+        let slip = accepted_slip(&t_values, &pair, &digest, &codes);
+        let key = read_key(&slip.key);
+        assert_eq!((key.answer, key.t_values, key.pair), (0, t_values, pair));
+        assert!(inverse_matrix(&key.second).is_some());
+        assert_eq!(verify(&slip.key, &slip.digest, &slip.word), 0);
         assert_eq!(verify(&slip.key, &random.digest(), &slip.word), 14);
     }
 }

@@ -9,8 +9,8 @@ use reference::matrix::{at, identity};
 use reference::pair::carried;
 use reference::reduce::{cancels, freely_reduced};
 use reference::{
-    cloaks, encode_digest, free_reduce, letters, matrix_product, multiply, product, read_key, read_word,
-    reciprocal, write_key, write_word, Pair, WordReader,
+    cloaks, encode_digest, file_entries, free_reduce, letters, matrix_product, multiply, product, read_key,
+    read_word, reciprocal, write_key, write_word, Pair, WordReader,
 };
 
 const ROUNDS: usize = 200;
@@ -355,14 +355,8 @@ fn key_files_come_back() {
         file[82] &= 0xF8;
         let key = read_key(&file);
         assert_eq!(key.answer, 0);
-        let entries = |matrix: &[u8; 64]| {
-            let mut entries = [0; 57];
-            entries[..56].copy_from_slice(&matrix[..56]);
-            entries[56] = matrix[63];
-            entries
-        };
         let mut out = vec![0; 83];
-        let (first, second) = (entries(&key.pair.matrix), entries(&key.second));
+        let (first, second) = (file_entries(&key.pair.matrix), file_entries(&key.second));
         assert_eq!(write_key(&key.t_values, &key.pair.labels, &first, &second, &mut out), 0);
         assert_eq!(out, file);
     }

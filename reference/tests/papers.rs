@@ -8,10 +8,11 @@ use common::{
 };
 use reference::digest::half_byte_braid;
 use reference::letter::{is_letter, Letter};
+use reference::matrix::at;
 use reference::{
-    cloaks, code_part, encode_digest, free_reduce, letter_at, letters, matrix_product, multiply, product,
-    read_key, read_word, reciprocal, start, write_key, write_word, Cloak, Element, Pair, Word, WordReader,
-    Written,
+    cloaks, code_part, encode_digest, file_entries, free_reduce, letter_at, letters, matrix_product,
+    multiply, product, read_key, read_word, reciprocal, start, write_key, write_word, Cloak, Element, Pair,
+    Word, WordReader, Written,
 };
 
 /// The starting pair carried by letters written as in source 004: 3 is b3, -3 its inverse.
@@ -391,6 +392,24 @@ fn plain_key_is_written() {
     assert_eq!(out[..8], hex("08 00 20 08 44 32 14 C7"));
     assert_eq!(out[44..47], hex("05 39 77"));
     assert!(out[83..].iter().all(|byte| *byte == 0xAA));
+}
+
+/// Rows 1 to 7 whole, then the last entry of row 8: of the numbers 0 to 63, row by row, 0 to 55 and 63. A file has no
+/// other entry of row 8, whatever stands there.
+#[test]
+fn entries_of_a_matrix() {
+    let mut matrix = [0; 64];
+    for row in 0..8 {
+        for column in 0..8 {
+            matrix[at(row + 1, column + 1)] = 8 * row as u8 + column as u8;
+        }
+    }
+    let entries = file_entries(&matrix);
+    assert!(entries[..56].iter().copied().eq(0..56));
+    assert_eq!(entries[56], 63);
+    matrix[at(8, 1)] = 255;
+    assert_eq!(file_entries(&matrix), entries);
+    assert_eq!(file_entries(&start().matrix), identity_entries());
 }
 
 /// Source 000, section 11.1: the key has 664 bits, that is 83 bytes.

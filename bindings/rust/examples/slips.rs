@@ -15,15 +15,16 @@ fn answer<T>(outcome: Result<T, Refusal>) -> u8 {
     outcome.err().map_or(0, Refusal::number)
 }
 
-/// The key whose matrices are both the identity.
-fn plain_key() -> Result<[u8; KEY_BYTES], Refusal> {
-    let mut entries = [0; 57];
-    for row in 0..7 {
-        entries[9 * row] = 1;
-    }
-    entries[56] = 1;
+/// Numbers in decimal.
+fn decimal(numbers: &[u8]) -> String {
+    numbers.iter().map(u8::to_string).collect::<Vec<_>>().join(" ")
+}
+
+/// The key file of T-values, the pair Pub(S) and the matrix of Pub(S').
+fn key_file(t_values: &[u8; 8], pair: &Pair, second: &[u8; 64]) -> Result<[u8; KEY_BYTES], Refusal> {
+    let (first, second) = (walnut::file_entries(&pair.matrix), walnut::file_entries(second));
     let mut key = [0; KEY_BYTES];
-    walnut::write_key(&T_VALUES, &ORDER, &entries, &entries, &mut key)?;
+    walnut::write_key(t_values, &pair.labels, &first, &second, &mut key)?;
     Ok(key)
 }
 
@@ -47,16 +48,31 @@ fn main() -> Result<(), Refusal> {
 
     let mut pair = Pair::start();
     pair.multiply(&T_VALUES, 2)?;
-    let row: Vec<String> = pair.matrix[16..24].iter().map(u8::to_string).collect();
-    println!("row 3 after b3: {}", row.join(" "));
+    println!("row 3 after b3: {}", decimal(&pair.matrix[16..24]));
 
-    let key = plain_key()?;
+    let start = Pair::start();
+    let key = key_file(&T_VALUES, &start, &start.matrix)?;
     println!("plain T-values pack to {}", hex(&key[3..8]));
     println!("the list 0 to 7 packs to {}", hex(&key[44..47]));
+
+    // Pub(S) is the starting pair times b3, and Pub(S') has the matrix of b3's inverse
+    let mut inverse = Pair::start();
+    inverse.multiply(&T_VALUES, 10)?;
+    let file = key_file(&T_VALUES, &pair, &inverse.matrix)?;
+    println!("row 3 after b3 packs to {}", hex(&file[18..23]));
+    let held = walnut::read_key(&file)?;
+    println!("a key with b3 and b3' read back:");
+    println!("T-values {}", decimal(&held.t_values));
+    println!("row 3 of Pub(S): {}", decimal(&held.pair.matrix[16..24]));
+    println!("list of Pub(S): {}", decimal(&held.pair.labels));
+    println!("row 3 of Pub(S'): {}", decimal(&held.second[16..24]));
+    let back = key_file(&held.t_values, &held.pair, &held.second)?;
+    println!("that key, read and written back, is the same: {}", yes_or_no(back == file));
 
     let moved = walnut::rewrite(&[0, 3, 1, 0], &[0, 1, 0, 0, 3], &mut out)?;
     println!("00 03 01 00 with kind 3 at place 0 gives {}", hex(moved));
     println!("00 02 08 freely reduced is {}", hex(walnut::free_reduce(&[0, 2, 8], &mut out)?));
+    println!("half byte 6 gives {}", hex(&walnut::encode_digest(&[0x66; 32], &mut out)?[2..8]));
 
     println!("b1 b1 cloaks: {}", yes_or_no(walnut::cloaks(&key, &ORDER, &[0, 2, 0x00])?));
     println!("b3 b3 cloaks: {}", yes_or_no(walnut::cloaks(&key, &ORDER, &[0, 2, 0x22])?));

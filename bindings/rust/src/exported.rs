@@ -35,6 +35,7 @@ extern "C" {
     pub fn walnut_start() -> Pair;
     pub fn walnut_multiply(pair: *mut Pair, t_values: *const u8, letter: u8) -> u8;
     pub fn walnut_read_key(file: *const u8, len: usize) -> Key;
+    pub fn walnut_file_entries(matrix: *const u8, entries: *mut u8);
     pub fn walnut_write_key(
         t_values: *const u8,
         labels: *const u8,

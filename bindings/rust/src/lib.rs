@@ -73,7 +73,15 @@ pub fn read_key(file: &[u8]) -> Result<Key, Refusal> {
     granted(key.answer, Key { t_values: key.t_values, pair: key.pair, second: key.second })
 }
 
-/// Writes a key file to the output's first 83 bytes, from T-values, labels and each matrix's 57 packed entries.
+/// The 57 entries that a key file has of a matrix: rows 1 to 7 whole, then the last entry of row 8.
+pub fn file_entries(matrix: &[u8; 64]) -> [u8; 57] {
+    let mut entries = [0; 57];
+    // SAFETY: see above.
+    unsafe { walnut_file_entries(matrix.as_ptr(), entries.as_mut_ptr()) };
+    entries
+}
+
+/// Writes a key file to the output's first 83 bytes, from T-values, labels and each matrix's 57 entries.
 pub fn write_key(
     t_values: &[u8; 8],
     labels: &[u8; 8],

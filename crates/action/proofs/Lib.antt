@@ -1,4 +1,5 @@
 pub mod LayoutLaws
+pub mod ProductLaws
 pub mod LabelLaws
 pub mod RowLaws
 pub mod RowBraid

@@ -1,49 +1,122 @@
--- Wrong programs that the definitions shut out, each by a witness: a multiplier that leaves its pair, one that takes the T-value at a place and not
--- that of the label there, and one that exchanges two labels wherever they are and not two places.
+-- Wrong multipliers are shut out by the contract, each by a witness: one that leaves its pair, one that takes the T-value at a place and not that of the
+-- label there, one that exchanges two labels wherever they are and not two places, and one that changes a letter's own column before a neighbour has
+-- read it. Each is refuted for positive letters alone and for inverse ones alone, on the identity matrix with eight labels, each once.
 -- Assumes nothing.
 use Prim.Native.Nat.{ℕ, _+_}
 use mathlib.Core.Path.{_≡_, refl, sym, ap, _∙_}
-use mathlib.Core.Bool.{cond}
+use mathlib.Core.Bool.{Bool, true, false, cond}
 use mathlib.Core.List.{List, [], _∷_, map}
 use native.Mathlib.Omega.{arith}
 use lib.Dec.{eqb}
-use lib.ListN.{getD}
+use lib.ListN.{length, getD}
 use Rattle.base.specs.Questions.{firstNo, granted}
-use Rattle.base.specs.Lists.{every, count, valuesFrom, eachOnce}
-use Rattle.field.specs.Polynomial.{timesX, horner, times}
+use Rattle.base.specs.Lists.{every, count, values, valuesFrom, eachOnce}
+use Rattle.base.proofs.QuestionLaws.{granted-zero}
+use Rattle.field.specs.Polynomial.{timesX, horner, times, first, reciprocalOf}
 use Rattle.field.specs.Gf32.{gf32}
+use Rattle.braid.specs.Letters.{generator, isInverse}
 use Rattle.action.specs.declared.Pair.{Pair}
+use Rattle.action.specs.declared.Multiplied.{Multiplied}
 use Rattle.action.specs.Layout.{entry, matrixOf}
-use Rattle.action.specs.Action.{tValue, shareOf, rowAfter, swapped, letterOn, identity, start}
+use Rattle.action.specs.Action.{Share, tValue, shareOf, rowAfter, swapped, pairOf, letterOn, identity, identityWith}
 use Rattle.action.specs.Multiplier.{multiplierQuestions, zeroPair, Multiplies}
 
--- T-values 1 1 2 3 4 5 6 7
+-- ---- what they do
+
+abbrev pub LetterOn : Type 0
+LetterOn = (ts : List ℕ) (c : ℕ) (p : Pair) → Pair
+
+-- a letter by its share and the labels that it leaves
+abbrev pub by : Share → List ℕ → ℕ → Pair → Pair
+by s labels c p = pairOf (matrixOf (λ r. rowAfter gf32 s (generator c) (entry (p .matrix) r))) labels
+
+-- the T-value at a place, as if each label stood at its own
+abbrev pub ofPlace : LetterOn
+ofPlace ts c p = by (shareOf gf32 ts (values (λ a. a) 8) c) (swapped (generator c) (p .labels)) c p
+
+-- labels g and g + 1 exchanged wherever they are
+abbrev pub exchanged : ℕ → List ℕ → List ℕ
+exchanged g labels = map (λ l. cond (eqb l g) (g + 1) (cond (eqb l (g + 1)) g l)) labels
+
+abbrev pub byValue : LetterOn
+byValue ts c p = by (shareOf gf32 ts (p .labels) c) (exchanged (generator c) (p .labels)) c p
+
+-- column i changed first: the column before (true), or the column after (false), gains its share of column i as the letter has left it
+abbrev pub late : Bool → Share → Share
+late before s = record { before = λ x. s .before (cond before (s .own x) x); own = s .own; after = λ x. s .after (cond before x (s .own x)) }
+
+abbrev pub ownFirst : Bool → LetterOn
+ownFirst before ts c p = by (late before (shareOf gf32 ts (p .labels) c)) (swapped (generator c) (p .labels)) c p
+
+-- ---- multipliers
+
+abbrev pub Multiplier : Type 0
+Multiplier = (p : Pair) (ts : List ℕ) (c : ℕ) → Multiplied
+
+-- 64 entries, eight labels, eight T-values and a code that pass every question
+pub record Accepted (p : Pair) (ts : List ℕ) (c : ℕ) : Type 0 where
+  pub entries : length (p .matrix) ≡ 64
+  pub strands : length (p .labels) ≡ 8
+  pub t-values : length ts ≡ 8
+  pub passed : firstNo (multiplierQuestions p ts c) ≡ 0
+
+abbrev pub Meets : Multiplier → Type 0
+Meets f = (p : Pair) (ts : List ℕ) (c : ℕ) → Accepted p ts c → Multiplies p ts c (f p ts c .answer) (f p ts c .pair)
+
+-- the inputs that tell: the T-values 1 1 2 3 4 5 6 7, and the identity matrix with the list 0 to 7 or another
 abbrev plain : List ℕ
 plain = 1 ∷ 1 ∷ 2 ∷ 3 ∷ 4 ∷ 5 ∷ 6 ∷ 7 ∷ []
 
--- row 3, column 2: 0 at the start, 2 after b3
-before : getD (start .matrix) 17 0 ≡ 0
-unfolding start identity matrixOf valuesFrom
-before = refl
+abbrev in-order : List ℕ
+in-order = 0 ∷ 1 ∷ 2 ∷ 3 ∷ 4 ∷ 5 ∷ 6 ∷ 7 ∷ []
 
-after : getD (granted (firstNo (multiplierQuestions start plain 2)) (letterOn gf32 plain 2 start) zeroPair .matrix) 17 0 ≡ 2
-unfolding start identity entry matrixOf valuesFrom firstNo granted every count eachOnce tValue shareOf rowAfter swapped letterOn times horner timesX
-after = refl
+abbrev crossed : List ℕ
+crossed = 2 ∷ 3 ∷ 0 ∷ 1 ∷ 4 ∷ 5 ∷ 6 ∷ 7 ∷ []
 
--- a multiplier that leaves its pair, whatever it answers
-pub leaves-its-pair : (answer : ℕ) → Multiplies start plain 2 answer start → ⊥
-leaves-its-pair answer m = let e = sym before ∙ ap (λ (p : Pair). getD (p .matrix) 17 0) (m .pair-is) ∙ after in omega arith
+-- what is looked at: an entry of the matrix, rows and columns counted from 0, and the first label
+abbrev at : ℕ → ℕ → Pair → ℕ
+at r c p = entry (p .matrix) r c
 
--- the T-value at place 0 where label 2 stands there
-pub value-of-the-place : ((ts labels : List ℕ) (place : ℕ) → tValue ts labels place ≡ getD ts place 0) → ⊥
-unfolding tValue
-value-of-the-place h = let e : _≡_ {A = ℕ} 2 1 = h plain (2 ∷ 1 ∷ 0 ∷ []) 0 in omega arith
+abbrev first-label : Pair → ℕ
+first-label p = getD (p .labels) 0 0
 
--- labels g and g + 1 exchanged wherever they are
-unfoldable pub byValue : ℕ → List ℕ → List ℕ
-byValue g labels = map (λ l. cond (eqb l g) (g + 1) (cond (eqb l (g + 1)) g l)) labels
+-- ---- none of them meets the contract
 
-pub labels-by-value : ((g : ℕ) (labels : List ℕ) → swapped g labels ≡ byValue g labels) → ⊥
-unfolding swapped byValue
-labels-by-value h =
-    let e : _≡_ {A = ℕ} 1 2 = ap (λ (l : List ℕ). getD l 0 0) (h 0 (2 ∷ 1 ∷ 0 ∷ [])) in omega arith
+module _ (f : Multiplier) (meets : Meets f) where
+  -- for letters of one sign it gives what g gives
+  abbrev Gives : Bool → LetterOn → Type 0
+  Gives inverse g = (p : Pair) (ts : List ℕ) (c : ℕ) → Accepted p ts c → isInverse c ≡ inverse → f p ts c .pair ≡ g ts c p
+
+  -- then g shows what the letter shows
+  shows : {inverse : Bool} {g : LetterOn} (look : Pair → ℕ) (order : List ℕ) (c : ℕ) → Gives inverse g → length order ≡ 8
+      → firstNo (multiplierQuestions (identityWith order) plain c) ≡ 0 → isInverse c ≡ inverse
+      → look (letterOn gf32 plain c (identityWith order)) ≡ look (g plain c (identityWith order))
+  unfolding identity matrixOf valuesFrom
+  shows look order c gives l q s =
+      let p : Pair = identityWith order in
+      let a : Accepted p plain c = record { entries = refl; strands = l; t-values = refl; passed = q } in
+      ap look (sym (meets p plain c a .pair-is ∙ granted-zero (letterOn gf32 plain c p) zeroPair q) ∙ gives p plain c a s)
+
+  -- b3: row 3 has 2, 2, 1 in columns 2, 3, 4. Its inverse: 1, 28, 28 (document 01's slips)
+  pub leaves-its-pair : (inverse : Bool) → Gives inverse (λ ts c p. p) → ⊥
+  unfolding identity entry matrixOf valuesFrom firstNo every count eachOnce tValue shareOf rowAfter letterOn times horner timesX
+  leaves-its-pair true wrong = let e : _≡_ {A = ℕ} 1 0 = shows (at 2 1) in-order 10 wrong refl refl refl in omega arith
+  leaves-its-pair false wrong = let e : _≡_ {A = ℕ} 2 0 = shows (at 2 1) in-order 2 wrong refl refl refl in omega arith
+
+  pub own-column-first : (before inverse : Bool) → Gives inverse (ownFirst before) → ⊥
+  unfolding identity entry matrixOf valuesFrom firstNo every count eachOnce tValue shareOf rowAfter letterOn times horner timesX first reciprocalOf
+  own-column-first true true wrong = let e : _≡_ {A = ℕ} 1 28 = shows (at 2 1) in-order 10 wrong refl refl refl in omega arith
+  own-column-first true false wrong = let e : _≡_ {A = ℕ} 2 4 = shows (at 2 1) in-order 2 wrong refl refl refl in omega arith
+  own-column-first false true wrong = let e : _≡_ {A = ℕ} 28 23 = shows (at 2 3) in-order 10 wrong refl refl refl in omega arith
+  own-column-first false false wrong = let e : _≡_ {A = ℕ} 1 2 = shows (at 2 3) in-order 2 wrong refl refl refl in omega arith
+
+  -- labels 2 and 3 stand at the first two places: b1 takes 2 and not 1, its inverse 28 and not 1, and label 3 comes first
+  pub value-of-the-place : (inverse : Bool) → Gives inverse ofPlace → ⊥
+  unfolding identity entry matrixOf valuesFrom firstNo every count eachOnce tValue shareOf rowAfter letterOn times horner timesX first reciprocalOf
+  value-of-the-place true wrong = let e : _≡_ {A = ℕ} 28 1 = shows (at 0 0) crossed 8 wrong refl refl refl in omega arith
+  value-of-the-place false wrong = let e : _≡_ {A = ℕ} 2 1 = shows (at 0 0) crossed 0 wrong refl refl refl in omega arith
+
+  pub labels-by-value : (inverse : Bool) → Gives inverse byValue → ⊥
+  unfolding firstNo every count eachOnce valuesFrom identity matrixOf swapped letterOn
+  labels-by-value true wrong = let e : _≡_ {A = ℕ} 3 2 = shows first-label crossed 8 wrong refl refl refl in omega arith
+  labels-by-value false wrong = let e : _≡_ {A = ℕ} 3 2 = shows first-label crossed 0 wrong refl refl refl in omega arith

@@ -3,7 +3,6 @@ use crate::Pair;
 ghost use mathlib.Core.Path.{_≡_};
 ghost use Prim.Native.Nat.{_+_, _*_, _<_};
 ghost use mathlib.Core.Bool.{true, cond};
-ghost use lib.Dec.{eqb};
 ghost use lib.ListN.{length, getD};
 ghost use Rattle.field.specs.Gf32.{gf32, products};
 ghost use Rattle.braid.specs.Letters.{isLetter};
@@ -59,34 +58,16 @@ fn rows(m: &mut [u8; 64], table: &[u8; 1024], k: u8, inverse: bool, g: usize)
     }
 }
 
-// The first number where x is a, the second where it is b, the other elsewhere.
-fn picked(x: u8, a: u8, b: u8, first: u8, second: u8, other: u8) -> u8
-    ensures { λ r. ⌜ r ≡ cond (eqb x a) first (cond (eqb x b) second other) ⌝ }
-{
-    if x == a {
-        return first;
-    }
-    if x == b {
-        return second;
-    }
-    other
-}
-
-// The labels at two neighbouring places change places. The walk goes by the place and leaves any other as it is, so it need only go over these two.
+// The labels at two neighbouring places change places.
 fn exchange(labels: &mut [u8; 8], g: u8)
     requires { ⌜ (length (now labels) ≡ 8) × (g < 7) ⌝ }
     ensures { λ _. ⌜ now (labels .exit) ≡ swapped g (now (labels .entry)) ⌝ }
 {
-    let next = g + 1;
-    let own = labels[g as usize];
-    let after = labels[next as usize];
-    let mut k = g;
-    while k <= next {
-        let at = k as usize;
-        let label = labels[at];
-        labels[at] = picked(k, g, next, after, own, label);
-        k += 1;
-    }
+    let at = g as usize;
+    let own = labels[at];
+    let after = labels[at + 1];
+    labels[at] = after;
+    labels[at + 1] = own;
 }
 
 // What stands for a label in a list that has a place for every byte.

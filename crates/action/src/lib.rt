@@ -2,12 +2,14 @@
 ghost use mathlib.Core.Path.{_≡_};
 ghost use Rattle.action.specs.Action.{start};
 
+mod layout; // layout.rt: the entry in a row and a column
 mod letter; // letter.rt: one letter, in place
 mod multiplier; // multiplier.rt: the multiplier used alone
 mod product; // product.rt: the product of two matrices
 mod tests; // tests.rt: tests on T-values, entries and labels
 mod word; // word.rt: whole words
 
+pub use layout::entry;
 pub use multiplier::multiply;
 pub use product::matrix_product;
 pub use tests::all_elements;

@@ -1,5 +1,6 @@
 // The product of two matrices.
 use crate::Pair;
+use crate::layout;
 use crate::letter::times;
 ghost use mathlib.Core.Path.{_≡_};
 ghost use Prim.Native.Nat.{_<_};
@@ -15,7 +16,7 @@ fn dot(table: &[u8; 1024], a: &[u8; 64], b: &[u8; 64], row: usize, column: usize
     let mut total: u8 = 0;
     let mut k = 0;
     while k < Pair::STRANDS {
-        total = total ^ times(table, a[8 * row + k], b[8 * k + column]);
+        total = total ^ times(table, layout::entry(a, row, k), layout::entry(b, k, column));
         k += 1;
     }
     total

@@ -1,25 +1,27 @@
 -- Word files there and back: the file of any list of at most 10,000 letters is accepted and reads back as that list; an accepted file is the file of
--- its letters; and what a writer of words left in its output, as many bytes as it reports, is the word's file.
+-- its letters; and what a writer of words left in its output, as many bytes as it reports, is the word's file. So, from bytes to bytes, of what the
+-- writer from codes and the word reader give: a word that was written reads back, and a file that was read is written back as its own bytes.
 -- Assumes nothing.
 use Prim.Native.Nat.{ℕ, zero, suc, _+_, _*_, _/_, _%_, _≤_, _<_}
 use mathlib.Core.Path.{_≡_, refl, sym, ap, ap₂, _∙_}
-use mathlib.Core.Bool.{true}
+use mathlib.Core.Bool.{Bool, true}
 use mathlib.Core.List.{List, [], _∷_, _++_}
 use native.Mathlib.Nat.{suc-ne-zero}
 use native.Mathlib.Omega.{arith}
-use borrow.Author.Tests.{le-leb, eq-eqb, eqb-true}
-use lib.Dec.{eqb, lit<}
+use borrow.Author.Tests.{le-leb, leb-true, eq-eqb, eqb-true}
+use lib.Dec.{eqb, ltb, lit<}
 use lib.ListN.{length, take, drop, getD, length-drop, take-append-drop}
-use lib.Seq.{length-take-le, take-at}
+use lib.Seq.{length-take-le, take-at, ext-getD}
 use Rattle.base.specs.Questions.{Question, firstNo}
 use Rattle.base.specs.Lists.{every, overlaid}
 use Rattle.base.specs.Digits.{value, digits, halves}
-use Rattle.base.proofs.QuestionLaws.{passed-answers, granted-zero, granted-refused}
-use Rattle.base.proofs.ListLaws.{and-left, and-both, take-overlaid}
+use Rattle.base.proofs.QuestionLaws.{passed-answers, answers-passed, granted-zero, granted-refused}
+use Rattle.base.proofs.ListLaws.{and-left, and-both, take-overlaid, drop-overlaid}
 use Rattle.base.proofs.DigitLaws.{length-digits, value-digits-below, digits-value, take-below}
 use Rattle.braid.specs.Letters.{isLetter}
-use Rattle.braid.specs.Words.{stated, needed, codes, filler, wordQuestions, wordAnswer, letters, packed, wordFile, Wrote}
+use Rattle.braid.specs.Words.{stated, needed, codes, filler, wordQuestions, wordAnswer, letters, packed, wordFile, writerQuestions, Wrote, Read, LetterAt}
 use Rattle.braid.proofs.WordLaws.{letters-below, length-wordFile, wordFile-rest}
+use Rattle.braid.proofs.WriteLaws.{writable}
 use Rattle.braid.proofs.ReadLaws.{letters-accepted, accepted-long, accepted-number, accepted-length, accepted-letters, accepted-filler, length-codes}
 
 -- ---- packed codes, and the half bytes of the packed codes
@@ -143,11 +145,23 @@ module _ (file : List ℕ) where
 -- ---- what a writer of words left
 
 module _ {questions : List Question} {file before after : List ℕ} {answer bytes : ℕ} (w : Wrote questions file before after answer bytes) where
-  -- on answer 0 the output's first bytes, as many as are reported, are the file
+  -- on answer 0 as many bytes are reported as the file has
+  pub wrote-bytes : firstNo questions ≡ 0 → bytes ≡ length file
+  wrote-bytes e = w .bytes-is ∙ granted-zero (length file) 0 e
+
+  wrote-output : firstNo questions ≡ 0 → after ≡ overlaid file before
+  wrote-output e = w .output-is ∙ granted-zero (overlaid file before) before e
+
+  -- the output's first bytes, as many as are reported, are the file
   pub wrote-file : firstNo questions ≡ 0 → take bytes after ≡ file
-  wrote-file e =
-      ap₂ (λ (n : ℕ) (l : List ℕ). take n l) (w .bytes-is ∙ granted-zero (length file) 0 e) (w .output-is ∙ granted-zero (overlaid file before) before e)
-      ∙ take-overlaid file before
+  wrote-file e = ap₂ (λ (n : ℕ) (l : List ℕ). take n l) (wrote-bytes e) (wrote-output e) ∙ take-overlaid file before
+
+  -- and the rest is as it was
+  pub wrote-rest : firstNo questions ≡ 0 → drop bytes after ≡ drop bytes before
+  wrote-rest e =
+      ap₂ (λ (n : ℕ) (l : List ℕ). drop n l) (wrote-bytes e) (wrote-output e)
+      ∙ drop-overlaid file before
+      ∙ ap (λ (n : ℕ). drop n before) (sym (wrote-bytes e))
 
   -- on a refusal the output is as it was
   pub wrote-nothing : (firstNo questions ≡ 0 → ⊥) → after ≡ before
@@ -159,3 +173,35 @@ pub written-letters : {questions : List Question} {before after : List ℕ} {ans
     → (wordAnswer (take bytes after) ≡ 0) × (letters (take bytes after) ≡ cs)
 written-letters cs few e w a =
     (ap wordAnswer (wrote-file w a) ∙ wordFile-accepted cs few e, ap letters (wrote-file w a) ∙ letters-wordFile cs few e)
+
+-- ---- what the operations give
+
+-- where the writer from codes answers 0, the word reader, on the output's first bytes, as many as are reported, answers 0 and gives the number of the
+-- codes; and the letter at each place there is the code
+pub written-reads-back : (cs : List ℕ) {before after : List ℕ} {answer bytes answer′ count : ℕ}
+    → Wrote (writerQuestions (length before) cs) (wordFile cs) before after answer bytes → answer ≡ 0
+    → Read (take bytes after) answer′ count
+    → (answer′ ≡ 0) × (count ≡ length cs)
+    × ((place code : ℕ) (left : Bool) → LetterAt (take bytes after) place left code → (left ≡ ltb place (length cs)) × (code ≡ getD cs place 0))
+written-reads-back cs {before} w z r =
+    let asked : firstNo (writerQuestions (length before) cs) ≡ 0 = sym (w .answer-is) ∙ z in
+    let p = answers-passed (writerQuestions (length before) cs) tt asked in
+    let back = written-letters cs (leb-true (length cs) 10000 (p .1 .0)) (p .1 .1 .0) w asked in (
+      r .answer-is ∙ back .0,
+      r .count-is ∙ ap length (back .1),
+      λ place code left t. (t .left-is ∙ ap (λ (l : List ℕ). ltb place (length l)) (back .1), t .code-is ∙ ap (λ (l : List ℕ). getD l place 0) (back .1)),
+    )
+
+-- where the word reader answers 0 on a file of bytes, the writer from codes, on the letters at its places and an output of at least 5,002 bytes, answers
+-- 0, reports the file's length and leaves the file's own bytes at the output's front, the rest as it was
+pub read-writes-back : (file : List ℕ) → ((k : ℕ) → getD file k 0 < 256) → {answer count answer′ bytes : ℕ} → Read file answer count → answer ≡ 0
+    → (cs : List ℕ) → length cs ≡ count → ((place : ℕ) → place < count → LetterAt file place true (getD cs place 0))
+    → {before after : List ℕ} → 5002 ≤ length before → Wrote (writerQuestions (length before) cs) (wordFile cs) before after answer′ bytes
+    → (answer′ ≡ 0) × (bytes ≡ length file) × (take bytes after ≡ file) × (drop bytes after ≡ drop bytes before)
+read-writes-back file small {bytes = bytes} r z cs l at {before} {after} room w =
+    let e : wordAnswer file ≡ 0 = sym (r .answer-is) ∙ z in
+    let same : cs ≡ letters file = ext-getD 0 cs (letters file) (l ∙ r .count-is) (λ k h. at k (omega arith) .code-is) in
+    let few : length cs ≤ 10000 = omega (arith, letters-few file, ap length same) in
+    let asked : firstNo (writerQuestions (length before) cs) ≡ 0 = writable (length before) cs room few (ap (every isLetter) same ∙ letters-are file) in
+    let own : wordFile cs ≡ file = ap wordFile same ∙ wordFile-letters file small e in
+    (w .answer-is ∙ asked, wrote-bytes w asked ∙ ap length own, wrote-file w asked ∙ own, wrote-rest w asked)

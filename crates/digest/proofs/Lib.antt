@@ -1,2 +1,3 @@
 pub mod HalfByte
 pub mod Encoded
+pub mod PureBraidPowers

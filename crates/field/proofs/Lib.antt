@@ -3,5 +3,5 @@ pub mod Xor
 pub mod Laws
 pub mod ReciprocalLaws
 pub mod TableLaws
-pub mod Field
+pub mod Fields
 pub mod GivesLaws

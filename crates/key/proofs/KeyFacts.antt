@@ -39,6 +39,10 @@ pub labels-below : (file : List ℕ) → Below 8 (labels file)
 unfolding labels
 labels-below file = digits-below 8 8 (value 256 (part 44 3 file)) (omega arith)
 
+pub entries-size : (bytes : List ℕ) → length (entries bytes) ≡ 57
+unfolding entries
+entries-size bytes = length-digits 32 57 (value 256 bytes / 8)
+
 pub entries-below : (bytes : List ℕ) → Below 32 (entries bytes)
 unfolding entries
 entries-below bytes = digits-below 32 57 (value 256 bytes / 8) (omega arith)

@@ -1,32 +1,28 @@
--- Keys written and read back, and read and written back. Assumes nothing.
+-- Keys there and back, from bytes to bytes, of what the key writer and the key reader give: a key that was written reads back as its T-values, its list
+-- and its matrices, and a file that was read is written back as its own bytes. Assumes nothing.
 use Prim.Native.Nat.{ℕ, _≤_, _<_}
 use mathlib.Core.Path.{_≡_, refl, sym, ap, ap₂, _∙_}
 use mathlib.Core.Bool.{true}
 use mathlib.Core.List.{List, [], _∷_, _++_}
 use native.Mathlib.Omega.{arith}
 use borrow.Author.Tests.{le-leb}
-use lib.ListN.{length, getD}
+use lib.ListN.{length, take, drop, getD}
 use lib.Seq.{drop-cons}
-use Rattle.base.specs.Questions.{firstNo}
+use Rattle.base.specs.Questions.{Question, firstNo}
+use Rattle.base.specs.Lists.{overlaid}
 use Rattle.base.specs.Digits.{value, digits, part}
-use Rattle.base.proofs.QuestionLaws.{passed-answers}
-use Rattle.base.proofs.ListLaws.{and-both}
+use Rattle.base.proofs.QuestionLaws.{passed-answers, granted-zero}
+use Rattle.base.proofs.ListLaws.{and-both, take-overlaid, drop-overlaid}
 use Rattle.base.proofs.DigitLaws.{digits-value, below-all}
 use Rattle.action.specs.Multiplier.{elements, nonzero, isOrder}
-use Rattle.key.specs.Keys.{tValues, labels, entries, firstBytes, secondBytes, fillerBits, fieldSize, packedMatrix, startsWithOnes, keyAnswer, keyFile, keyWriterQuestions}
+use Rattle.key.specs.declared.Key.{Key}
+use Rattle.key.specs.Keys.{tValues, labels, entries, firstBytes, secondBytes, fillerBits, fieldSize, fileEntries, packedMatrix, startsWithOnes, keyAnswer, keyHolding, keyOf, zeroKey, ReadsKey, keyFile, keyWriterQuestions, WroteKey}
 use Rattle.key.specs.Parts.{Parts, Sizes}
 use Rattle.key.proofs.Packing.{Below, below-part, length-part}
 use Rattle.key.proofs.MatrixLaws.{regrouped-back, entries-packed, filler-packed, packed-entries}
 use Rattle.key.proofs.FileLaws.{key-file-size, part-ts, part-first, part-order, part-second, cut, cut-last}
-use Rattle.key.proofs.KeyFacts.{Accepted, accepted, accepted-answers, Writable, writable, parts, t-values-elements, entries-below}
-
--- a file that is accepted and holds these T-values, labels and entries
-pub record Holds (file ts order first second : List ℕ) : Type 0 where
-  pub answer : keyAnswer file ≡ 0
-  pub t-values : tValues file ≡ ts
-  pub list : labels file ≡ order
-  pub first-entries : entries (firstBytes file) ≡ first
-  pub second-entries : entries (secondBytes file) ≡ second
+use Rattle.key.proofs.KeyFacts.{Accepted, accepted, accepted-answers, Writable, writable, parts, t-values-elements, entries-size, entries-below}
+use Rattle.key.proofs.EntryLaws.{entries-whole}
 
 -- ---- written and read back
 
@@ -38,6 +34,7 @@ strands-written : (ts order first second : List ℕ) → getD (keyFile ts order 
 unfolding keyFile
 strands-written ts order first second = refl
 
+-- the file of these parts
 module _ (ts order first second : List ℕ) (size : Sizes ts order first second) (fit : Parts ts order first second) where
   ts-back : tValues (keyFile ts order first second) ≡ ts
   unfolding tValues
@@ -70,20 +67,10 @@ module _ (ts order first second : List ℕ) (size : Sizes ts order first second)
         second-filler = ap fillerBits (part-second ts order first second) ∙ filler-packed second (fit .second-below) (size .second-size);
       }
 
--- what the key writer writes is accepted, and reads back as what it was written from
-pub written-reads-back : (room : ℕ) (ts order first second : List ℕ) → length ts ≡ 8 → length order ≡ 8 → length first ≡ 57 → length second ≡ 57
-    → firstNo (keyWriterQuestions room ts order first second) ≡ 0 → Holds (keyFile ts order first second) ts order first second
-written-reads-back room ts order first second l m n o e =
-    let w = writable room ts order first second e in
-    let size : Sizes ts order first second = record { ts-size = l; order-size = m; first-size = n; second-size = o } in
-    let fit = parts w in
-    record {
-      answer = accepted-answers (keyFile ts order first second) (accepted-back ts order first second size fit w);
-      t-values = ts-back ts order first second size fit;
-      list = order-back ts order first second size fit;
-      first-entries = first-back ts order first second size fit;
-      second-entries = second-back ts order first second size fit;
-    }
+  -- the key that it holds
+  key-back : keyOf (keyFile ts order first second) ≡ keyHolding ts order first second
+  unfolding keyOf
+  key-back = λ i. keyHolding (ts-back i) (order-back i) (first-back i) (second-back i)
 
 -- ---- read and written back
 
@@ -128,13 +115,8 @@ module _ (file : List ℕ) (bytes : Below 256 file) (ok : Accepted file) where
       (ap₂ (λ (x r : List ℕ). x ++ r) first-again (ap₂ (λ (x r : List ℕ). x ++ r) order-again second-again))
       ∙ sym in-parts
 
--- what is read from an accepted file of bytes is written back as that file
-pub read-writes-back : (file : List ℕ) → ((k : ℕ) → getD file k 0 < 256) → keyAnswer file ≡ 0
-    → keyFile (tValues file) (labels file) (entries (firstBytes file)) (entries (secondBytes file)) ≡ file
-read-writes-back file bytes e = again file bytes (accepted file e)
-
--- and the key writer's questions are passed by it
-pub read-is-writable : (room : ℕ) (file : List ℕ) → 83 ≤ room → keyAnswer file ≡ 0
+-- the key writer's questions are passed by what is read
+read-is-writable : (room : ℕ) (file : List ℕ) → 83 ≤ room → keyAnswer file ≡ 0
     → firstNo (keyWriterQuestions room (tValues file) (labels file) (entries (firstBytes file)) (entries (secondBytes file))) ≡ 0
 read-is-writable room file h e =
     let ok = accepted file e in
@@ -143,3 +125,59 @@ read-is-writable room file h e =
       le-leb 83 room h,
       (and-both (and-both (t-values-elements file) (all (firstBytes file))) (all (secondBytes file)), (ok .no-zero, (ok .ones, (ok .order, tt)))),
     )
+
+-- ---- what the operations give
+
+-- on answer 0 a file of 83 bytes stands in the output's first 83, and the rest is as it was
+module _ {questions : List Question} {file before after : List ℕ} {answer : ℕ} (w : WroteKey questions file before after answer) (z : firstNo questions ≡ 0) (l : length file ≡ 83) where
+  output : after ≡ overlaid file before
+  output = w .output-is ∙ granted-zero (overlaid file before) before z
+
+  output-file : take 83 after ≡ file
+  output-file = ap₂ (λ (n : ℕ) (xs : List ℕ). take n xs) (sym l) output ∙ take-overlaid file before
+
+  output-rest : drop 83 after ≡ drop 83 before
+  output-rest =
+      ap₂ (λ (n : ℕ) (xs : List ℕ). drop n xs) (sym l) output
+      ∙ drop-overlaid file before
+      ∙ ap (λ (n : ℕ). drop n before) l
+
+-- where the key writer answers 0, the key reader, on the first 83 bytes of its output, answers 0 and gives the T-values, the list and the matrices that
+-- were written
+pub written-reads-back : (ts order first second : List ℕ) → Sizes ts order first second
+    → {before after : List ℕ} {answer answer′ : ℕ} {key : Key}
+    → WroteKey (keyWriterQuestions (length before) ts order first second) (keyFile ts order first second) before after answer → answer ≡ 0
+    → ReadsKey (take 83 after) answer′ key
+    → (answer′ ≡ 0) × (key ≡ keyHolding ts order first second)
+written-reads-back ts order first second size {before} {after} w z r =
+    let asked : firstNo (keyWriterQuestions (length before) ts order first second) ≡ 0 = sym (w .answer-is) ∙ z in
+    let ok = writable (length before) ts order first second asked in
+    let fit = parts ok in
+    let file : take 83 after ≡ keyFile ts order first second = output-file w asked (key-file-size ts order first second) in
+    let e : keyAnswer (take 83 after) ≡ 0 =
+    ap keyAnswer file ∙ accepted-answers (keyFile ts order first second) (accepted-back ts order first second size fit ok) in
+    (r .answer-is ∙ e, r .key-is ∙ granted-zero (keyOf (take 83 after)) zeroKey e ∙ ap keyOf file ∙ key-back ts order first second size fit)
+
+-- where the key reader answers 0 on a file of bytes, the key writer, on what it gave, with the entries that a file has of its matrices, and an output of
+-- at least 83 bytes, answers 0 and leaves the file's own bytes in the output's first 83, the rest as it was
+pub read-writes-back : (file : List ℕ) → ((k : ℕ) → getD file k 0 < 256)
+    → {answer answer′ : ℕ} {key : Key} → ReadsKey file answer key → answer ≡ 0
+    → {first second before after : List ℕ} → first ≡ fileEntries (key .pair .matrix) → second ≡ fileEntries (key .second) → 83 ≤ length before
+    → WroteKey (keyWriterQuestions (length before) (key .«t_values») (key .pair .labels) first second) (keyFile (key .«t_values») (key .pair .labels) first second) before after answer′
+    → (answer′ ≡ 0) × (take 83 after ≡ file) × (drop 83 after ≡ drop 83 before)
+unfolding keyOf
+read-writes-back file bytes {key = key} r z {first} {second} {before} {after} ef es room w =
+    let e : keyAnswer file ≡ 0 = sym (r .answer-is) ∙ z in
+    let held : key ≡ keyOf file = r .key-is ∙ granted-zero (keyOf file) zeroKey e in
+    let t : key .«t_values» ≡ tValues file = ap (λ (k : Key). k .«t_values») held in
+    let o : key .pair .labels ≡ labels file = ap (λ (k : Key). k .pair .labels) held in
+    let f : first ≡ entries (firstBytes file) =
+    ef ∙ ap (λ (k : Key). fileEntries (k .pair .matrix)) held ∙ entries-whole (entries (firstBytes file)) (entries-size (firstBytes file)) in
+    let s : second ≡ entries (secondBytes file) =
+    es ∙ ap (λ (k : Key). fileEntries (k .second)) held ∙ entries-whole (entries (secondBytes file)) (entries-size (secondBytes file)) in
+    let asked : firstNo (keyWriterQuestions (length before) (key .«t_values») (key .pair .labels) first second) ≡ 0 =
+    (λ i. firstNo (keyWriterQuestions (length before) (t i) (o i) (f i) (s i))) ∙ read-is-writable (length before) file room e in
+    let same : keyFile (key .«t_values») (key .pair .labels) first second ≡ file =
+    (λ i. keyFile (t i) (o i) (f i) (s i)) ∙ again file bytes (accepted file e) in
+    let size : length (keyFile (key .«t_values») (key .pair .labels) first second) ≡ 83 = key-file-size (key .«t_values») (key .pair .labels) first second in
+    (w .answer-is ∙ asked, output-file w asked size ∙ same, output-rest w asked size)

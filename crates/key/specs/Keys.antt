@@ -7,9 +7,9 @@ use mathlib.Core.List.{List, [], _∷_, _++_}
 use lib.Dec.{leb, eqb}
 use lib.ListN.{length, take, drop, getD, replicate}
 use Rattle.base.specs.Questions.{Question, _else_, firstNo, granted}
-use Rattle.base.specs.Lists.{overlaid}
+use Rattle.base.specs.Lists.{values, overlaid}
 use Rattle.base.specs.Digits.{value, digits, part}
-use Rattle.action.specs.Layout.{matrixOf}
+use Rattle.action.specs.Layout.{entry, matrixOf}
 use Rattle.action.specs.Action.{pairOf}
 use Rattle.action.specs.Multiplier.{elements, nonzero, isOrder, zeroPair}
 use Rattle.key.specs.declared.Key.{Key}
@@ -48,6 +48,10 @@ secondBytes file = part 47 36 file
 unfoldable pub wholeMatrix : List ℕ → List ℕ
 wholeMatrix es = matrixOf (λ r c. getD (take 56 es ++ (replicate 7 0 ++ drop 56 es)) (8 * r + c) 0)
 
+-- the 57 entries that a file has of a matrix: rows 1 to 7 whole, then the last entry of row 8
+unfoldable pub fileEntries : List ℕ → List ℕ
+fileEntries m = values (λ k. entry m (k / 8) (k % 8)) 56 ++ (entry m 7 7 ∷ [])
+
 -- Are the first two T-values 1?
 abbrev pub startsWithOnes : List ℕ → Bool
 startsWithOnes ts = eqb (getD ts 0 0) 1 && eqb (getD ts 1 0) 1
@@ -67,14 +71,14 @@ keyQuestions file =
 unfoldable pub keyAnswer : List ℕ → ℕ
 keyAnswer file = firstNo (keyQuestions file)
 
--- the key that a file holds: T-values, the pair Pub(S), the matrix of Pub(S')
+-- the key of T-values, a list and the 57 entries of each matrix: T-values, the pair Pub(S), the matrix of Pub(S')
+abbrev pub keyHolding : List ℕ → List ℕ → List ℕ → List ℕ → Key
+keyHolding ts order first second =
+    record { «t_values» = ts; pair = pairOf (wholeMatrix first) order; second = wholeMatrix second }
+
+-- the key that a file holds
 unfoldable pub keyOf : List ℕ → Key
-keyOf file =
-    record {
-      «t_values» = tValues file;
-      pair = pairOf (wholeMatrix (entries (firstBytes file))) (labels file);
-      second = wholeMatrix (entries (secondBytes file));
-    }
+keyOf file = keyHolding (tValues file) (labels file) (entries (firstBytes file)) (entries (secondBytes file))
 
 -- the key of a refusal
 unfoldable pub zeroKey : Key

@@ -1,7 +1,7 @@
 // Key files: 83 bytes of N, q, eight T-values, the matrix of Pub(S), its list and the matrix of Pub(S'), read and written.
 ghost use mathlib.Core.Path.{_≡_};
 ghost use lib.ListN.{length};
-ghost use Rattle.key.specs.Keys.{keyOf, zeroKey, ReadsKey, keyFile, keyWriterQuestions, WroteKey};
+ghost use Rattle.key.specs.Keys.{fileEntries, keyOf, zeroKey, ReadsKey, keyFile, keyWriterQuestions, WroteKey};
 
 mod pack; // pack.rt: digits regrouped
 mod read; // read.rt: the parts of a key file, and its questions
@@ -84,4 +84,18 @@ pub fn write_key(
     let file = write::file(t_values, labels, first, second);
     base::put(out, &file);
     0
+}
+
+// The 57 entries that a key file has of a matrix, as the key writer takes them: rows 1 to 7 whole, then the last entry of row 8.
+pub fn file_entries(matrix: &[u8; 64]) -> [u8; 57]
+    ensures { λ r. ⌜ r ≡ fileEntries (now (matrix .entry)) ⌝ }
+{
+    let mut entries = [0u8; 57];
+    let mut k = 0;
+    while k < 56 {
+        entries[k] = action::entry(matrix, k / 8, k % 8);
+        k += 1;
+    }
+    entries[56] = action::entry(matrix, 7, 7);
+    entries
 }

@@ -1,4 +1,4 @@
--- Laws of the exponent sum: letters counted in two words in a row, and differences of natural numbers as integers.
+-- Laws of the exponent sum: letters counted in two words in a row, and differences of natural numbers as integers; and its value on two words.
 -- Assumes nothing.
 use Prim.Native.Nat.{ℕ, zero, suc, _+_}
 use mathlib.Core.Path.{_≡_, refl, sym, ap, ap₂, _∙_}
@@ -13,7 +13,7 @@ use lib.IntN.{ℤ, pos, negℤ, sucℤ, predℤ, _+ℤ_, _-ℤ_, sucℤ-+ℤ, +�
 use Rattle.braid.specs.Letters.{isLetter, isPositive, isInverse, opposite}
 use Rattle.braid.proofs.LetterLaws.{letter-cases, opposite-letter}
 use Rattle.action.proofs.BraidRelations.{opposite-sign}
-use Rattle.moves.specs.Exponent.{tally}
+use Rattle.moves.specs.Exponent.{tally, exponentSum}
 
 -- ---- differences
 
@@ -88,3 +88,15 @@ tally-cancelled c e =
         → cond (not b) (suc (cond (not (not b)) 1 0)) (cond (not (not b)) 1 0) ≡ cond b (suc (cond (not b) 1 0)) (cond (not b) 1 0)
     go true = refl
     go false = refl
+
+-- ---- its value
+
+-- b1 b6 b7 has three positive letters and no inverse one: 3
+pub positive-value : exponentSum (0 ∷ 5 ∷ 6 ∷ []) ≡ pos 3
+unfolding tally exponentSum
+positive-value = refl
+
+-- b1⁻¹ b7⁻¹ b4 b2⁻¹ has one positive letter and three inverse ones: 2 below zero
+pub value-below-zero : exponentSum (8 ∷ 14 ∷ 3 ∷ 9 ∷ []) ≡ negℤ (pos 2)
+unfolding tally exponentSum
+value-below-zero = refl

@@ -9,7 +9,7 @@ use native.Mathlib.Omega.{arith}
 use lib.ListN.{length, take}
 use Rattle.base.specs.Questions.{Question, firstNo}
 use Rattle.field.specs.Gf32.{gf32}
-use Rattle.field.proofs.Field.{gf32-field}
+use Rattle.field.proofs.Fields.{gf32-field}
 use Rattle.braid.specs.Words.{codes, wordQuestions, wordAnswer, wordFile, roomQuestion, Wrote}
 use Rattle.braid.proofs.ReadLaws.{accepted-number, accepted-length, accepted-letters, length-codes}
 use Rattle.braid.proofs.RoundTrip.{wordFile-accepted, codes-wordFile, wrote-file}

@@ -3,7 +3,8 @@ use Prim.Native.Nat.{ℕ, _+_, _-_, _/_, _%_, _≤_, _<_, min}
 use native.Mathlib.Nat.{min-eq-left, min-eq-right, div-one}
 use native.Mathlib.Decide.{decLe}
 use native.Mathlib.Omega.{arith}
-use mathlib.Core.Path.{_≡_, sym, ap, _∙_}
+use mathlib.Core.Path.{_≡_, sym, ap, subst, _∙_}
+use mathlib.Core.Bool.{Bool, true, false, _&&_}
 use mathlib.Core.List.{List, [], _∷_, _++_}
 use borrow.Author.Tests.{lt-ltb, le-ltb}
 use lib.ListN.{length, take, drop, replicate, length-append, length-take, length-drop, drop-of-length-le}
@@ -12,7 +13,8 @@ use Rattle.base.specs.Digits.{digits, part}
 use Rattle.base.specs.Lists.{overlaid}
 use Rattle.base.proofs.ListLaws.{take-overlaid}
 use Rattle.verify.specs.Verdict.{verdict}
-use Rattle.slip.specs.Desk.{deskVerdict, answerLine, answerWord, decimal, places, Tells}
+use Rattle.slip.specs.Desk.{deskVerdict, answerLine, answerWord, decimal, places, filesLine, Tells}
+use Rattle.slip.specs.declared.Got.{Got}
 
 take-least : (n : ℕ) (xs : List ℕ) → take (min n (length xs)) xs ≡ take n xs
 take-least n xs = go (decLe n (length xs))
@@ -48,17 +50,37 @@ pub judged-parts : {k d w : List ℕ} (input : List ℕ) → k ≡ part 0 83 inp
 unfolding deskVerdict
 judged-parts input p q r = λ i. verdict (p i) (q i) (r i)
 
-pub told : {n bytes : ℕ} {text : List ℕ} (l : List ℕ) → answerLine n ≡ l → bytes ≡ length l → text ≡ overlaid l (replicate 11 0) → Tells n bytes text
+pub told : {written : List ℕ} {bytes : ℕ} {text : List ℕ} (l : List ℕ) → written ≡ l → bytes ≡ length l → text ≡ overlaid l (replicate 11 0)
+    → Tells written bytes text
 told l e b t = record { bytes-are = b ∙ sym (ap length e); text-is = t ∙ sym (ap (λ (x : List ℕ). overlaid x (replicate 11 0)) e) }
 
--- the bytes counted lie within the text, and are the answer's line
-module _ {n bytes : ℕ} {text : List ℕ} (t : Tells n bytes text) where
+-- the line on one input
+pub input-told : {read : List ℕ} {n bytes : ℕ} {text : List ℕ} (m : ℕ) (input : List ℕ) → read ≡ take m input → n ≡ deskVerdict read
+    → Tells (answerLine n) bytes text → Tells (answerLine (deskVerdict (take m input))) bytes text
+input-told m input r e t = rw (sym (e ∙ ap deskVerdict r)) t
+
+-- the line on three files, where all could be read and where one could not
+module _ (k d w : Got) (key digest word : List ℕ) where
+  pub files-read : {read : Bool} {a b c : List ℕ} {n bytes : ℕ} {text : List ℕ} → read ≡ k .read && d .read && w .read → read ≡ true
+      → a ≡ take (k .bytes) key → b ≡ take (d .bytes) digest → c ≡ take (w .bytes) word → n ≡ verdict a b c
+      → Tells (answerLine n) bytes text → Tells (filesLine k d w key digest word) bytes text
+  unfolding filesLine
+  files-read {bytes = bytes} {text = text} e t ke de we v s =
+      rw (sym e ∙ t) (subst (λ (n : ℕ). Tells (answerLine n) bytes text) (v ∙ (λ i. verdict (ke i) (de i) (we i))) s)
+
+  pub files-not-read : {read : Bool} {bytes : ℕ} {text : List ℕ} → read ≡ k .read && d .read && w .read → read ≡ false
+      → bytes ≡ 0 → text ≡ replicate 11 0 → Tells (filesLine k d w key digest word) bytes text
+  unfolding filesLine overlaid
+  files-not-read e t b x = told [] (rw (sym e ∙ t)) b x
+
+-- the bytes counted lie within the text, and are what is to be written
+module _ {written : List ℕ} {bytes : ℕ} {text : List ℕ} (t : Tells written bytes text) where
+  pub line-first : take bytes text ≡ written
+  line-first = rw (t .bytes-are, t .text-is) (take-overlaid written (replicate 11 0))
+
   pub line-within : bytes ≤ length text
   unfolding overlaid
   line-within = rw (t .bytes-are, t .text-is) (simp length-append (omega arith))
-
-  pub line-first : take bytes text ≡ answerLine n
-  line-first = rw (t .bytes-are, t .text-is) (take-overlaid (answerLine n) (replicate 11 0))
 
 pub one-digit : (n : ℕ) → n < 10 → answerLine n ≡ answerWord ++ ((48 + n % 10) ∷ 10 ∷ [])
 unfolding answerLine decimal places digits

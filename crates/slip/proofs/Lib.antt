@@ -1,1 +1,3 @@
 pub mod DeskLaws
+pub mod Enough
+pub mod WrongRooms

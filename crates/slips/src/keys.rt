@@ -12,12 +12,12 @@ pub(crate) fn plain() -> [u8; 83] {
     file
 }
 
-// The plain key with 16, 1, 16, 1 .. as its first matrix, and the list 7 to 0.
+// The plain key with 16 on the diagonal of its first matrix and 1 everywhere above it, and the list 7 to 0.
 fn turned() -> [u8; 83] {
     let mut file = plain();
     base::put(
         &mut file[8..],
-        b"\x80\x60\x18\x06\x01\x80\x60\x18\x06\x01\x80\x60\x18\x06\x01\x80\x60\x18\x06\x01\x80\x60\x18\x06\x01\x80\x60\x18\x06\x01\x80\x60\x18\x06\x01\x80\xFA\xC6\x88",
+        b"\x80\x42\x10\x84\x21\x04\x02\x10\x84\x21\x00\x20\x10\x84\x21\x00\x01\x00\x84\x21\x00\x00\x08\x04\x21\x00\x00\x00\x40\x21\x00\x00\x00\x02\x01\x80\xFA\xC6\x88",
     );
     file
 }
@@ -42,7 +42,10 @@ pub(crate) fn read() {
     let second = turned();
     io::write_all(1, b"plain key\n");
     show_key(&first);
-    io::write_all(1, b"key with 16, 1, .. and the list 7 to 0\n");
+    io::write_all(
+        1,
+        b"key with 16 on the diagonal, 1 above it, and the list 7 to 0\n",
+    );
     show_key(&second);
 }
 

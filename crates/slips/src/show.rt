@@ -1,5 +1,8 @@
 // Lines on standard output.
 use action::Pair;
+pub use print::choice;
+pub use print::hex;
+pub use print::number;
 
 // What an output holds before it is lent.
 pub const FILL: u8 = 0xAA;
@@ -15,38 +18,8 @@ pub(crate) fn head(name: &[u8], answer: u8) {
     io::print_decimal(1, wide(answer));
 }
 
-// A number in decimal.
-pub(crate) fn number(n: usize) {
-    io::write_all(1, b" ");
-    io::print_decimal(1, n as u64);
-}
-
-// A byte in hexadecimal.
-fn byte(x: u8) {
-    io::write_all(1, b" ");
-    io::print_hex(1, wide(x), 2);
-}
-
-// Bytes in hexadecimal.
-pub(crate) fn hex(bytes: &[u8]) {
-    let mut i = 0;
-    while i < bytes.len() {
-        byte(bytes[i]);
-        i += 1;
-    }
-}
-
 pub(crate) fn end() {
     io::write_all(1, b"\n");
-}
-
-// One of two texts.
-pub(crate) fn choice(first: bool, a: &[u8], b: &[u8]) {
-    if first {
-        io::write_all(1, a);
-    } else {
-        io::write_all(1, b);
-    }
 }
 
 // A line of a name, an answer and bytes.

@@ -1,7 +1,9 @@
--- Wrong verdicts are shut out by the definition: the empty word gets 0 under one accepted key and 14 under another, whatever the digest, so no
--- verdict is always 14, and none is always 0. Assumes nothing.
+-- Wrong verdicts are shut out by the definition: under the plain key and the digest of 32 zero bytes, 128 letters b7 get 0 and the empty word gets 14
+-- (document 01's slips), so no verdict is always 14, and none is always 0. The zero digest's braid is those 128 letters, so both sides of the first
+-- are one matrix; that this is not the identity, which the empty word leaves, is seen at one entry.
+-- Assumes nothing.
 use Prim.Native.Nat.{ℕ}
-use mathlib.Core.Path.{_≡_, refl, sym, ap, _∙_}
+use mathlib.Core.Path.{_≡_, refl, sym, ap, ap₂, _∙_}
 use mathlib.Core.Bool.{true}
 use mathlib.Core.List.{List, [], _∷_, _++_}
 use native.Mathlib.Omega.{arith}
@@ -12,29 +14,43 @@ use Rattle.base.specs.Lists.{valuesFrom, every, count, eachOnce}
 use Rattle.base.specs.Digits.{value, digits, halves}
 use Rattle.field.specs.Polynomial.{timesX, horner, times}
 use Rattle.field.specs.Gf32.{gf32}
+use Rattle.field.proofs.Fields.{gf32-field}
 use Rattle.braid.specs.Words.{codes, filler, wordAnswer}
 use Rattle.action.specs.Layout.{entry, matrixOf}
-use Rattle.action.specs.Action.{wordOn, sum, matrixProduct}
+use Rattle.action.specs.Action.{tValue, shareOf, rowAfter, swapped, letterOn, wordOn, identity, start, matrixProduct}
+use Rattle.action.specs.Good.{GoodPair}
+use Rattle.action.proofs.GoodLaws.{tested-pair}
+use Rattle.action.proofs.WordLaws.{word-good}
+use Rattle.action.proofs.ProductLaws.{product-identity}
 use Rattle.key.specs.Keys.{tValues, entries, fillerBits, labels, wholeMatrix, keyAnswer, keyOf}
+use Rattle.key.specs.declared.Key.{Key}
+use Rattle.digest.specs.Digest.{halfByteBraid, braidOf, encoded}
 use Rattle.verify.specs.Verdict.{signed, target, verdict}
 use Rattle.verify.proofs.VerdictIff.{equal-zero, unequal-14}
 
--- a key with T-values 1 1 2 3 4 5 6 7, a matrix for Pub(S), the list 0 to 7, and the zero matrix for Pub(S')
-abbrev pub keyWith : List ℕ → List ℕ
-keyWith matrix =
-    (0x08 ∷ 0x00 ∷ 0x20 ∷ 0x08 ∷ 0x44 ∷ 0x32 ∷ 0x14 ∷ 0xC7 ∷ [])
-    ++ (matrix ++ ((0x05 ∷ 0x39 ∷ 0x77 ∷ []) ++ replicate 36 0))
-
--- the zero matrix and the identity matrix in 36 bytes
-abbrev pub zeroMatrix : List ℕ
-zeroMatrix = replicate 36 0
-
-abbrev pub identityMatrix : List ℕ
-identityMatrix =
+-- the identity matrix in 36 bytes
+abbrev identityBytes : List ℕ
+identityBytes =
     0x08 ∷ 0x00 ∷ 0x00 ∷ 0x00 ∷ 0x00 ∷ 0x00 ∷ 0x40 ∷ 0x00 ∷ 0x00 ∷ 0x00 ∷ 0x00 ∷ 0x02
     ∷ 0x00 ∷ 0x00 ∷ 0x00 ∷ 0x00 ∷ 0x00 ∷ 0x10 ∷ 0x00 ∷ 0x00 ∷ 0x00 ∷ 0x00 ∷ 0x00 ∷ 0x80
     ∷ 0x00 ∷ 0x00 ∷ 0x00 ∷ 0x00 ∷ 0x04 ∷ 0x00 ∷ 0x00 ∷ 0x00 ∷ 0x00 ∷ 0x00 ∷ 0x20 ∷ 0x08
     ∷ []
+
+-- the plain key: T-values 1 1 2 3 4 5 6 7, the list 0 to 7, both matrices the identity
+abbrev pub plainKey : List ℕ
+plainKey =
+    (0x08 ∷ 0x00 ∷ 0x20 ∷ 0x08 ∷ 0x44 ∷ 0x32 ∷ 0x14 ∷ 0xC7 ∷ [])
+    ++ (identityBytes ++ ((0x05 ∷ 0x39 ∷ 0x77 ∷ []) ++ identityBytes))
+
+abbrev plain : List ℕ
+plain = 1 ∷ 1 ∷ 2 ∷ 3 ∷ 4 ∷ 5 ∷ 6 ∷ 7 ∷ []
+
+-- 128 letters b7, in a file and as codes
+abbrev pub sevens : List ℕ
+sevens = 0x00 ∷ 0x80 ∷ replicate 64 0x66
+
+abbrev sevenCodes : List ℕ
+sevenCodes = replicate 128 6
 
 abbrev pub emptyWord : List ℕ
 emptyWord = 0x00 ∷ 0x00 ∷ []
@@ -43,44 +59,70 @@ abbrev pub zeroDigest : List ℕ
 zeroDigest = replicate 32 0
 
 -- all are accepted
-zero-accepted : keyAnswer (keyWith zeroMatrix) ≡ 0
+key-accepted : keyAnswer plainKey ≡ 0
 unfolding firstNo valuesFrom every count eachOnce value digits tValues entries fillerBits labels keyAnswer
-zero-accepted = refl
+key-accepted = refl
 
-identity-accepted : keyAnswer (keyWith identityMatrix) ≡ 0
-unfolding firstNo valuesFrom every count eachOnce value digits tValues entries fillerBits labels keyAnswer
-identity-accepted = refl
+sevens-accepted : wordAnswer sevens ≡ 0
+unfolding firstNo every value codes filler halves wordAnswer
+sevens-accepted = refl
 
 empty-accepted : wordAnswer emptyWord ≡ 0
 unfolding firstNo every value codes filler halves wordAnswer
 empty-accepted = refl
 
--- what the empty word reaches, and what it has to reach: anything times the zero matrix
-zero-signed : signed gf32 (keyOf (keyWith zeroMatrix)) (codes emptyWord) ≡ replicate 64 0
-unfolding valuesFrom value digits halves codes matrixOf wordOn tValues entries labels wholeMatrix keyOf signed
-zero-signed = refl
+-- what they hold
+key-is : keyOf plainKey ≡ record { «t_values» = plain; pair = start; second = identity }
+unfolding valuesFrom value digits matrixOf tValues entries labels wholeMatrix keyOf identity start
+key-is = refl
 
-identity-signed : getD (signed gf32 (keyOf (keyWith identityMatrix)) (codes emptyWord)) 0 0 ≡ 1
-unfolding valuesFrom value digits halves codes matrixOf wordOn tValues entries labels wholeMatrix keyOf signed
-identity-signed = refl
+sevens-are : codes sevens ≡ sevenCodes
+unfolding value halves codes
+sevens-are = refl
 
-zero-target : (digest : List ℕ) → target gf32 (keyOf (keyWith zeroMatrix)) digest ≡ replicate 64 0
-unfolding valuesFrom value digits timesX horner times entry matrixOf sum matrixProduct tValues entries wholeMatrix keyOf target
-zero-target digest = refl
+encoded-is : encoded zeroDigest ≡ sevenCodes
+unfolding halves halfByteBraid braidOf encoded valuesFrom
+encoded-is = refl
 
-identity-target : (digest : List ℕ) → target gf32 (keyOf (keyWith identityMatrix)) digest ≡ replicate 64 0
-unfolding valuesFrom value digits timesX horner times entry matrixOf sum matrixProduct tValues entries wholeMatrix keyOf target
-identity-target digest = refl
+-- the matrix that 128 letters b7 reach from the identity
+abbrev reached : List ℕ
+reached = wordOn gf32 plain sevenCodes start .matrix
 
-module _ (digest : List ℕ) (d : length digest ≡ 32) where
-  pub empty-word-0 : verdict (keyWith zeroMatrix) digest emptyWord ≡ 0
-  empty-word-0 =
-      equal-zero (keyWith zeroMatrix) digest emptyWord zero-accepted d empty-accepted (zero-signed ∙ sym (zero-target digest))
+-- its entry in row 7 and column 7, where the identity has 1
+corner : entry reached 6 6 ≡ 9
+unfolding identity start entry matrixOf valuesFrom tValue shareOf rowAfter swapped letterOn wordOn times horner timesX
+corner = refl
 
-  pub empty-word-14 : verdict (keyWith identityMatrix) digest emptyWord ≡ 14
-  empty-word-14 =
-      unequal-14 (keyWith identityMatrix) digest emptyWord identity-accepted d empty-accepted
-      (λ e. omega (arith, identity-signed, ap (λ (m : List ℕ). getD m 0 0) (e ∙ identity-target digest)))
+one-there : entry identity 6 6 ≡ 1
+unfolding identity entry matrixOf valuesFrom
+one-there = refl
+
+-- both sides: the word's letters reach it from Pub(S), and the digest's reach it from the identity; times the identity it stays as it is
+sevens-signed : signed gf32 (keyOf plainKey) (codes sevens) ≡ reached
+unfolding signed
+sevens-signed = ap₂ (λ (k : Key) (w : List ℕ). wordOn gf32 (k .«t_values») w (k .pair) .matrix) key-is sevens-are
+
+empty-signed : signed gf32 (keyOf plainKey) (codes emptyWord) ≡ identity
+unfolding signed wordOn value halves codes start
+empty-signed = ap (λ (k : Key). k .pair .matrix) key-is
+
+good : GoodPair gf32 (wordOn gf32 plain sevenCodes start)
+unfolding every valuesFrom count eachOnce identity start matrixOf
+good = word-good gf32-field plain sevenCodes start refl (tested-pair start refl refl refl refl)
+
+zero-target : target gf32 (keyOf plainKey) zeroDigest ≡ reached
+unfolding target
+zero-target =
+    ap₂ (λ (k : Key) (w : List ℕ). matrixProduct gf32 (wordOn gf32 (k .«t_values») w start .matrix) (k .second)) key-is encoded-is
+    ∙ product-identity gf32-field reached (record { size = good .entries; below = good .entry-below })
+
+pub sevens-0 : verdict plainKey zeroDigest sevens ≡ 0
+sevens-0 = equal-zero plainKey zeroDigest sevens key-accepted refl sevens-accepted (sevens-signed ∙ sym zero-target)
+
+pub empty-word-14 : verdict plainKey zeroDigest emptyWord ≡ 14
+empty-word-14 =
+    unequal-14 plainKey zeroDigest emptyWord key-accepted refl empty-accepted
+    (λ e. omega (arith, one-there, corner, ap (λ (m : List ℕ). entry m 6 6) (sym empty-signed ∙ e ∙ zero-target)))
 
 -- ---- wrong verdicts
 
@@ -92,12 +134,8 @@ module _ (f : (key digest word : List ℕ) → ℕ)
     (right : (key digest word : List ℕ) → Bytes key → Bytes digest → Bytes word → f key digest word ≡ verdict key digest word) where
   pub no-always-14 : ((key digest word : List ℕ) → f key digest word ≡ 14) → ⊥
   unfolding every
-  no-always-14 wrong =
-      let key = keyWith zeroMatrix in
-      omega (arith, wrong key zeroDigest emptyWord, right key zeroDigest emptyWord refl refl refl, empty-word-0 zeroDigest refl)
+  no-always-14 wrong = omega (arith, wrong plainKey zeroDigest sevens, right plainKey zeroDigest sevens refl refl refl, sevens-0)
 
   pub no-always-0 : ((key digest word : List ℕ) → f key digest word ≡ 0) → ⊥
   unfolding every
-  no-always-0 wrong =
-      let key = keyWith identityMatrix in
-      omega (arith, wrong key zeroDigest emptyWord, right key zeroDigest emptyWord refl refl refl, empty-word-14 zeroDigest refl)
+  no-always-0 wrong = omega (arith, wrong plainKey zeroDigest emptyWord, right plainKey zeroDigest emptyWord refl refl refl, empty-word-14)

@@ -7,7 +7,7 @@ ghost use Rattle.braid.specs.Words.{codes, wordFile, writerQuestions, Read, Wro
 ghost use Rattle.braid.specs.Reduction.{reduced, reducerQuestions};
 ghost use Rattle.action.specs.Action.{start};
 ghost use Rattle.lent.specs.Lent.{Lends};
-ghost use Rattle.key.specs.Keys.{ReadsKey, keyFile, keyWriterQuestions, WroteKey};
+ghost use Rattle.key.specs.Keys.{fileEntries, ReadsKey, keyFile, keyWriterQuestions, WroteKey};
 ghost use Rattle.digest.specs.Digest.{encoded, encoderQuestions};
 ghost use Rattle.verify.specs.Verdict.{verdict};
 ghost use Rattle.verify.specs.Cloaking.{Cloaks};
@@ -75,6 +75,14 @@ pub extern "C" fn walnut_read_key(file: &[u8]) -> KeyRead
         pair,
         second,
     }
+}
+
+// The entries as the key writer takes them.
+#[no_mangle]
+pub extern "C" fn walnut_file_entries(matrix: &[u8; 64], entries: &mut [u8; 57])
+    ensures { λ _. ⌜ now (entries .exit) ≡ fileEntries (now (matrix .entry)) ⌝ }
+{
+    *entries = key::file_entries(matrix);
 }
 
 #[no_mangle]

@@ -6,7 +6,7 @@
 
 use crate::digest::digest_braid;
 use crate::field::{inverse, times};
-use crate::key::{write_key, Entries, KEY_BYTES, PACKED_ENTRIES};
+use crate::key::{file_entries, write_key, Entries, KEY_BYTES, PACKED_ENTRIES};
 use crate::matrix::{at, identity, matrix_product, Matrix};
 use crate::pair::{carried, start, Pair, TValues};
 use crate::testkit::Random;
@@ -19,14 +19,6 @@ pub type Digest = [u8; 32];
 /// Has the matrix the shape of a key's: is row 8 zero but for its last entry?
 pub fn has_key_shape(matrix: &Matrix) -> bool {
     (1..STRANDS).all(|column| matrix[at(STRANDS, column)] == 0)
-}
-
-/// The entries of a matrix in the shape of a key's, as a key file holds them.
-pub fn entries(matrix: &Matrix) -> Entries {
-    let mut entries = [0; PACKED_ENTRIES];
-    entries[..PACKED_ENTRIES - 1].copy_from_slice(&matrix[..PACKED_ENTRIES - 1]);
-    entries[PACKED_ENTRIES - 1] = matrix[at(STRANDS, STRANDS)];
-    entries
 }
 
 /// The matrix in the shape of a key's with these entries.
@@ -90,7 +82,8 @@ pub struct Slip {
 pub fn key_file(t_values: &TValues, pair: &Pair, second: &Matrix) -> Vec<u8> {
     assert!(has_key_shape(&pair.matrix) && has_key_shape(second), "row 8 does not fit a key file");
     let mut file = vec![0; KEY_BYTES];
-    let answer = write_key(t_values, &pair.labels, &entries(&pair.matrix), &entries(second), &mut file);
+    let (first, second) = (file_entries(&pair.matrix), file_entries(second));
+    let answer = write_key(t_values, &pair.labels, &first, &second, &mut file);
     assert_eq!(answer, 0, "the key writer refuses");
     file
 }
@@ -115,9 +108,16 @@ impl Random {
         }
     }
 
-    /// An accepted slip of this word under a random key, with or without an inverse of its matrix.
+    /// A key file without faults, not made for any slip. Both matrices have an inverse.
+    pub fn invertible_key(&mut self) -> Vec<u8> {
+        let second = self.invertible_key_pair().matrix;
+        key_file(&self.key_t_values(), &self.invertible_key_pair(), &second)
+    }
+
+    /// An accepted slip of this word under a random key. The matrix of Pub(S) has an inverse, and so has that of
+    /// Pub(S'), which is solved for.
     pub fn accepted_slip(&mut self, digest: &Digest, codes: &[u8]) -> Slip {
-        let pair = if self.one_in(4) { self.key_pair() } else { self.invertible_key_pair() };
+        let pair = self.invertible_key_pair();
         accepted_slip(&self.key_t_values(), &pair, digest, codes)
     }
 }

@@ -2,7 +2,7 @@
 
 use reference::key::Entries;
 use reference::pair::{Labels, TValues};
-use reference::{Cloak, Element, Key, Pair, Word, Written};
+use reference::{Cloak, Element, Key, Matrix, Pair, Word, Written};
 
 use crate::ffi;
 use crate::paper::Operation;
@@ -20,6 +20,7 @@ pub struct Interface {
     start: fn() -> Pair,
     multiply: fn(&mut Pair, &TValues, u8) -> u8,
     read_key: fn(&[u8]) -> Key,
+    file_entries: fn(&Matrix, &mut Entries),
     write_key: WriteKey,
     read_word: fn(&[u8]) -> Word,
     write_word: fn(&[u8], &mut [u8]) -> Written,
@@ -36,6 +37,7 @@ pub const REFERENCE: Interface = Interface {
     start: reference::start,
     multiply: reference::multiply,
     read_key: reference::read_key,
+    file_entries: |matrix, entries| *entries = reference::file_entries(matrix),
     write_key: reference::write_key,
     read_word: reference::read_word,
     write_word: reference::write_word,
@@ -52,6 +54,7 @@ pub const LIBRARY: Interface = Interface {
     start: ffi::start,
     multiply: ffi::multiply,
     read_key: ffi::read_key,
+    file_entries: ffi::file_entries,
     write_key: ffi::write_key,
     read_word: ffi::read_word,
     write_word: ffi::write_word,
@@ -68,7 +71,7 @@ pub struct Input {
     pub operation: Operation,
     /// The bytes of each part, as [`Operation::parts`] lists them.
     pub parts: Vec<Vec<u8>>,
-    /// The bytes of the output, for a writer; 0 otherwise.
+    /// The bytes of the output; 0 without one.
     pub room: usize,
     /// What the output's bytes are made of before the call.
     pub fill: u8,
@@ -149,6 +152,14 @@ impl Input {
         Outcome { answer, number: 0, bytes }
     }
 
+    /// Lends the output to what takes the entries of a matrix.
+    fn entries_taken(&self, take: fn(&Matrix, &mut Entries)) -> Outcome {
+        let mut bytes = self.lent();
+        let out = (&mut bytes[GUARD..GUARD + self.room]).try_into().expect("a fixed output keeps its length");
+        take(&fixed(&self.parts[0]), out);
+        Outcome { answer: 0, number: 0, bytes }
+    }
+
     /// Lends the pair to the multiplier.
     fn multiplied(&self, multiply: fn(&mut Pair, &TValues, u8) -> u8) -> Outcome {
         let [matrix, labels, t_values, letter] = &self.parts[..] else { unreachable!("four parts") };
@@ -166,6 +177,7 @@ impl Input {
             Operation::Start => Outcome { answer: 0, number: 0, bytes: pair_bytes(&(functions.start)()) },
             Operation::Multiply => self.multiplied(functions.multiply),
             Operation::ReadKey => (functions.read_key)(part(0)).into(),
+            Operation::FileEntries => self.entries_taken(functions.file_entries),
             Operation::WriteKey => self.key_written(functions.write_key),
             Operation::ReadWord => (functions.read_word)(part(0)).into(),
             Operation::WriteWord => self.word_written(|out| (functions.write_word)(part(0), out)),

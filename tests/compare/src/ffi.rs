@@ -3,7 +3,7 @@
 
 use reference::key::Entries;
 use reference::pair::{Labels, TValues};
-use reference::{Cloak, Element, Key, Pair, Word, Written};
+use reference::{Cloak, Element, Key, Matrix, Pair, Word, Written};
 use walnut::exported::*;
 
 fn pair_of(pair: walnut::Pair) -> Pair {
@@ -46,6 +46,11 @@ pub fn read_key(file: &[u8]) -> Key {
     // SAFETY: see above.
     let key = unsafe { walnut_read_key(file.as_ptr(), file.len()) };
     Key { answer: key.answer, t_values: key.t_values, pair: pair_of(key.pair), second: key.second }
+}
+
+pub fn file_entries(matrix: &Matrix, entries: &mut Entries) {
+    // SAFETY: see above.
+    unsafe { walnut_file_entries(matrix.as_ptr(), entries.as_mut_ptr()) }
 }
 
 pub fn write_key(

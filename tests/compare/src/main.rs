@@ -1,39 +1,52 @@
-//! Compares a library that has the exported interface with the reference, on seeded inputs.
+//! Compares a library that has the exported interface, and the programs over it, with the reference: first on the
+//! papers' slips, whose results are typed, then on seeded inputs.
 //!
-//! `compare [--seed N] [--cases N]`: the seed of all that is drawn, and the number of random cases that follow
-//! the fixed ones. On a difference it prints the smallest input found that shows it, and exits with 1. The
-//! last line of a run without one says how many cases of each operation were compared.
+//! `compare [--seed N] [--cases N] [--programs FOLDER]`: the seed of all that is drawn, the number of random cases that
+//! follow the systematic ones, and where the programs are, which are not run without it. On a difference it prints
+//! the smallest input found that shows it, and exits with 1. The last lines of a run without one say how many cases
+//! were compared, of each operation and of each program.
 
 mod case;
 mod ffi;
+mod fixed;
 mod make;
 mod paper;
 mod plan;
+mod programs;
 mod show;
 mod shrink;
 mod tally;
 
 use std::env;
+use std::path::PathBuf;
 use std::process::ExitCode;
 
+use reference::testkit::Random;
+
 use case::{Case, Input, LIBRARY, REFERENCE};
+use make::Maker;
 use plan::{differs, Failure, Run};
 
 /// What the command line sets.
 struct Options {
     seed: u64,
     cases: usize,
+    programs: Option<PathBuf>,
 }
+
+const USAGE: &str = "use: compare [--seed N] [--cases N] [--programs FOLDER]";
 
 /// The options of the command line; an account of what is wrong with them otherwise.
 fn options(mut arguments: impl Iterator<Item = String>) -> Result<Options, String> {
-    let mut options = Options { seed: 1, cases: 100_000 };
+    let mut options = Options { seed: 1, cases: 100_000, programs: None };
     while let Some(name) = arguments.next() {
-        let number = arguments.next().and_then(|text| text.parse::<u64>().ok());
-        match (name.as_str(), number) {
-            ("--seed", Some(number)) => options.seed = number,
-            ("--cases", Some(number)) => options.cases = number as usize,
-            _ => return Err(format!("{name} is not understood; use: compare [--seed N] [--cases N]")),
+        let text = arguments.next().ok_or(format!("{name} wants a value; {USAGE}"))?;
+        let number = || text.parse::<u64>().map_err(|_| format!("{name}: {text} is no number; {USAGE}"));
+        match name.as_str() {
+            "--seed" => options.seed = number()?,
+            "--cases" => options.cases = number()? as usize,
+            "--programs" => options.programs = Some(PathBuf::from(text)),
+            _ => return Err(format!("{name} is not understood; {USAGE}")),
         }
     }
     Ok(options)
@@ -61,14 +74,20 @@ fn print_unexpected(case: &Case) {
     println!("  expected: answer {}", case.expected.unwrap_or_default());
 }
 
+/// Prints a key writing that does not give back the file that it was read from.
+fn print_not_back(input: &Input) {
+    println!("library and reference agree, but a key that was read is not written back as its own bytes:");
+    print!("{}", show::input(input));
+}
+
 /// Runs the plan, and gives whether all is well.
-fn run(options: &Options) -> bool {
-    println!("seed {}", options.seed);
+fn run_plan(options: &Options) -> bool {
     let mut run = Run::new(options.seed);
     if let Err(failure) = run.whole(options.cases) {
         match *failure {
             Failure::Differs(input) => print_difference(input),
             Failure::Unexpected(case) => print_unexpected(&case),
+            Failure::NotBack(input) => print_not_back(&input),
         }
         return false;
     }
@@ -80,13 +99,35 @@ fn run(options: &Options) -> bool {
     gaps.is_empty()
 }
 
+/// Runs the fixed cases, then the plan, then the programs, as far as all is well.
+fn run(options: &Options) -> Result<bool, String> {
+    println!("fixed cases that hold of library and reference: {}", fixed::check()?);
+    println!("seed {}", options.seed);
+    if !run_plan(options) {
+        return Ok(false);
+    }
+    let Some(folder) = &options.programs else { return Ok(true) };
+    let mut maker = Maker { random: Random::seeded(options.seed) };
+    for line in programs::check(folder, &mut maker)? {
+        println!("{line}");
+    }
+    Ok(true)
+}
+
 fn main() -> ExitCode {
-    match options(env::args().skip(1)) {
-        Ok(options) if run(&options) => ExitCode::SUCCESS,
-        Ok(_) => ExitCode::from(1),
+    let options = match options(env::args().skip(1)) {
+        Ok(options) => options,
         Err(account) => {
             eprintln!("{account}");
-            ExitCode::from(2)
+            return ExitCode::from(2);
+        }
+    };
+    match run(&options) {
+        Ok(true) => ExitCode::SUCCESS,
+        Ok(false) => ExitCode::from(1),
+        Err(account) => {
+            print!("{account}");
+            ExitCode::from(1)
         }
     }
 }

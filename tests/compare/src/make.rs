@@ -44,10 +44,11 @@ impl Maker {
         }
     }
 
-    /// An input of these parts, with room enough for a writer.
+    /// An input of these parts, with room enough for an output.
     pub fn input(&mut self, operation: Operation, parts: Vec<Vec<u8>>) -> Input {
         let more = self.random.within(1, 100);
-        let room = operation.least_room().map_or(0, |least| least + self.random.pick(&[0, 1, more]));
+        let least = operation.least_room().map_or(0, |least| least + self.random.pick(&[0, 1, more]));
+        let room = operation.fixed_room().unwrap_or(least);
         Input { operation, parts, room, fill: self.random.byte() }
     }
 
@@ -64,8 +65,8 @@ impl Maker {
         }
     }
 
-    /// A key file without faults, not made for any slip.
-    fn key(&mut self) -> Vec<u8> {
+    /// A key file with any matrices, for the key reader alone.
+    pub fn any_key(&mut self) -> Vec<u8> {
         let second = self.random.key_pair().matrix;
         key_file(&self.random.key_t_values(), &self.random.key_pair(), &second)
     }
@@ -102,7 +103,11 @@ impl Maker {
             Operation::Reciprocal => vec![files::element(&mut self.random, faults)?],
             Operation::Start => vec![],
             Operation::Multiply => files::multiplier_parts(&mut self.random, faults),
-            Operation::ReadKey => vec![self.key_with(faults)],
+            Operation::ReadKey => {
+                let key = self.any_key();
+                vec![files::key(&mut self.random, &key, faults)]
+            }
+            Operation::FileEntries => vec![self.random.bytes(64)],
             Operation::WriteKey => files::key_parts(&mut self.random, faults),
             Operation::ReadWord | Operation::FreeReduce => vec![self.word_with(faults, size)],
             Operation::WriteWord => {
@@ -122,7 +127,7 @@ impl Maker {
     }
 
     fn key_with(&mut self, faults: &[u8]) -> Vec<u8> {
-        let key = self.key();
+        let key = self.random.invertible_key();
         files::key(&mut self.random, &key, faults)
     }
 
@@ -156,7 +161,11 @@ impl Maker {
         let mut slip = if faults.is_empty() || faults == [14] || self.random.one_in(20) {
             self.slip(&codes)
         } else {
-            Slip { key: self.key(), digest: self.digest().to_vec(), word: word_file(&codes) }
+            Slip {
+                key: self.random.invertible_key(),
+                digest: self.digest().to_vec(),
+                word: word_file(&codes),
+            }
         };
         if faults.contains(&14) {
             files::flip_second_matrix(&mut self.random, &mut slip.key);
@@ -209,7 +218,7 @@ impl Maker {
     pub fn blind(&mut self, operation: Operation) -> Input {
         let parts = operation.parts().iter().map(|part| self.blind_part(part.form)).collect();
         let mut input = self.input(operation, parts);
-        if self.random.one_in(8) {
+        if self.random.one_in(8) && operation.least_room().is_some() {
             input.room = self.random.below(6_000);
         }
         input

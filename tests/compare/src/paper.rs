@@ -11,6 +11,7 @@ pub enum Operation {
     Start,
     Multiply,
     ReadKey,
+    FileEntries,
     WriteKey,
     ReadWord,
     WriteWord,
@@ -57,12 +58,13 @@ const WORD: Part = part("word", Form::Word);
 const MOVES: Part = part("moves", Form::Moves);
 
 impl Operation {
-    pub const ALL: [Operation; 13] = [
+    pub const ALL: [Operation; 14] = [
         Operation::Product,
         Operation::Reciprocal,
         Operation::Start,
         Operation::Multiply,
         Operation::ReadKey,
+        Operation::FileEntries,
         Operation::WriteKey,
         Operation::ReadWord,
         Operation::WriteWord,
@@ -81,6 +83,7 @@ impl Operation {
             Operation::Start => "start",
             Operation::Multiply => "multiply",
             Operation::ReadKey => "read_key",
+            Operation::FileEntries => "file_entries",
             Operation::WriteKey => "write_key",
             Operation::ReadWord => "read_word",
             Operation::WriteWord => "write_word",
@@ -97,7 +100,7 @@ impl Operation {
         match self {
             Operation::Product => &[17],
             Operation::Reciprocal => &[17, 4],
-            Operation::Start => &[],
+            Operation::Start | Operation::FileEntries => &[],
             Operation::Multiply => &[17, 4, 6, 12],
             Operation::ReadKey => &[1, 2, 3, 4, 5, 6, 7],
             Operation::WriteKey => &[16, 17, 4, 5, 6],
@@ -119,6 +122,7 @@ impl Operation {
             Operation::Start => &[],
             Operation::Multiply => &[MATRIX, LABELS, T_VALUES, LETTER],
             Operation::ReadKey => &[KEY],
+            Operation::FileEntries => &[MATRIX],
             Operation::WriteKey => &[T_VALUES, LABELS, FIRST, SECOND],
             Operation::ReadWord | Operation::FreeReduce => &[WORD],
             Operation::WriteWord => &[CODES],
@@ -129,7 +133,17 @@ impl Operation {
         }
     }
 
-    /// The least room that a writer asks for; none for an operation without an output.
+    /// The bytes of an output whose size is fixed; none for an operation without one.
+    pub fn fixed_room(self) -> Option<usize> {
+        (self == Operation::FileEntries).then_some(PACKED_ENTRIES)
+    }
+
+    /// Is it lent an output?
+    pub fn has_output(self) -> bool {
+        self.fixed_room().or(self.least_room()).is_some()
+    }
+
+    /// The least room that a writer asks for; none for an operation that does not ask.
     pub fn least_room(self) -> Option<usize> {
         match self {
             Operation::WriteKey => Some(KEY_BYTES),

@@ -1,5 +1,6 @@
 //! The plan: what is compared, in which order.
 
+use reference::key::KEY_BYTES;
 use reference::letter::Letter;
 use reference::rewrite::Move;
 use reference::testkit::{move_list, Random, Slip};
@@ -13,6 +14,9 @@ use crate::tally::Tally;
 /// How often each fault and each pair of faults is drawn anew.
 const VARIANTS: usize = 5;
 
+/// How many matrices of any bytes have their entries taken, and how many keys go there and back.
+const MATRICES: usize = 200;
+
 /// How many random cases there are to each slip that is made and judged.
 const CASES_TO_A_SLIP: usize = 200;
 
@@ -22,6 +26,8 @@ pub enum Failure {
     Differs(Input),
     /// Both give the same answer, but not the papers'.
     Unexpected(Case),
+    /// Both write the same key from what was read of a key file, but not the file.
+    NotBack(Input),
 }
 
 /// What is wrong, or nothing.
@@ -48,6 +54,7 @@ impl Run {
         self.every_element()?;
         self.every_letter()?;
         self.every_byte_of_digests()?;
+        self.entries_of_matrices()?;
         self.every_kind()?;
         self.every_three_letters()?;
         self.faults_in_pairs()?;
@@ -131,6 +138,37 @@ impl Run {
             digest[self.maker.random.below(32)] = byte;
             self.check_parts(Operation::EncodeDigest, vec![digest], Some(0))?;
             self.check_parts(Operation::EncodeDigest, vec![vec![byte; 32]], Some(0))?;
+        }
+        Ok(())
+    }
+
+    /// The entries of a matrix of 64 different bytes; then of matrices of any bytes, and keys there and back.
+    fn entries_of_matrices(&mut self) -> Checked {
+        self.entries((0..64).collect())?;
+        for _ in 0..MATRICES {
+            let matrix = self.maker.random.bytes(64);
+            self.entries(matrix)?;
+            self.key_back()?;
+        }
+        Ok(())
+    }
+
+    /// The entries that a key file has of a matrix.
+    fn entries(&mut self, matrix: Vec<u8>) -> Checked<Vec<u8>> {
+        let outcome = self.check_parts(Operation::FileEntries, vec![matrix], Some(0))?;
+        Ok(outcome.bytes[GUARD..outcome.bytes.len() - GUARD].to_vec())
+    }
+
+    /// A key file read, and written again from what was read, its matrices by their entries: the same bytes.
+    fn key_back(&mut self) -> Checked {
+        let file = self.maker.any_key();
+        let read = self.check_parts(Operation::ReadKey, vec![file.clone()], Some(0))?.bytes;
+        let (t_values, matrix, labels) = (read[..8].to_vec(), read[8..72].to_vec(), read[72..80].to_vec());
+        let parts = vec![t_values, labels, self.entries(matrix)?, self.entries(read[80..].to_vec())?];
+        let input = self.maker.input(Operation::WriteKey, parts);
+        let written = self.check_input(input.clone(), Some(0))?.bytes;
+        if written[GUARD..GUARD + KEY_BYTES] != file {
+            return Err(Box::new(Failure::NotBack(input)));
         }
         Ok(())
     }
@@ -300,7 +338,8 @@ impl Run {
         match drawn {
             0 => Operation::Product,
             1 => Operation::Reciprocal,
-            2..=13 => Operation::Multiply,
+            2 => Operation::FileEntries,
+            3..=13 => Operation::Multiply,
             14..=25 => Operation::ReadKey,
             26..=36 => Operation::WriteKey,
             37..=48 => Operation::ReadWord,

@@ -4,7 +4,7 @@ use crate::case::{Input, Outcome, GUARD};
 use crate::paper::Operation;
 
 /// Bytes in hexadecimal; four and more equal ones in a row as one of them with their number.
-fn hex(bytes: &[u8]) -> String {
+pub fn hex(bytes: &[u8]) -> String {
     let runs = bytes.chunk_by(|a, b| a == b).map(|run| match run.len() {
         length @ 4.. => format!("{:02X}*{length}", run[0]),
         length => vec![format!("{:02X}", run[0]); length].join(" "),
@@ -23,7 +23,7 @@ pub fn input(input: &Input) -> String {
     for (part, bytes) in input.operation.parts().iter().zip(&input.parts) {
         text += &format!("  {} [{}]: {}\n", part.name, bytes.len(), hex(bytes));
     }
-    if input.operation.least_room().is_some() {
+    if input.operation.has_output() {
         text += &format!("  output [{}]\n", input.room);
     }
     text
@@ -49,12 +49,12 @@ pub fn outcome(input: &Input, outcome: &Outcome) -> String {
 }
 
 /// Where a byte of an outcome stands.
-fn place_name(input: &Input, place: usize) -> String {
-    match input.operation.least_room() {
-        None => format!("returned or lent byte {place}"),
-        Some(_) if place < GUARD => format!("byte {} before the output", GUARD - place),
-        Some(_) if place < GUARD + input.room => format!("output byte {}", place - GUARD),
-        Some(_) => format!("byte {} past the output", place - GUARD - input.room),
+pub fn place_name(input: &Input, place: usize) -> String {
+    match place {
+        _ if !input.operation.has_output() => format!("returned or lent byte {place}"),
+        _ if place < GUARD => format!("byte {} before the output", GUARD - place),
+        _ if place < GUARD + input.room => format!("output byte {}", place - GUARD),
+        _ => format!("byte {} past the output", place - GUARD - input.room),
     }
 }
 

@@ -66,7 +66,7 @@ impl Shrinker<'_> {
 
     /// The output made smaller.
     fn room(&self, input: Input) -> Input {
-        let least = input.operation.least_room().unwrap_or(0);
+        let Some(least) = input.operation.least_room() else { return input };
         let rooms =
             [0, least.saturating_sub(1), least, least + 1].into_iter().filter(|room| *room < input.room);
         let mut smaller = rooms.map(|room| Input { room, ..input.clone() });

@@ -3,7 +3,8 @@
 
 use reference::bits;
 use reference::pair::Labels;
-use reference::testkit::Random;
+use reference::read_key;
+use reference::testkit::{inverse_matrix, Random};
 use reference::word::{word_file, MOST_LETTERS};
 
 /// Where parts of a key file stand, in bits.
@@ -148,10 +149,16 @@ fn spoil_key(random: &mut Random, bits: &mut [bool], fault: u8) {
     }
 }
 
-/// Turns one bit of the second matrix of a key file round.
+/// Turns one bit of the second matrix of a key file without faults round, such that it keeps an inverse.
 pub fn flip_second_matrix(random: &mut Random, file: &mut [u8]) {
-    let bit = random.within(SECOND_MATRIX.0, SECOND_MATRIX.1);
-    file[bit / 8] ^= 0x80 >> (bit % 8);
+    loop {
+        let bit = random.within(SECOND_MATRIX.0, SECOND_MATRIX.1);
+        file[bit / 8] ^= 0x80 >> (bit % 8);
+        if inverse_matrix(&read_key(file).second).is_some() {
+            return;
+        }
+        file[bit / 8] ^= 0x80 >> (bit % 8);
+    }
 }
 
 /// A digest. Fault: 8.

@@ -1,5 +1,5 @@
 -- `action::product::dot` meets its contract. The loop's invariant: the sum of the first k products. Assumes nothing.
-use Prim.Native.Nat.{ℕ, _+_, _-_, _≤_}
+use Prim.Native.Nat.{ℕ, _+_, _-_, _%_, _≤_}
 use mathlib.Core.Path.{_≡_, refl, sym, ap, ap₂, _∙_}
 use native.Mathlib.Numerals.{add-one}
 use native.Mathlib.Omega.{arith}
@@ -32,23 +32,11 @@ loop-holds : tie.Need-loop-holds Inv-loop μ-loop
 unfolding sum
 loop-holds c = (omega arith, refl)
 
-mul-times : tie.Need-mul-times Inv-loop μ-loop
-mul-times c = omega arith
+entry-requires : tie.Need-entry-requires Inv-loop μ-loop
+entry-requires c κs = search needs
 
-add-times : tie.Need-add-times Inv-loop μ-loop
-add-times c = omega arith
-
-element-copy-out-times : tie.Need-element-copy-out-times Inv-loop μ-loop
-element-copy-out-times c = omega arith
-
-mul-times-2 : tie.Need-mul-times-2 Inv-loop μ-loop
-mul-times-2 c = omega arith
-
-add-times-2 : tie.Need-add-times-2 Inv-loop μ-loop
-add-times-2 c = omega arith
-
-element-copy-out-times-2 : tie.Need-element-copy-out-times-2 Inv-loop μ-loop
-element-copy-out-times-2 c = omega arith
+entry-requires-2 : tie.Need-entry-requires-2 Inv-loop μ-loop
+entry-requires-2 c κs = search needs
 
 times-requires : tie.Need-times-requires Inv-loop μ-loop
 times-requires c κs = search needs
@@ -60,12 +48,17 @@ loop-less : tie.Need-loop-less Inv-loop μ-loop
 loop-less c = omega arith
 
 loop-again : tie.Need-loop-again Inv-loop μ-loop
-unfolding entry
 loop-again c =
     let l = c .before .before .before .before .loop in
-    let a = c .before .before .before .before .before .args in (
+    let a = c .before .before .before .before .before .args in
+    let row : a .row % 8 ≡ a .row = omega arith in
+    let column : a .column % 8 ≡ a .column = omega arith in
+    let inner : l .k % 8 ≡ l .k = omega arith in
+    let x = c .before .before .entry .ensures ∙ ap₂ (entry (a .a .now)) row inner in
+    let y = c .before .entry2 .ensures ∙ ap₂ (entry (a .b .now)) inner column in (
       omega arith,
-      ap₂ (gf32 .add) (l .inv .1) (c .times .ensures) ∙ sym (sum-next gf32 (terms (a .a .now) (a .b .now) (a .row) (a .column)) (l .k)),
+      ap₂ (gf32 .add) (l .inv .1) (c .times .ensures ∙ ap₂ (gf32 .mul) x y)
+          ∙ sym (sum-next gf32 (terms (a .a .now) (a .b .now) (a .row) (a .column)) (l .k)),
     )
 
 returns : tie.Need-returns Inv-loop μ-loop
@@ -82,12 +75,8 @@ dot-spec =
     Inv-loop
     μ-loop
     loop-holds
-    mul-times
-    add-times
-    element-copy-out-times
-    mul-times-2
-    add-times-2
-    element-copy-out-times-2
+    entry-requires
+    entry-requires-2
     times-requires
     add-k
     loop-less

@@ -1,9 +1,9 @@
--- `slips::show::hex` is safe and ends: the place stays within the bytes. Assumes nothing.
+-- `print::hex` is safe and ends: the place stays within the bytes. Assumes nothing.
 use Prim.Native.Nat.{_≤_, _-_}
 use lib.ListN.{length}
 use borrow.Author.Needs.{needs}
-use Rattle.slips.proofs.show.hex.Statement.{statement}
-use Rattle.slips.proofs.show.hex.Tie as tie
+use Rattle.print.proofs.hex.Statement.{statement}
+use Rattle.print.proofs.hex.Tie as tie
 
 abbrev Inv-loop : tie.InvT-loop
 Inv-loop bytes i₀ i = i ≤ length bytes

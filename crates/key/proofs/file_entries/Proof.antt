@@ -1,0 +1,72 @@
+-- `key::file_entries` meets its contract. The loop's invariant: the places before k hold the file's entries. Assumes nothing.
+use Prim.Native.Nat.{ℕ, _-_, _/_, _%_, _≤_, _<_}
+use mathlib.Core.Path.{_≡_, refl, ap₂, _∙_}
+use native.Mathlib.Omega.{arith}
+use borrow.Author.Needs.{needs}
+use lib.ListN.{length, getD, length-set}
+use Rattle.action.specs.Layout.{entry}
+use Rattle.action.proofs.FillLaws.{one-more}
+use Rattle.key.proofs.EntryLaws.{fileEntry, entries-put}
+use Rattle.key.proofs.file_entries.Statement.{statement}
+use Rattle.key.proofs.file_entries.Tie as tie
+
+abbrev Inv-loop : tie.InvT-loop
+Inv-loop matrix entries₀ k₀ entries k = (k ≤ 56) × (length entries ≡ 57) × ((j : ℕ) → j < k → getD entries j 0 ≡ fileEntry matrix j)
+
+abbrev μ-loop : tie.MeasureT-loop
+μ-loop matrix entries₀ k₀ entries k = 56 - k
+
+loop-holds : tie.Need-loop-holds Inv-loop μ-loop
+loop-holds c = (omega arith, refl, λ j h. absurd (omega arith))
+
+entry-requires : tie.Need-entry-requires Inv-loop μ-loop
+entry-requires c κs = search needs
+
+array-write-entries : tie.Need-array-write-entries Inv-loop μ-loop
+array-write-entries c = omega arith
+
+add-k : tie.Need-add-k Inv-loop μ-loop
+add-k c = omega arith
+
+loop-less : tie.Need-loop-less Inv-loop μ-loop
+loop-less c = omega arith
+
+loop-again : tie.Need-loop-again Inv-loop μ-loop
+loop-again c =
+    let l = c .before .before .loop in
+    let m = c .before .before .before .args .matrix .now in
+    let row : l .k / 8 % 8 ≡ l .k / 8 = omega arith in
+    let column : l .k % 8 % 8 ≡ l .k % 8 = omega arith in (
+      omega arith,
+      length-set (l .entries) (l .k) _ ∙ l .inv .1,
+      one-more (fileEntry m) (l .entries) (l .k) _ (omega arith) (l .inv .2) (c .entry .ensures ∙ ap₂ (entry m) row column),
+    )
+
+entry-requires-2 : tie.Need-entry-requires-2 Inv-loop μ-loop
+entry-requires-2 c κs = search needs
+
+array-write-entries-2 : tie.Need-array-write-entries-2 Inv-loop μ-loop
+array-write-entries-2 c = omega arith
+
+returns : tie.Need-returns Inv-loop μ-loop
+returns c =
+    let l = c .before .before .loop in
+    let m = c .before .before .before .args .matrix .now in
+    let e : l .k ≡ 56 = omega arith in
+    entries-put m (l .entries) _ (l .inv .1) (λ j h. l .inv .2 j (omega arith)) (c .entry2 .ensures)
+
+pub file-entries-spec : {M : Type 1} → statement M
+file-entries-spec =
+    tie.close
+    (tie.spec
+    Inv-loop
+    μ-loop
+    loop-holds
+    entry-requires
+    array-write-entries
+    add-k
+    loop-less
+    loop-again
+    entry-requires-2
+    array-write-entries-2
+    returns)

@@ -1,0 +1,51 @@
+// The letters of a word file on standard input, in plain lines: the part that holds the codes; each letter by its place and beside it by a reader
+// of words, until that says that none is left, and once more past the end; and the second letter through the reader's struct. Its run is
+// document 01's word of seven letters.
+use braid::Letter;
+use libc::STDIN_FILENO;
+
+// Whether a letter is left, and its code.
+fn letter(found: Letter) {
+    print::choice(found.left, b" yes", b" no");
+    print::byte(found.code);
+}
+
+// The line of a place: its letter, and what a reader says after as many moves. Has the reader one left?
+fn line(file: &[u8], place: usize) -> bool {
+    let read = reader::nth(file, place);
+    let left = read.left;
+    print::text(b"place");
+    print::number(place);
+    letter(braid::letter_at(file, place));
+    letter(read);
+    print::text(b"\n");
+    left
+}
+
+// A line for each letter, for the first place where none is left, and for the next one.
+fn lines(file: &[u8]) {
+    let mut place = 0;
+    while place <= braid::MAX_LETTERS {
+        if !line(file, place) {
+            line(file, place + 1);
+            return;
+        }
+        place += 1;
+    }
+}
+
+fn show(file: &[u8]) {
+    print::text(b"codes");
+    print::hex(braid::code_part(file));
+    print::text(b"\n");
+    lines(file);
+    print::text(b"second");
+    letter(reader::second(file));
+    print::text(b"\n");
+}
+
+fn main() {
+    let mut input = [0u8; 5003];
+    let n = io::read_full(STDIN_FILENO, &mut input);
+    show(&input[..n]);
+}

@@ -1,0 +1,40 @@
+// Text on standard output: numbers in decimal, bytes in hexadecimal.
+use libc::STDOUT_FILENO;
+
+fn wide(x: u8) -> u64 {
+    x as u64
+}
+
+pub fn text(bytes: &[u8]) {
+    io::write_all(STDOUT_FILENO, bytes);
+}
+
+// A space, and a number in decimal.
+pub fn number(n: usize) {
+    text(b" ");
+    io::print_decimal(STDOUT_FILENO, n as u64);
+}
+
+// A space, and a byte in hexadecimal.
+pub fn byte(x: u8) {
+    text(b" ");
+    io::print_hex(STDOUT_FILENO, wide(x), 2);
+}
+
+// Bytes in hexadecimal, a space before each.
+pub fn hex(bytes: &[u8]) {
+    let mut i = 0;
+    while i < bytes.len() {
+        byte(bytes[i]);
+        i += 1;
+    }
+}
+
+// One of two texts.
+pub fn choice(first: bool, a: &[u8], b: &[u8]) {
+    if first {
+        text(a);
+    } else {
+        text(b);
+    }
+}

@@ -1,0 +1,255 @@
+//! The desk program in both forms, on standard input and on three files: the line that it writes has the reference's answer.
+
+use std::ffi::OsStr;
+use std::fs;
+use std::path::{Path, PathBuf};
+use std::process::Output;
+use std::{env, process};
+
+use reference::testkit::Slip;
+use reference::verify;
+use reference::word::word_file;
+
+use crate::fixed::{hex, slips::plain_key};
+use crate::make::{files, Maker, Size};
+use crate::paper::Operation;
+use crate::programs::{ran, Checked, Counts};
+use crate::show;
+
+/// The bytes of a key and of a digest, and the most that the desk program reads of a signature: the longest word file and one.
+const KEY: usize = 83;
+const DIGEST: usize = 32;
+const SIGNATURE: usize = 5_003;
+
+/// How often each pair of faults, and each length, is drawn anew.
+const VARIANTS: usize = 5;
+
+/// The answer to a slip whose parts stand end to end, cut as document 01 says. Bytes past the longest signature and one are not read.
+fn answer_end_to_end(input: &[u8]) -> u8 {
+    let (key, rest) = input.split_at(input.len().min(KEY));
+    let (digest, rest) = rest.split_at(rest.len().min(DIGEST));
+    verify(key, digest, &rest[..rest.len().min(SIGNATURE)])
+}
+
+/// What is wrong with what a program wrote, if it is not the line of this answer alone.
+fn held(name: &str, input: &[&[u8]], output: &Output, answer: u8) -> Checked {
+    if output.stdout == format!("answer {answer}\n").as_bytes() && output.stderr.is_empty() {
+        return Ok(());
+    }
+    let parts = input.iter().map(|part| format!("  [{}]: {}\n", part.len(), show::hex(part)));
+    let found = String::from_utf8_lossy(&output.stdout);
+    Err(format!(
+        "{name}: wrote {found:?} and not the line of answer {answer} on\n{}",
+        parts.collect::<String>()
+    ))
+}
+
+/// The programs, the folder of the files that they are given, and what was compared.
+struct Desk<'a> {
+    programs: &'a Path,
+    folder: PathBuf,
+    by_input: Counts,
+    by_files: Counts,
+    without_answer: usize,
+}
+
+impl Drop for Desk<'_> {
+    fn drop(&mut self) {
+        // A folder that stays in the place for temporary ones does no harm.
+        let _ = fs::remove_dir_all(&self.folder);
+    }
+}
+
+impl Desk<'_> {
+    /// The file of a part.
+    fn file(&self, name: &str) -> PathBuf {
+        self.folder.join(name)
+    }
+
+    /// The slip on standard input, in these pieces.
+    fn on_input(&mut self, pieces: &[&[u8]]) -> Checked {
+        let input = pieces.concat();
+        let answer = answer_end_to_end(&input);
+        let output = ran(&self.programs.join("desk"), &[], pieces)?;
+        held("desk", &[&input], &output, answer)?;
+        self.by_input.count(answer);
+        Ok(())
+    }
+
+    /// The slip in three files.
+    fn on_files(&mut self, slip: &Slip) -> Checked {
+        let parts = [&slip.key, &slip.digest, &slip.word].map(Vec::as_slice);
+        let paths = ["the key", "the digest", "the signature"].map(|name| self.file(name));
+        for (path, part) in paths.iter().zip(parts) {
+            fs::write(path, part).map_err(|error| format!("{}: {error}\n", path.display()))?;
+        }
+        let answer = verify(parts[0], parts[1], parts[2]);
+        let output = self.on_paths(&paths)?;
+        held("desk_files", &parts, &output, answer)?;
+        self.by_files.count(answer);
+        Ok(())
+    }
+
+    fn on_paths(&self, paths: &[PathBuf]) -> Checked<Output> {
+        let arguments: Vec<&OsStr> = paths.iter().map(|path| path.as_os_str()).collect();
+        ran(&self.programs.join("desk_files"), &arguments, &[])
+    }
+
+    /// The slip in both forms.
+    fn both(&mut self, slip: &Slip) -> Checked {
+        self.on_input(&[&[slip.key.as_slice(), &slip.digest, &slip.word].concat()])?;
+        self.on_files(slip)
+    }
+
+    /// These files are not all there, or cannot be read: there is no line on standard output, and one on standard error.
+    fn unanswered(&mut self, paths: &[PathBuf]) -> Checked {
+        let output = self.on_paths(paths)?;
+        if !output.stdout.is_empty() || output.stderr.is_empty() {
+            let found = String::from_utf8_lossy(&output.stdout);
+            return Err(format!("desk_files: wrote {found:?} although a file of {paths:?} cannot be read\n"));
+        }
+        self.without_answer += 1;
+        Ok(())
+    }
+
+    /// Each of the three files left out, given no name, or a folder.
+    fn missing(&mut self) -> Checked {
+        let there = ["the key", "the digest", "the signature"].map(|name| self.file(name));
+        for left_out in 1..8 {
+            for other in [self.file("not there"), self.folder.clone()] {
+                let path = |place: usize| if left_out >> place & 1 == 1 { &other } else { &there[place] };
+                self.unanswered(&[0, 1, 2].map(|place| path(place).clone()))?;
+            }
+        }
+        for given in 0..3 {
+            self.unanswered(&there[..given])?;
+        }
+        Ok(())
+    }
+
+    /// Document 01's own slips. The reference gives the answers that it states.
+    fn of_the_paper(&mut self) -> Checked {
+        let sevens = hex(&format!("00 80 {}", "66 ".repeat(64)));
+        let slip = |word| Slip { key: plain_key(), digest: vec![0; DIGEST], word };
+        let empty = Slip { key: vec![], digest: vec![], word: vec![] };
+        for (slip, stated) in [(slip(sevens), 0), (slip(hex("00 00")), 14), (empty, 1)] {
+            let answer = verify(&slip.key, &slip.digest, &slip.word);
+            if answer != stated {
+                return Err(format!(
+                    "the reference answers {answer} to the slip that document 01 answers {stated}\n"
+                ));
+            }
+            self.both(&slip)?;
+        }
+        Ok(())
+    }
+
+    /// The parts of an accepted slip cut and lengthened: end to end at every length, and each file by itself.
+    fn cut(&mut self, slip: &Slip) -> Checked {
+        let whole = [slip.key.as_slice(), &slip.digest, &slip.word].concat();
+        for length in 0..whole.len() {
+            self.on_input(&[&whole[..length]])?;
+        }
+        for length in 0..=slip.key.len() {
+            self.on_files(&Slip { key: slip.key[..length].to_vec(), ..slip.clone() })?;
+        }
+        for length in 0..=slip.digest.len() {
+            self.on_files(&Slip { digest: slip.digest[..length].to_vec(), ..slip.clone() })?;
+        }
+        for length in 0..=slip.word.len() {
+            self.on_files(&Slip { word: slip.word[..length].to_vec(), ..slip.clone() })?;
+        }
+        Ok(())
+    }
+
+    /// The slip with bytes after the signature, and after each part where these are files.
+    fn lengthened(&mut self, slip: &Slip) -> Checked {
+        for more in [1, 2, 3, 83, 5_000, 70_000] {
+            let longer = |part: &[u8]| [part, &vec![0; more]].concat();
+            self.both(&Slip { word: longer(&slip.word), ..slip.clone() })?;
+            self.on_files(&Slip { key: longer(&slip.key), ..slip.clone() })?;
+            self.on_files(&Slip { digest: longer(&slip.digest), ..slip.clone() })?;
+        }
+        Ok(())
+    }
+
+    /// The slip in pieces: the program waits for what it has not yet got.
+    fn in_pieces(&mut self, slip: &Slip) -> Checked {
+        self.on_input(&[&slip.key, &slip.digest, &slip.word])?;
+        self.on_input(&[&slip.key[..1], &slip.key[1..], &slip.digest, &slip.word])?;
+        let whole = [slip.key.as_slice(), &slip.digest, &slip.word].concat();
+        for at in [1, 82, 83, 84, 114, 115, 116, 117, whole.len() - 1] {
+            self.on_input(&[&whole[..at], &whole[at..]])?;
+        }
+        Ok(())
+    }
+
+    /// An accepted slip cut, lengthened and in pieces, and the same of the longest.
+    fn accepted(&mut self, maker: &mut Maker) -> Checked {
+        for letters in [0, 1, 6, 13] {
+            let codes = maker.random.tangled_word(letters);
+            let slip = maker.slip(&codes);
+            self.both(&slip)?;
+            self.cut(&slip)?;
+            self.lengthened(&slip)?;
+            self.in_pieces(&slip)?;
+        }
+        for letters in [9_999, 10_000] {
+            let codes = maker.random.tangled_word(letters);
+            let slip = maker.slip(&codes);
+            self.both(&slip)?;
+            self.in_pieces(&slip)?;
+            self.both(&Slip { word: slip.word[..slip.word.len() - 1].to_vec(), ..slip.clone() })?;
+            self.both(&Slip { word: [slip.word.as_slice(), &[0]].concat(), ..slip.clone() })?;
+            self.both(&Slip { word: [slip.word.as_slice(), &[0, 0]].concat(), ..slip.clone() })?;
+        }
+        self.both(&Slip { word: word_file(&[0; 10_001]), ..maker.slip(&[]) })
+    }
+
+    /// Slips with faults in pairs, with none, and damaged ones.
+    fn faulty(&mut self, maker: &mut Maker) -> Checked {
+        let questions = Operation::Verify.questions();
+        for (place, first) in questions.iter().enumerate() {
+            for second in &questions[place..] {
+                for _ in 0..VARIANTS {
+                    let mut faults = vec![*first, *second];
+                    faults.dedup();
+                    self.made(maker, &faults, false)?;
+                }
+            }
+        }
+        for place in 0..200 {
+            self.made(maker, &[], place % 2 == 1)?;
+        }
+        Ok(())
+    }
+
+    /// A slip with these faults, damaged besides or not.
+    fn made(&mut self, maker: &mut Maker, faults: &[u8], damaged: bool) -> Checked {
+        let case =
+            maker.with_faults(Operation::Verify, faults, Size::Short).expect("these faults stand together");
+        let mut parts = case.input.parts;
+        if damaged {
+            let place = maker.random.below(3);
+            files::damage(&mut maker.random, &mut parts[place], false);
+        }
+        let [key, digest, word] = <[Vec<u8>; 3]>::try_from(parts).expect("three parts");
+        self.both(&Slip { key, digest, word })
+    }
+}
+
+/// Runs both forms: a line for each.
+pub fn check(programs: &Path, maker: &mut Maker) -> Checked<Vec<String>> {
+    let folder = env::temp_dir().join(format!("walnut slips {}", process::id()));
+    fs::create_dir_all(&folder).map_err(|error| format!("{}: {error}\n", folder.display()))?;
+    let (by_input, by_files) = (Counts::default(), Counts::default());
+    let mut desk = Desk { programs, folder, by_input, by_files, without_answer: 0 };
+    desk.of_the_paper()?;
+    desk.missing()?;
+    desk.accepted(maker)?;
+    desk.faulty(maker)?;
+    let answers: Vec<u8> = (0..=14).collect();
+    let by_files = desk.by_files.summary("desk_files", &answers)?;
+    let line = format!("{by_files}; without an answer: {}", desk.without_answer);
+    Ok(vec![desk.by_input.summary("desk", &answers)?, line])
+}

@@ -1,0 +1,83 @@
+//! The program `letters`: what it writes of a word file is what the reference reads there, by place and by its reader of words.
+
+use std::path::Path;
+
+use reference::word::{code_part, letters, word_answer, word_file, WordReader};
+
+use crate::make::{files, Maker};
+use crate::paper::Operation;
+use crate::programs::{ran, Checked, Counts};
+use crate::show;
+
+/// How often each pair of faults is drawn anew.
+const VARIANTS: usize = 10;
+
+/// The letters of words drawn at random, short of the longest.
+const LETTERS: usize = 300;
+
+/// A letter, or that none is left.
+fn letter(code: Option<u8>) -> String {
+    match code {
+        Some(code) => format!(" yes {code:02x}"),
+        None => " no 00".to_string(),
+    }
+}
+
+/// What the program must write. The reader of words goes on until none is left, and once more.
+fn expected(file: &[u8]) -> String {
+    let codes: String = code_part(file).iter().map(|byte| format!(" {byte:02x}")).collect();
+    let (by_place, (_, mut reader)) = (letters(file), WordReader::open(file));
+    let mut text = format!("codes{codes}\n");
+    let mut none_left = 0;
+    for place in 0.. {
+        let read = reader.next_letter();
+        let found = by_place.get(place).copied();
+        text += &format!("place {place}{}{}\n", letter(found), letter(read));
+        none_left += usize::from(read.is_none());
+        if none_left == 2 {
+            break;
+        }
+    }
+    text + &format!("second{}\n", letter(by_place.get(1).copied()))
+}
+
+/// Runs the program on a word file.
+fn compare(program: &Path, counts: &mut Counts, file: &[u8]) -> Checked {
+    let output = ran(program, &[], &[file])?;
+    let (found, expected) = (String::from_utf8_lossy(&output.stdout), expected(file));
+    if found != expected || !output.stderr.is_empty() {
+        let lines = found.lines().map(Some).chain([None]).zip(expected.lines().map(Some).chain([None]));
+        let line = lines.into_iter().find(|(found, expected)| found != expected);
+        return Err(format!("letters, on {}: line written and line expected: {line:?}\n", show::hex(file)));
+    }
+    counts.count(word_answer(file));
+    Ok(())
+}
+
+/// Words of each length up to 40, of some hundred letters and as long as can be; refused ones, with faults in pairs; and words drawn blindly.
+pub fn check(program: &Path, maker: &mut Maker) -> Checked<String> {
+    let counts = &mut Counts::default();
+    for letters in (0..=40).chain([255, 256, 9_999, 10_000]) {
+        let codes = maker.random.word(letters);
+        compare(program, counts, &word_file(&codes))?;
+    }
+    let questions = Operation::ReadWord.questions();
+    for (place, first) in questions.iter().enumerate() {
+        for second in &questions[place..] {
+            for _ in 0..VARIANTS {
+                let letters = maker.random.within(0, LETTERS);
+                let codes = maker.random.word(letters);
+                let file = files::word(&mut maker.random, &codes, &[*first, *second]);
+                compare(program, counts, &file)?;
+            }
+        }
+    }
+    for _ in 0..100 {
+        let letters = maker.random.within(0, LETTERS);
+        let mut file = word_file(&maker.random.tangled_word(letters));
+        compare(program, counts, &file)?;
+        files::damage(&mut maker.random, &mut file, false);
+        compare(program, counts, &file)?;
+    }
+    counts.summary("letters", &[0, 9, 10, 11, 12, 13])
+}
