@@ -6,19 +6,33 @@
  * zeros (for a yes or no: no). Nothing is allocated and nothing is kept between calls, so calls from several threads do not disturb each
  * other. A pointer with a length may be anything but null, even where the length is 0; what is written may not overlap what is read.
  *
- *    1  the key file is not 83 bytes              14  the matrices differ: not a signature of this digest under this key
- *    2  N is not 8                                15  the output has fewer than 5,002 bytes
- *    3  q is not 32                               16  the key's output has fewer than 83 bytes
- *    4  a T-value, or the operand, is zero        17  a number is over 31: no element of the field
- *    5  the first two T-values are not 1          18  the move list has fewer than 2 bytes
- *    6  the list is not 0 to 7, each once         19  the move list states more than 4,096 moves
- *    7  filler bits of the key are not zero       20  the move list's length is not what its number needs
- *    8  the digest is not 32 bytes                21  a move's kind is none of 1, 2, 3, 16 to 22, 24 to 30
- *    9  the word has fewer than 2 bytes           22  a move's letters do not exist, or an insertion's place is past the end
- *   10  more than 10,000 letters                  23  the letters at a move's place have not its shape
- *   11  the word's length is not what it needs    24  an insertion would leave more than 10,000 letters
- *   12  a code is no letter                       25  the labels are not 8 bytes, 0 to 7 each once
+ * (answers.txt: begin; tools/answers writes these lines)
+ *    1  the key file is not 83 bytes
+ *    2  the key is not for eight strands
+ *    3  the key is not for the field with 32 elements
+ *    4  a T-value, or the number whose reciprocal is asked for, is zero
+ *    5  the first two T-values are not both 1
+ *    6  the list of labels is not 0 to 7, each once
+ *    7  filler bits of the key are not zero
+ *    8  the digest is not 32 bytes
+ *    9  the word has fewer than 2 bytes
+ *   10  the word's number of letters is over 10,000
+ *   11  the word's length is not what its number of letters needs
+ *   12  a code is no letter
  *   13  an odd word's last half byte is not 0
+ *   14  the matrices differ: the word is no signature of this digest under this key
+ *   15  the output has fewer than 5,002 bytes
+ *   16  the key's output has fewer than 83 bytes
+ *   17  a T-value, a matrix entry or an operand is over 31: no element of the field
+ *   18  the move list has fewer than 2 bytes
+ *   19  the move list states more than 4,096 moves
+ *   20  the move list's length is not 2 + 3 times its number of moves
+ *   21  a move's kind is none of 1, 2, 3, 16 to 22, 24 to 30
+ *   22  a move's letters do not exist from its place on, or an insertion's place is past the end
+ *   23  the letters at a move's place have not the kind's shape
+ *   24  an insertion would leave more than 10,000 letters
+ *   25  the list handed in is not 8 bytes, 0 to 7 each once
+ * (answers.txt: end)
  */
 #ifndef WALNUT_H
 #define WALNUT_H

@@ -3,34 +3,39 @@
 use std::error::Error;
 use std::fmt;
 
-/// What each number says, from 1 on.
-const TEXTS: [&str; 25] = [
-    "the key file is not 83 bytes",
-    "the key is not for eight strands",
-    "the key is not for the field with 32 elements",
-    "a T-value, or the operand, is zero",
-    "the first two T-values are not 1",
-    "the list is not 0 to 7, each once",
-    "filler bits of the key are not zero",
-    "the digest is not 32 bytes",
-    "the word has fewer than 2 bytes",
-    "more than 10,000 letters",
-    "the word's length is not what its number of letters needs",
-    "a code is no letter",
-    "an odd word's last half byte is not 0",
-    "the matrices differ: not a signature of this digest under this key",
-    "the output has fewer than 5,002 bytes",
-    "the key's output has fewer than 83 bytes",
-    "a number is over 31: no element of the field",
-    "the move list has fewer than 2 bytes",
-    "the move list states more than 4,096 moves",
-    "the move list's length is not what its number needs",
-    "a move's kind is none of 1, 2, 3, 16 to 22, 24 to 30",
-    "a move's letters do not exist, or an insertion's place is past the end",
-    "the letters at a move's place have not its shape",
-    "an insertion would leave more than 10,000 letters",
-    "the labels are not 8 bytes, 0 to 7 each once",
-];
+/// What failed, for each number.
+fn text(number: u8) -> &'static str {
+    match number {
+        // answers.txt: begin; tools/answers writes these lines
+        1 => "the key file is not 83 bytes",
+        2 => "the key is not for eight strands",
+        3 => "the key is not for the field with 32 elements",
+        4 => "a T-value, or the number whose reciprocal is asked for, is zero",
+        5 => "the first two T-values are not both 1",
+        6 => "the list of labels is not 0 to 7, each once",
+        7 => "filler bits of the key are not zero",
+        8 => "the digest is not 32 bytes",
+        9 => "the word has fewer than 2 bytes",
+        10 => "the word's number of letters is over 10,000",
+        11 => "the word's length is not what its number of letters needs",
+        12 => "a code is no letter",
+        13 => "an odd word's last half byte is not 0",
+        14 => "the matrices differ: the word is no signature of this digest under this key",
+        15 => "the output has fewer than 5,002 bytes",
+        16 => "the key's output has fewer than 83 bytes",
+        17 => "a T-value, a matrix entry or an operand is over 31: no element of the field",
+        18 => "the move list has fewer than 2 bytes",
+        19 => "the move list states more than 4,096 moves",
+        20 => "the move list's length is not 2 + 3 times its number of moves",
+        21 => "a move's kind is none of 1, 2, 3, 16 to 22, 24 to 30",
+        22 => "a move's letters do not exist from its place on, or an insertion's place is past the end",
+        23 => "the letters at a move's place have not the kind's shape",
+        24 => "an insertion would leave more than 10,000 letters",
+        25 => "the list handed in is not 8 bytes, 0 to 7 each once",
+        // answers.txt: end
+        _ => "an answer that this binding does not know",
+    }
+}
 
 /// The number of the first question that an input failed.
 #[derive(Clone, Copy, Debug, PartialEq, Eq, Hash)]
@@ -40,7 +45,7 @@ impl Refusal {
     /// The verdict on a word that is no signature of the digest.
     pub const MATRICES_DIFFER: Refusal = Refusal(14);
 
-    /// The number, 1 to 25.
+    /// The number; never 0.
     pub fn number(self) -> u8 {
         self.0
     }
@@ -48,8 +53,7 @@ impl Refusal {
 
 impl fmt::Display for Refusal {
     fn fmt(&self, to: &mut fmt::Formatter<'_>) -> fmt::Result {
-        let text = usize::from(self.0).checked_sub(1).and_then(|place| TEXTS.get(place));
-        write!(to, "{}: {}", self.0, text.unwrap_or(&"no answer of the library"))
+        write!(to, "{}: {}", self.0, text(self.0))
     }
 }
 

@@ -1,6 +1,5 @@
--- One letter and whole words on a pair, as the code goes about it: the share by the number that a letter takes, codes that are letters and
--- others, T-values by label, and a word's letters one after another.
--- Assumes nothing.
+-- One letter and whole words on a pair, as the code goes about it: the share by the number that a letter takes, codes
+-- that are letters and others, T-values by label, and a word's letters one after another.
 use Prim.Native.Nat.{ℕ, _+_, _*_, _%_, _<_, _≤_}
 use mathlib.Core.Path.{_≡_, refl, sym, ap, ap₂, _∙_}
 use mathlib.Core.Bool.{Bool, true, false, cond, _&&_}
@@ -21,11 +20,11 @@ use Rattle.field.specs.Gf32.{gf32}
 use Rattle.braid.specs.Letters.{isLetter, isInverse, generator}
 use Rattle.braid.proofs.LetterLaws.{letter-cases}
 use Rattle.action.specs.declared.Pair.{Pair}
-use Rattle.action.specs.Layout.{entry, matrixOf}
-use Rattle.action.specs.Action.{Share, tValue, shareOf, positiveShare, inverseShare, rowAfter, swapped, letterOn, wordOn, codesOn, pairOf}
-use Rattle.action.specs.Rows.{shareBy, rowsOn, Lent}
-use Rattle.action.proofs.LayoutLaws.{length-matrixOf}
-use Rattle.action.proofs.LabelLaws.{length-swapped}
+use Rattle.braid.specs.Strands.{swapped}
+use Rattle.action.specs.Action.{Share, tValue, shareOf, positiveShare, inverseShare, rowsOn, letterOn, wordOn, codesOn, pairOf}
+use Rattle.action.specs.Rows.{shareBy, Lent}
+use Rattle.matrix.proofs.LayoutLaws.{length-matrixOf}
+use Rattle.braid.proofs.StrandLaws.{length-swapped}
 
 -- a letter's own column has a column after it
 pub column-below : (c : ℕ) → isLetter c ≡ true → c % 8 < 7
@@ -39,26 +38,17 @@ sign c e =
 
 -- the number that a letter takes gives its share
 module _ (ts rs labels : List ℕ) (c : ℕ) (reciprocal : (label : ℕ) → getD rs label 0 ≡ gf32 .inv (getD ts label 0)) where
-  by-sign : (b : Bool) → shareBy gf32 b (cond b (tValue rs labels (c % 8 + 1)) (tValue ts labels (c % 8)))
-      ≡ cond b (inverseShare gf32 (gf32 .inv (tValue ts labels (c % 8 + 1)))) (positiveShare gf32 (tValue ts labels (c % 8)))
-  unfolding shareBy tValue
+  by-sign : (b : Bool) → shareBy gf32 b (cond b (tValue rs labels (c % 8 + 1)) (tValue ts labels (c % 8))) ≡ shareOf gf32 ts labels b (c % 8)
+  unfolding shareBy shareOf tValue
   by-sign true = ap (inverseShare gf32) (reciprocal (getD labels (c % 8 + 1) 0))
   by-sign false = refl
 
-  share-is : isLetter c ≡ true → (k : ℕ) → k ≡ cond (leb 8 c) (tValue rs labels (c % 8 + 1)) (tValue ts labels (c % 8))
-      → shareBy gf32 (leb 8 c) k ≡ shareOf gf32 ts labels c
-  unfolding shareOf
-  share-is e k h =
-      ap (shareBy gf32 (leb 8 c)) h
-      ∙ by-sign (leb 8 c)
-      ∙ ap (λ (b : Bool). cond b (inverseShare gf32 (gf32 .inv (tValue ts labels (c % 8 + 1)))) (positiveShare gf32 (tValue ts labels (c % 8))))
-      (sign c e)
-
   pub letter-is : (m : List ℕ) → isLetter c ≡ true → (k : ℕ) → k ≡ cond (leb 8 c) (tValue rs labels (c % 8 + 1)) (tValue ts labels (c % 8))
       → pairOf (rowsOn gf32 (shareBy gf32 (leb 8 c) k) (c % 8) m) (swapped (c % 8) labels) ≡ letterOn gf32 ts c (pairOf m labels)
-  unfolding letterOn rowsOn
+  unfolding letterOn
   letter-is m e k h =
-      ap (λ (s : Share). pairOf (matrixOf (λ r. rowAfter gf32 s (c % 8) (entry m r))) (swapped (c % 8) labels)) (share-is e k h)
+      ap (λ (s : Share). pairOf (rowsOn gf32 s (c % 8) m) (swapped (c % 8) labels))
+      (ap (shareBy gf32 (leb 8 c)) h ∙ by-sign (leb 8 c) ∙ ap (λ (b : Bool). shareOf gf32 ts labels b (c % 8)) (sign c e))
 
 -- codes that are letters do what their word does; others leave the pair as it was
 module _ (F : Operations) (ts cs : List ℕ) (p : Pair) where
@@ -71,18 +61,17 @@ module _ (F : Operations) (ts cs : List ℕ) (p : Pair) where
   codes-none e = ap (λ (b : Bool). cond b (wordOn F ts cs p) p) e
 
 -- T-values are read by label alone
-module _ (F : Operations) (ts ts′ : List ℕ) (same : (label : ℕ) → getD ts label 0 ≡ getD ts′ label 0) where
-  share-values : (labels : List ℕ) (c : ℕ) → shareOf F ts labels c ≡ shareOf F ts′ labels c
+module _ (F : Operations) (ts ts′ : List ℕ) (equal : (label : ℕ) → getD ts label 0 ≡ getD ts′ label 0) where
+  share-values : (labels : List ℕ) (inverse : Bool) (g : ℕ) → shareOf F ts labels inverse g ≡ shareOf F ts′ labels inverse g
   unfolding shareOf tValue
-  share-values labels c =
-      ap₂ (λ (a b : ℕ). cond (isInverse c) (inverseShare F (F .inv a)) (positiveShare F b))
-      (same (getD labels (generator c + 1) 0)) (same (getD labels (generator c) 0))
+  share-values labels inverse g =
+      ap₂ (λ (a b : ℕ). cond inverse (inverseShare F (F .inv a)) (positiveShare F b)) (equal (getD labels (g + 1) 0)) (equal (getD labels g 0))
 
   letter-values : (c : ℕ) (p : Pair) → letterOn F ts c p ≡ letterOn F ts′ c p
   unfolding letterOn
   letter-values c p =
-      ap (λ (s : Share). pairOf (matrixOf (λ r. rowAfter F s (generator c) (entry (p .matrix) r))) (swapped (generator c) (p .labels)))
-      (share-values (p .labels) c)
+      ap (λ (s : Share). pairOf (rowsOn F s (generator c) (p .matrix)) (swapped (generator c) (p .labels)))
+      (share-values (p .labels) (isInverse c) (generator c))
 
   pub word-values : (w : List ℕ) (p : Pair) → wordOn F ts w p ≡ wordOn F ts′ w p
   unfolding wordOn
@@ -100,11 +89,11 @@ unfolding wordOn
 word-end F ts w p = ap (λ (v : List ℕ). wordOn F ts v p) (drop-length w)
 
 -- what a letter leaves has as many entries and labels
-pub letter-entries : (F : Operations) (ts : List ℕ) (c : ℕ) (p : Pair) → length (letterOn F ts c p .matrix) ≡ 64
+letter-entries : (F : Operations) (ts : List ℕ) (c : ℕ) (p : Pair) → length (letterOn F ts c p .matrix) ≡ 64
 unfolding letterOn
 letter-entries F ts c p = length-matrixOf _
 
-pub letter-places : (F : Operations) (ts : List ℕ) (c : ℕ) (p : Pair) → length (letterOn F ts c p .labels) ≡ length (p .labels)
+letter-places : (F : Operations) (ts : List ℕ) (c : ℕ) (p : Pair) → length (letterOn F ts c p .labels) ≡ length (p .labels)
 unfolding letterOn
 letter-places F ts c p = length-swapped (generator c) (p .labels)
 

@@ -1,5 +1,5 @@
--- Lists by label: a list with a place for every byte, filled from eight T-values; the reciprocal of any byte, by its five low bits.
--- Assumes nothing.
+-- Lists by label: a list with a place for every byte, filled from eight T-values; the reciprocal of any byte, by its
+-- five low bits.
 use Prim.Native.Nat.{ℕ, zero, suc, _+_, _%_, _<_, _≤_}
 use mathlib.Core.Path.{_≡_, refl, sym, ap, _∙_, fun-ext}
 use mathlib.Core.Bool.{Bool, not}
@@ -9,22 +9,14 @@ use native.Mathlib.Decide.{ℕ-discrete, decLt}
 use borrow.Author.Tests.{eq-eqb, ne-eqb, lt-ltb}
 use lib.Dec.{eqb}
 use lib.ListN.{length, getD, set, replicate, length-set, List·getD-eq-default}
-use lib.Seq.{getD-set-same, getD-set-other}
+use lib.Seq.{getD-set-other}
 use Rattle.base.specs.Questions.{_else_, firstNo, granted}
+use Rattle.base.proofs.ListLaws.{one-more}
 use Rattle.base.proofs.QuestionLaws.{passes, fails, granted-zero, granted-refused}
 use Rattle.field.specs.Polynomial.{times, horner, timesX, first, reciprocalOf}
 use Rattle.field.specs.Gf32.{gf32, reciprocalQuestions, Gives}
 use Rattle.field.proofs.TableLaws.{mul-low}
 use Rattle.action.specs.Rows.{ByLabel}
-
--- a list that has the values of f before place i, and at i
-pub one-more : (f : ℕ → ℕ) (l : List ℕ) (i v : ℕ) → i < length l → ((k : ℕ) → k < i → getD l k 0 ≡ f k) → v ≡ f i
-    → (k : ℕ) → k < i + 1 → getD (set l i v) k 0 ≡ f k
-one-more f l i v h before e k b = at (ℕ-discrete k i)
-  where
-    at : Dec (k ≡ i) → getD (set l i v) k 0 ≡ f k
-    at (yes d) = rw d (getD-set-same l i v 0 h ∙ e)
-    at (no n) = getD-set-other l i k v 0 n ∙ before k (omega arith)
 
 -- the list is filled up to place i, and 0 stands from there on
 pub record Filled (f : ℕ → ℕ) (ts : List ℕ) (i : ℕ) (list : List ℕ) : Type 0 where

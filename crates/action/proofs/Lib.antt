@@ -1,9 +1,6 @@
-pub mod LayoutLaws
-pub mod ProductLaws
-pub mod LabelLaws
 pub mod RowLaws
 pub mod RowBraid
-pub mod StepLaws
+pub mod ShareLaws
 pub mod BraidRelations
 pub mod WordLaws
 pub mod CancelLaws

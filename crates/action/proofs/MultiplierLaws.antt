@@ -1,65 +1,22 @@
--- The multiplier's questions one by one: what each says, answered yes or no; a word of one letter; what is given.
--- Assumes nothing.
+-- The multiplier: what its answer tells, what it gives, and the word of one letter.
 use Prim.Native.Nat.{ℕ, _*_, _/_, _<_}
-use mathlib.Core.Path.{_≡_, refl, sym, ap, ap₂, _∙_}
-use mathlib.Core.Bool.{Bool, true, false, _&&_}
+use mathlib.Core.Path.{_≡_, refl, sym, ap, _∙_}
+use mathlib.Core.Bool.{true}
 use mathlib.Core.List.{List, [], _∷_}
 use mathlib.Core.Logic.{⊎-elim}
 use native.Mathlib.Omega.{arith}
-use lib.ListN.{drop, take}
-use Rattle.base.specs.Questions.{Question, firstNo}
+use lib.ListN.{take}
+use Rattle.base.specs.Questions.{firstNo}
 use Rattle.base.specs.Lists.{every}
 use Rattle.base.specs.Digits.{halves}
-use Rattle.base.proofs.QuestionLaws.{passes, fails, granted-zero, granted-refused, answers-passed}
+use Rattle.base.proofs.QuestionLaws.{granted-zero, granted-refused, answers-passed}
 use Rattle.base.proofs.ListLaws.{and-both}
 use Rattle.field.specs.Gf32.{gf32}
 use Rattle.braid.specs.Letters.{isLetter}
 use Rattle.braid.proofs.LetterLaws.{letter-cases}
 use Rattle.action.specs.declared.Pair.{Pair}
 use Rattle.action.specs.Action.{letterOn, wordOn}
-use Rattle.action.specs.Multiplier.{elements, nonzero, isOrder, multiplierQuestions, zeroPair, Multiplies}
-
--- the results of the five tests
-pub record Tested (p : Pair) (ts : List ℕ) (c : ℕ) (values entries others order letter : Bool) : Type 0 where
-  pub values-are : values ≡ elements ts
-  pub entries-are : entries ≡ elements (p .matrix)
-  pub others-are : others ≡ nonzero ts
-  pub order-is : order ≡ isOrder (p .labels)
-  pub letter-is : letter ≡ isLetter c
-
--- the questions that are left
-abbrev left : Pair → List ℕ → ℕ → ℕ → List Question
-left p ts c k = drop k (multiplierQuestions p ts c)
-
--- the answer at the first test that fails, and where none does
-module _ {p : Pair} {ts : List ℕ} {c : ℕ} {values entries others order letter : Bool} (t : Tested p ts c values entries others order letter) where
-  pub answer-values : values ≡ false → 17 ≡ firstNo (left p ts c 0)
-  answer-values a = sym (fails 17 (left p ts c 1) (ap (λ (b : Bool). b && elements (p .matrix)) (sym (t .values-are) ∙ a)))
-
-  pub answer-entries : values ≡ true → entries ≡ false → 17 ≡ firstNo (left p ts c 0)
-  answer-entries a b = sym (fails 17 (left p ts c 1) (ap₂ (λ (x y : Bool). x && y) (sym (t .values-are) ∙ a) (sym (t .entries-are) ∙ b)))
-
-  from-4 : values ≡ true → entries ≡ true → firstNo (left p ts c 0) ≡ firstNo (left p ts c 1)
-  from-4 a b = passes 17 (left p ts c 1) (and-both (sym (t .values-are) ∙ a) (sym (t .entries-are) ∙ b))
-
-  pub answer-4 : values ≡ true → entries ≡ true → others ≡ false → 4 ≡ firstNo (left p ts c 0)
-  answer-4 a b d = sym (from-4 a b ∙ fails 4 (left p ts c 2) (sym (t .others-are) ∙ d))
-
-  from-6 : values ≡ true → entries ≡ true → others ≡ true → firstNo (left p ts c 0) ≡ firstNo (left p ts c 2)
-  from-6 a b d = from-4 a b ∙ passes 4 (left p ts c 2) (sym (t .others-are) ∙ d)
-
-  pub answer-6 : values ≡ true → entries ≡ true → others ≡ true → order ≡ false → 6 ≡ firstNo (left p ts c 0)
-  answer-6 a b d e = sym (from-6 a b d ∙ fails 6 (left p ts c 3) (sym (t .order-is) ∙ e))
-
-  from-12 : values ≡ true → entries ≡ true → others ≡ true → order ≡ true → firstNo (left p ts c 0) ≡ firstNo (left p ts c 3)
-  from-12 a b d e = from-6 a b d ∙ passes 6 (left p ts c 3) (sym (t .order-is) ∙ e)
-
-  pub answer-12 : values ≡ true → entries ≡ true → others ≡ true → order ≡ true → letter ≡ false → 12 ≡ firstNo (left p ts c 0)
-  answer-12 a b d e f = sym (from-12 a b d e ∙ fails 12 [] (sym (t .letter-is) ∙ f))
-
-  pub answer-0 : values ≡ true → entries ≡ true → others ≡ true → order ≡ true → letter ≡ true → 0 ≡ firstNo (left p ts c 0)
-  unfolding firstNo
-  answer-0 a b d e f = sym (from-12 a b d e ∙ passes 12 [] (sym (t .letter-is) ∙ f))
+use Rattle.action.specs.Multiplier.{multiplierQuestions, zeroPair, Multiplies}
 
 module _ (p : Pair) (ts : List ℕ) (c : ℕ) where
   -- answer 0: the code is a letter
@@ -79,7 +36,7 @@ module _ (p : Pair) (ts : List ℕ) (c : ℕ) where
 pub code-fits : (c : ℕ) → isLetter c ≡ true → c * 16 < 256
 code-fits c e = ⊎-elim (λ p. omega arith) (λ p. omega arith) (letter-cases c e)
 
-pub one-code : (c : ℕ) → take 1 (halves (c * 16 ∷ [])) ≡ c ∷ []
+one-code : (c : ℕ) → take 1 (halves (c * 16 ∷ [])) ≡ c ∷ []
 unfolding halves
 one-code c = let e : c * 16 / 16 ≡ c = omega arith in ap (λ (x : ℕ). x ∷ []) e
 

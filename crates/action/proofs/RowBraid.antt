@@ -1,6 +1,6 @@
--- The braid relation on one row, as a function of the column, over any binary field: three letters at g, g + 1, g and three at g + 1, g, g + 1
--- make the same of every column, if their shares agree in four identities of the field. Those of positive and of inverse letters do.
--- Assumes nothing.
+-- The braid relation on one row, as a function of the column, over any binary field: three letters at g, g + 1, g and
+-- three at g + 1, g, g + 1 make the same of every column, if their shares agree in four identities of the field. Those
+-- of positive and of inverse letters do.
 use Prim.Native.Nat.{ℕ, _+_}
 use mathlib.Core.Path.{_≡_, refl, sym, ap₂, _∙_}
 use native.Mathlib.Omega.{arith}
@@ -9,18 +9,19 @@ use Rattle.field.proofs.Ring.{ring}
 use Rattle.action.specs.Action.{Share, rowAfter, positiveShare, inverseShare}
 use Rattle.action.proofs.RowLaws.{Near, before, own, after, other, near, placed, rowAfter-is}
 
--- Letters at g, g + 1, g with shares p, q, r, and at g + 1, g, g + 1 with shares u, v, w. With y and z the entries at g and g + 1, the second
--- letter of the first way finds `inner` in its own column and the third finds `outer`; of the second way likewise
-abbrev pub inner : Operations → Share → ℕ → ℕ → ℕ
+-- Letters at g, g + 1, g with shares p, q, r, and at g + 1, g, g + 1 with shares u, v, w. With y and z the entries at g
+-- and g + 1, the second letter of the first way finds `inner` in its own column and the third finds `outer`; of the
+-- second way likewise
+abbrev inner : Operations → Share → ℕ → ℕ → ℕ
 inner F p y z = F .add z (p .after y)
 
-abbrev pub outer : Operations → Share → Share → ℕ → ℕ → ℕ
+abbrev outer : Operations → Share → Share → ℕ → ℕ → ℕ
 outer F p q y z = F .add (p .own y) (q .before (inner F p y z))
 
-abbrev pub inner' : Operations → Share → ℕ → ℕ → ℕ
+abbrev inner' : Operations → Share → ℕ → ℕ → ℕ
 inner' F u y z = F .add y (u .before z)
 
-abbrev pub outer' : Operations → Share → Share → ℕ → ℕ → ℕ
+abbrev outer' : Operations → Share → Share → ℕ → ℕ → ℕ
 outer' F u v y z = F .add (u .own z) (v .after (inner' F u y z))
 
 -- both ways make the same of the entries in the columns g - 1, g, g + 1 and g + 2

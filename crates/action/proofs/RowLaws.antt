@@ -1,6 +1,5 @@
--- Laws of one letter on one row, as a function of the column, for any share and any binary field: what becomes of each column, bounds, far
--- letters commute, and a letter and its inverse cancel.
--- Assumes nothing.
+-- Laws of one letter on one row, as a function of the column, for any share and any binary field: what becomes of each
+-- column, bounds, far letters commute, and a letter and its inverse cancel.
 use Prim.Native.Nat.{ℕ, _+_, _<_, _≤_}
 use mathlib.Core.Path.{_≡_, refl, sym, ap, ap₂, _∙_}
 use mathlib.Core.Bool.{false}
@@ -74,7 +73,8 @@ module _ {F : Operations} (L : BinaryField F) where
   pub inverse-keeps : (s : ℕ) → Keeps F (inverseShare F s)
   inverse-keeps s = record { before = λ y h. h; own = λ y h. L .mul-below s y; after = λ y h. L .mul-below s y }
 
-  -- far letters, with any shares: each leaves the other's own column as it is, and a column between them gains from both
+  -- far letters, with any shares: each leaves the other's own column as it is, and a column between them gains from
+  -- both
   placed-far : (s t : Share) {c g k : ℕ} → g + 2 ≤ k → (n : Near c g) (m : Near c k) (x y z : ℕ)
       → placed F t m (placed F s n x y) z ≡ placed F s n (placed F t m x z) y
   placed-far s t f (other a b n) m x y z = refl

@@ -1,20 +1,20 @@
--- Words on pairs, over any binary field: a word in two parts, a word with a part in it replaced by another that does the same, and the braid
--- relations as such parts: b b⁻¹ does nothing, far neighbours may change places, j k j may become k j k.
--- Assumes nothing.
+-- Words on pairs, over any binary field: a word in two parts, a word with a part in it replaced by another that does
+-- the same, and the braid relations as such parts: b b⁻¹ does nothing, far neighbours may change places, j k j may
+-- become k j k.
 use Prim.Native.Nat.{ℕ}
 use mathlib.Core.Path.{_≡_, refl, sym, ap, _∙_}
 use mathlib.Core.Bool.{true}
 use mathlib.Core.List.{List, [], _∷_, _++_}
 use Rattle.field.specs.Binary.{Operations, BinaryField}
-use Rattle.braid.specs.Letters.{isLetter, isInverse, opposite}
-use Rattle.braid.proofs.LetterLaws.{Lettered, lettered-cons}
+use Rattle.braid.specs.Letters.{isLetter, isInverse, inverse}
+use Rattle.braid.proofs.LetterLaws.{Lettered, lettered-cons, Apart, Neighbours}
 use Rattle.action.specs.declared.Pair.{Pair}
 use Rattle.action.specs.Action.{letterOn, wordOn}
 use Rattle.action.specs.Good.{TValues, GoodPair}
-use Rattle.action.proofs.BraidRelations.{Apart, Neighbours, letter-good, letter-inverse, far-commutation, braid-relation}
+use Rattle.action.proofs.BraidRelations.{letter-good, letter-inverse, far-commutation, braid-relation}
 
 -- two words in a row
-pub wordOn-append : (F : Operations) (ts v w : List ℕ) (p : Pair) → wordOn F ts (v ++ w) p ≡ wordOn F ts w (wordOn F ts v p)
+wordOn-append : (F : Operations) (ts v w : List ℕ) (p : Pair) → wordOn F ts (v ++ w) p ≡ wordOn F ts w (wordOn F ts v p)
 unfolding wordOn
 wordOn-append F ts [] w p = refl
 wordOn-append F ts (c ∷ v) w p = wordOn-append F ts v w (letterOn F ts c p)
@@ -33,16 +33,16 @@ module _ {F : Operations} (L : BinaryField F) (ts : List ℕ) where
 
   -- a part x of a word, after a word u of letters and before a word v, gives way to a part y that does the same
   pub same-inside : (u x y v : List ℕ) → Lettered u → SameOn F ts x y → SameOn F ts (u ++ (x ++ v)) (u ++ (y ++ v))
-  same-inside u x y v e same p good =
+  same-inside u x y v e equal p good =
       let q : Pair = wordOn F ts u p in
       in-parts x
-      ∙ ap (wordOn F ts v) (same q (word-good u p e good))
+      ∙ ap (wordOn F ts v) (equal q (word-good u p e good))
       ∙ sym (in-parts y)
     where
       in-parts : (x : List ℕ) → wordOn F ts (u ++ (x ++ v)) p ≡ wordOn F ts v (wordOn F ts x (wordOn F ts u p))
       in-parts x = wordOn-append F ts u (x ++ v) p ∙ wordOn-append F ts x v (wordOn F ts u p)
 
-  pub same-cancelled : (c : ℕ) → TValues F ts → isLetter c ≡ true → SameOn F ts (c ∷ opposite c ∷ []) []
+  pub same-cancelled : (c : ℕ) → TValues F ts → isLetter c ≡ true → SameOn F ts (c ∷ inverse c ∷ []) []
   unfolding wordOn
   same-cancelled c tv e p good = letter-inverse L ts c p tv e good
 

@@ -1,7 +1,7 @@
--- Wrong multipliers are shut out by the contract, each by a witness: one that leaves its pair, one that takes the T-value at a place and not that of the
--- label there, one that exchanges two labels wherever they are and not two places, and one that changes a letter's own column before a neighbour has
--- read it. Each is refuted for positive letters alone and for inverse ones alone, on the identity matrix with eight labels, each once.
--- Assumes nothing.
+-- Wrong multipliers are shut out by the contract, each by a witness: one that leaves its pair, one that takes the
+-- T-value at a place and not that of the label there, one that exchanges two labels wherever they are and not two
+-- places, and one that changes a letter's own column before a neighbour has read it. Each is refuted for positive
+-- letters alone and for inverse ones alone, on the identity matrix with eight labels, each once.
 use Prim.Native.Nat.{ℕ, _+_}
 use mathlib.Core.Path.{_≡_, refl, sym, ap, _∙_}
 use mathlib.Core.Bool.{Bool, true, false, cond}
@@ -9,7 +9,7 @@ use mathlib.Core.List.{List, [], _∷_, map}
 use native.Mathlib.Omega.{arith}
 use lib.Dec.{eqb}
 use lib.ListN.{length, getD}
-use Rattle.base.specs.Questions.{firstNo, granted}
+use Rattle.base.specs.Questions.{firstNo}
 use Rattle.base.specs.Lists.{every, count, values, valuesFrom, eachOnce}
 use Rattle.base.proofs.QuestionLaws.{granted-zero}
 use Rattle.field.specs.Polynomial.{timesX, horner, times, first, reciprocalOf}
@@ -17,8 +17,10 @@ use Rattle.field.specs.Gf32.{gf32}
 use Rattle.braid.specs.Letters.{generator, isInverse}
 use Rattle.action.specs.declared.Pair.{Pair}
 use Rattle.action.specs.declared.Multiplied.{Multiplied}
-use Rattle.action.specs.Layout.{entry, matrixOf}
-use Rattle.action.specs.Action.{Share, tValue, shareOf, rowAfter, swapped, pairOf, letterOn, identity, identityWith}
+use Rattle.matrix.specs.Layout.{place, rowOf, columnOf, entry, matrixOf}
+use Rattle.matrix.specs.Product.{identity}
+use Rattle.braid.specs.Strands.{swapped}
+use Rattle.action.specs.Action.{Share, tValue, shareOf, rowAfter, rowsOn, pairOf, letterOn, identityWith}
 use Rattle.action.specs.Multiplier.{multiplierQuestions, zeroPair, Multiplies}
 
 -- ---- what they do
@@ -28,25 +30,26 @@ LetterOn = (ts : List ℕ) (c : ℕ) (p : Pair) → Pair
 
 -- a letter by its share and the labels that it leaves
 abbrev pub by : Share → List ℕ → ℕ → Pair → Pair
-by s labels c p = pairOf (matrixOf (λ r. rowAfter gf32 s (generator c) (entry (p .matrix) r))) labels
+by s labels c p = pairOf (rowsOn gf32 s (generator c) (p .matrix)) labels
 
 -- the T-value at a place, as if each label stood at its own
 abbrev pub ofPlace : LetterOn
-ofPlace ts c p = by (shareOf gf32 ts (values (λ a. a) 8) c) (swapped (generator c) (p .labels)) c p
+ofPlace ts c p = by (shareOf gf32 ts (values (λ a. a) 8) (isInverse c) (generator c)) (swapped (generator c) (p .labels)) c p
 
 -- labels g and g + 1 exchanged wherever they are
 abbrev pub exchanged : ℕ → List ℕ → List ℕ
 exchanged g labels = map (λ l. cond (eqb l g) (g + 1) (cond (eqb l (g + 1)) g l)) labels
 
 abbrev pub byValue : LetterOn
-byValue ts c p = by (shareOf gf32 ts (p .labels) c) (exchanged (generator c) (p .labels)) c p
+byValue ts c p = by (shareOf gf32 ts (p .labels) (isInverse c) (generator c)) (exchanged (generator c) (p .labels)) c p
 
--- column i changed first: the column before (true), or the column after (false), gains its share of column i as the letter has left it
+-- column i changed first: the column before (true), or the column after (false), gains its share of column i as the
+-- letter has left it
 abbrev pub late : Bool → Share → Share
 late before s = record { before = λ x. s .before (cond before (s .own x) x); own = s .own; after = λ x. s .after (cond before x (s .own x)) }
 
 abbrev pub ownFirst : Bool → LetterOn
-ownFirst before ts c p = by (late before (shareOf gf32 ts (p .labels) c)) (swapped (generator c) (p .labels)) c p
+ownFirst before ts c p = by (late before (shareOf gf32 ts (p .labels) (isInverse c) (generator c))) (swapped (generator c) (p .labels)) c p
 
 -- ---- multipliers
 
@@ -91,7 +94,7 @@ module _ (f : Multiplier) (meets : Meets f) where
   shows : {inverse : Bool} {g : LetterOn} (look : Pair → ℕ) (order : List ℕ) (c : ℕ) → Gives inverse g → length order ≡ 8
       → firstNo (multiplierQuestions (identityWith order) plain c) ≡ 0 → isInverse c ≡ inverse
       → look (letterOn gf32 plain c (identityWith order)) ≡ look (g plain c (identityWith order))
-  unfolding identity matrixOf valuesFrom
+  unfolding identity rowOf columnOf matrixOf valuesFrom
   shows look order c gives l q s =
       let p : Pair = identityWith order in
       let a : Accepted p plain c = record { entries = refl; strands = l; t-values = refl; passed = q } in
@@ -99,24 +102,25 @@ module _ (f : Multiplier) (meets : Meets f) where
 
   -- b3: row 3 has 2, 2, 1 in columns 2, 3, 4. Its inverse: 1, 28, 28 (document 01's slips)
   pub leaves-its-pair : (inverse : Bool) → Gives inverse (λ ts c p. p) → ⊥
-  unfolding identity entry matrixOf valuesFrom firstNo every count eachOnce tValue shareOf rowAfter letterOn times horner timesX
+  unfolding identity place rowOf columnOf entry matrixOf valuesFrom firstNo every count eachOnce tValue shareOf rowAfter letterOn times horner timesX
   leaves-its-pair true wrong = let e : _≡_ {A = ℕ} 1 0 = shows (at 2 1) in-order 10 wrong refl refl refl in omega arith
   leaves-its-pair false wrong = let e : _≡_ {A = ℕ} 2 0 = shows (at 2 1) in-order 2 wrong refl refl refl in omega arith
 
   pub own-column-first : (before inverse : Bool) → Gives inverse (ownFirst before) → ⊥
-  unfolding identity entry matrixOf valuesFrom firstNo every count eachOnce tValue shareOf rowAfter letterOn times horner timesX first reciprocalOf
+  unfolding identity place rowOf columnOf entry matrixOf valuesFrom firstNo every count eachOnce tValue shareOf rowAfter letterOn times horner timesX first reciprocalOf
   own-column-first true true wrong = let e : _≡_ {A = ℕ} 1 28 = shows (at 2 1) in-order 10 wrong refl refl refl in omega arith
   own-column-first true false wrong = let e : _≡_ {A = ℕ} 2 4 = shows (at 2 1) in-order 2 wrong refl refl refl in omega arith
   own-column-first false true wrong = let e : _≡_ {A = ℕ} 28 23 = shows (at 2 3) in-order 10 wrong refl refl refl in omega arith
   own-column-first false false wrong = let e : _≡_ {A = ℕ} 1 2 = shows (at 2 3) in-order 2 wrong refl refl refl in omega arith
 
-  -- labels 2 and 3 stand at the first two places: b1 takes 2 and not 1, its inverse 28 and not 1, and label 3 comes first
+  -- labels 2 and 3 stand at the first two places: b1 takes 2 and not 1, its inverse 28 and not 1, and label 3 comes
+  -- first
   pub value-of-the-place : (inverse : Bool) → Gives inverse ofPlace → ⊥
-  unfolding identity entry matrixOf valuesFrom firstNo every count eachOnce tValue shareOf rowAfter letterOn times horner timesX first reciprocalOf
+  unfolding identity place rowOf columnOf entry matrixOf valuesFrom firstNo every count eachOnce tValue shareOf rowAfter letterOn times horner timesX first reciprocalOf
   value-of-the-place true wrong = let e : _≡_ {A = ℕ} 28 1 = shows (at 0 0) crossed 8 wrong refl refl refl in omega arith
   value-of-the-place false wrong = let e : _≡_ {A = ℕ} 2 1 = shows (at 0 0) crossed 0 wrong refl refl refl in omega arith
 
   pub labels-by-value : (inverse : Bool) → Gives inverse byValue → ⊥
-  unfolding firstNo every count eachOnce valuesFrom identity matrixOf swapped letterOn
+  unfolding firstNo every count eachOnce valuesFrom identity rowOf columnOf matrixOf swapped letterOn
   labels-by-value true wrong = let e : _≡_ {A = ℕ} 3 2 = shows first-label crossed 8 wrong refl refl refl in omega arith
   labels-by-value false wrong = let e : _≡_ {A = ℕ} 3 2 = shows first-label crossed 0 wrong refl refl refl in omega arith

@@ -1,18 +1,21 @@
--- E-multiplication over any field in which a + a = 0: letters and words multiplied into a pair of a matrix and a list of labels (source 003, as document 01 has it).
--- Columns, rows and places count from 0 here, so the letter with generator number g + 1 has its own column at g.
--- Assumes nothing.
-use Prim.Native.Nat.{ℕ, zero, suc, _+_}
-use mathlib.Core.Bool.{cond}
+-- E-multiplication over any field in which a + a = 0: letters and words multiplied into a pair of a matrix and a list
+-- of labels (source 003, as document 01 has it). Columns, rows and places count from 0 here, so the letter with
+-- generator number g + 1 has its own column at g.
+use Prim.Native.Nat.{ℕ, _+_}
+use mathlib.Core.Bool.{Bool, cond}
 use mathlib.Core.List.{List, [], _∷_}
 use lib.Dec.{eqb}
-use lib.ListN.{getD, set}
+use lib.ListN.{getD}
 use Rattle.base.specs.Lists.{every, values}
 use Rattle.field.specs.Binary.{Operations}
+use Rattle.matrix.specs.Layout.{entry, matrixOf}
+use Rattle.matrix.specs.Product.{identity}
 use Rattle.braid.specs.Letters.{generator, isInverse, isLetter}
 use Rattle.action.specs.declared.Pair.{Pair}
-use Rattle.action.specs.Layout.{entry, matrixOf}
+use Rattle.braid.specs.Strands.{swapped}
 
--- what a letter makes of an entry of its own column: what the column before gains, what its own becomes, what the column after gains
+-- what a letter makes of an entry of its own column: what the column before gains, what its own becomes, what the
+-- column after gains
 pub record Share : Type 0 where
   pub before : ℕ → ℕ
   pub own : ℕ → ℕ
@@ -22,18 +25,20 @@ pub record Share : Type 0 where
 unfoldable pub tValue : List ℕ → List ℕ → ℕ → ℕ
 tValue ts labels place = getD ts (getD labels place 0) 0
 
--- b_i takes t, the T-value of L(i): column i - 1 gains t × old column i, column i becomes t × old column i, column i + 1 gains old column i
+-- b_i takes t, the T-value of L(i): column i - 1 gains t × old column i, column i becomes t × old column i, column
+-- i + 1 gains old column i
 abbrev pub positiveShare : Operations → ℕ → Share
 positiveShare F t = record { before = λ x. F .mul t x; own = λ x. F .mul t x; after = λ x. x }
 
--- the inverse letter takes s, the reciprocal of the T-value of L(i + 1): column i - 1 gains old column i, column i becomes s × old column i,
--- column i + 1 gains s × old column i
+-- the inverse letter takes s, the reciprocal of the T-value of L(i + 1): column i - 1 gains old column i, column i
+-- becomes s × old column i, column i + 1 gains s × old column i
 abbrev pub inverseShare : Operations → ℕ → Share
 inverseShare F s = record { before = λ x. x; own = λ x. F .mul s x; after = λ x. F .mul s x }
 
-unfoldable pub shareOf : Operations → List ℕ → List ℕ → ℕ → Share
-shareOf F ts labels c =
-    cond (isInverse c) (inverseShare F (F .inv (tValue ts labels (generator c + 1)))) (positiveShare F (tValue ts labels (generator c)))
+-- the share of a letter, inverse or not, whose own column is g
+unfoldable pub shareOf : Operations → List ℕ → List ℕ → Bool → ℕ → Share
+shareOf F ts labels inverse g =
+    cond inverse (inverseShare F (F .inv (tValue ts labels (g + 1)))) (positiveShare F (tValue ts labels g))
 
 -- a row after a letter whose own column is g: the row as a function of the column. For g = 0 there is no column before
 unfoldable pub rowAfter : Operations → Share → ℕ → (ℕ → ℕ) → ℕ → ℕ
@@ -43,9 +48,9 @@ rowAfter F s g row c =
     (cond (eqb c (g + 1)) (F .add (row c) (s .after (row g)))
     (row c)))
 
--- the labels at two neighbouring places change places
-unfoldable pub swapped : ℕ → List ℕ → List ℕ
-swapped g labels = set (set labels g (getD labels (g + 1) 0)) (g + 1) (getD labels g 0)
+-- the matrix with every row after the letter
+abbrev pub rowsOn : Operations → Share → ℕ → List ℕ → List ℕ
+rowsOn F s g m = matrixOf (λ r. rowAfter F s g (entry m r))
 
 -- a pair from its matrix and its list
 abbrev pub pairOf : List ℕ → List ℕ → Pair
@@ -55,7 +60,7 @@ pairOf matrix labels = record { matrix = matrix; labels = labels }
 unfoldable pub letterOn : Operations → List ℕ → ℕ → Pair → Pair
 letterOn F ts c p =
     pairOf
-    (matrixOf (λ r. rowAfter F (shareOf F ts (p .labels) c) (generator c) (entry (p .matrix) r)))
+    (rowsOn F (shareOf F ts (p .labels) (isInverse c) (generator c)) (generator c) (p .matrix))
     (swapped (generator c) (p .labels))
 
 -- a word on a pair ("carries"): its letters first to last, each on the pair that the last one left
@@ -67,10 +72,6 @@ wordOn F ts (c ∷ w) p = wordOn F ts w (letterOn F ts c p)
 unfoldable pub codesOn : Operations → List ℕ → List ℕ → Pair → Pair
 codesOn F ts cs p = cond (every isLetter cs) (wordOn F ts cs p) p
 
--- the identity matrix
-unfoldable pub identity : List ℕ
-identity = matrixOf (λ r c. cond (eqb r c) 1 0)
-
 -- the identity matrix with a list
 abbrev pub identityWith : List ℕ → Pair
 identityWith labels = pairOf identity labels
@@ -78,12 +79,3 @@ identityWith labels = pairOf identity labels
 -- the starting pair: the identity with the list 0 to 7
 unfoldable pub start : Pair
 start = identityWith (values (λ a. a) 8)
-
--- f 0 + f 1 + .. + f (n - 1) over the field
-unfoldable pub sum : Operations → (ℕ → ℕ) → ℕ → ℕ
-sum F f zero = 0
-sum F f (suc n) = F .add (sum F f n) (f n)
-
--- the product of two 8 by 8 matrices
-unfoldable pub matrixProduct : Operations → List ℕ → List ℕ → List ℕ
-matrixProduct F a b = matrixOf (λ r c. sum F (λ k. F .mul (entry a r k) (entry b k c)) 8)

@@ -1,6 +1,5 @@
--- What the laws of pairs ask: T-values other than zero, and a pair with 64 elements of the field and eight labels 0 to 7. A label may occur
--- more than once: the laws do not ask that each occurs once.
--- Assumes nothing.
+-- What the laws of pairs ask: T-values other than zero, and a pair with 64 elements of the field and eight labels 0 to
+-- 7. A label may occur more than once: the laws do not ask that each occurs once.
 use Prim.Native.Nat.{ℕ, _<_}
 use mathlib.Core.Path.{_≡_}
 use mathlib.Core.List.{List}

@@ -1,4 +1,3 @@
-pub mod Layout
 pub mod Action
 pub mod Good
 pub mod Multiplier

@@ -1,5 +1,4 @@
 -- The multiplier used alone: its questions (17 for T-values and entries, then 4, 6, 12), and what it gives.
--- Assumes nothing.
 use Prim.Native.Nat.{ℕ}
 use mathlib.Core.Path.{_≡_}
 use mathlib.Core.Bool.{Bool, not, _&&_}
@@ -7,11 +6,12 @@ use mathlib.Core.List.{List, [], _∷_}
 use lib.Dec.{eqb}
 use lib.ListN.{replicate}
 use Rattle.base.specs.Questions.{Question, _else_, firstNo, granted}
-use Rattle.base.specs.Lists.{every, eachOnce}
+use Rattle.base.specs.Lists.{every}
 use Rattle.field.specs.Gf32.{gf32, isElement}
 use Rattle.braid.specs.Letters.{isLetter}
 use Rattle.action.specs.declared.Pair.{Pair}
 use Rattle.action.specs.Action.{pairOf, letterOn}
+use Rattle.braid.specs.Strands.{isOrder}
 
 -- The tests that keys and cloaking ask too. Are T-values or entries elements of the field?
 abbrev pub elements : List ℕ → Bool
@@ -20,10 +20,6 @@ elements xs = every isElement xs
 -- is no T-value zero?
 abbrev pub nonzero : List ℕ → Bool
 nonzero ts = every (λ t. not (eqb t 0)) ts
-
--- is the list 0 to 7, each once?
-abbrev pub isOrder : List ℕ → Bool
-isOrder labels = eachOnce 8 labels
 
 -- The multiplier alone: 17 for T-values and entries, then 4, 6, 12
 abbrev pub multiplierQuestions : Pair → List ℕ → ℕ → List Question

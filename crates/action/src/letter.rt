@@ -1,35 +1,29 @@
 // One letter multiplied into a pair, in place.
 use crate::Pair;
+use field::times;
+use matrix::place;
 ghost use mathlib.Core.Path.{_≡_};
-ghost use Prim.Native.Nat.{_+_, _*_, _<_};
+ghost use Prim.Native.Nat.{_+_, _<_};
 ghost use mathlib.Core.Bool.{true, cond};
 ghost use lib.ListN.{length, getD};
 ghost use Rattle.field.specs.Gf32.{gf32, products};
 ghost use Rattle.braid.specs.Letters.{isLetter};
-ghost use Rattle.action.specs.Action.{tValue, swapped, letterOn, pairOf};
-ghost use Rattle.action.specs.Rows.{shareBy, knownShare, rowOn, rowsOn, Lent};
-
-// A product, by the lent table.
-pub(crate) fn times(table: &[u8; 1024], a: u8, b: u8) -> u8
-    requires { ⌜ now table ≡ products ⌝ }
-    ensures { λ r. ⌜ r ≡ gf32 .mul a b ⌝ }
-{
-    let i = (a % 32) as usize;
-    let j = (b % 32) as usize;
-    table[32 * i + j]
-}
+ghost use Rattle.braid.specs.Strands.{swapped};
+ghost use Rattle.action.specs.Action.{tValue, letterOn, pairOf, rowsOn};
+ghost use Rattle.action.specs.Rows.{shareBy, knownShare, rowOn, Lent};
 
 // Row r after a letter whose own column is g. Rows and columns count from 0; for g = 0 there is no column before.
 fn spread(m: &mut [u8; 64], r: usize, g: usize, before: u8, own: u8, after: u8)
     requires { ⌜ (length (now m) ≡ 64) × (r < 8) × (g < 7) ⌝ }
     ensures { λ _. ⌜ now (m .exit) ≡ rowOn gf32 (knownShare before own after) g r (now (m .entry)) ⌝ }
 {
-    let at = 8 * r + g;
     if 0 < g {
-        m[at - 1] = m[at - 1] ^ before;
+        let left = place(r, g - 1);
+        m[left] = m[left] ^ before;
     }
-    m[at] = own;
-    m[at + 1] = m[at + 1] ^ after;
+    m[place(r, g)] = own;
+    let right = place(r, g + 1);
+    m[right] = m[right] ^ after;
 }
 
 // The same, from the number that the letter takes.
@@ -37,7 +31,7 @@ fn row(m: &mut [u8; 64], table: &[u8; 1024], k: u8, inverse: bool, g: usize, r: 
     requires { ⌜ (length (now m) ≡ 64) × (now table ≡ products) × (r < 8) × (g < 7) ⌝ }
     ensures { λ _. ⌜ now (m .exit) ≡ rowOn gf32 (shareBy gf32 inverse k) g r (now (m .entry)) ⌝ }
 {
-    let own = m[8 * r + g];
+    let own = m[place(r, g)];
     let product = times(table, k, own);
     if inverse {
         spread(m, r, g, own, product, product);
@@ -77,7 +71,8 @@ fn of_label(list: &[u8; 256], label: u8) -> u8
     list[label as usize]
 }
 
-// The number that a letter takes: the T-value of the label at its place, or for an inverse letter the reciprocal of that of the next label.
+// The number that a letter takes: the T-value of the label at its place, or for an inverse letter the reciprocal of
+// that of the next label.
 fn taken(
     labels: &[u8; 8],
     t_values: &[u8; 256],

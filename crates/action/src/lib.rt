@@ -1,20 +1,17 @@
 // E-multiplication: pairs of a matrix over GF(32) and a list of labels, and braid words multiplied into them.
 ghost use mathlib.Core.Path.{_≡_};
-ghost use Rattle.action.specs.Action.{start};
+ghost use Rattle.action.specs.Action.{pairOf, start};
+ghost use Rattle.action.specs.Multiplier.{zeroPair};
 
-mod layout; // layout.rt: the entry in a row and a column
 mod letter; // letter.rt: one letter, in place
 mod multiplier; // multiplier.rt: the multiplier used alone
-mod product; // product.rt: the product of two matrices
-mod tests; // tests.rt: tests on T-values, entries and labels
+mod operands; // operands.rt: tests on T-values, entries and labels
 mod word; // word.rt: whole words
 
-pub use layout::entry;
 pub use multiplier::multiply;
-pub use product::matrix_product;
-pub use tests::all_elements;
-pub use tests::all_nonzero;
-pub use tests::is_order;
+pub use operands::all_elements;
+pub use operands::all_nonzero;
+pub use operands::is_order;
 pub use word::carry;
 
 // An 8 by 8 matrix, row by row, and a list of eight labels.
@@ -24,7 +21,8 @@ pub struct Pair {
     pub labels: [u8; 8],
 }
 
-// What the multiplier gives: the number of the first question answered no, 0 if there is none, and the pair, all zeros on a refusal.
+// What the multiplier gives: the number of the first question answered no, 0 if there is none, and the pair, all zeros
+// on a refusal.
 pub struct Multiplied {
     pub answer: u8,
     pub pair: Pair,
@@ -36,6 +34,20 @@ impl Pair {
 
     // The most letters of a word that is multiplied into a pair as a file.
     pub const LETTERS: usize = braid::MAX_LETTERS;
+
+    // The pair of a matrix and a list.
+    pub fn with(matrix: [u8; 64], labels: [u8; 8]) -> Pair
+        ensures { λ r. ⌜ r ≡ pairOf matrix labels ⌝ }
+    {
+        Pair { matrix, labels }
+    }
+
+    // The pair of a refusal.
+    pub fn zeros() -> Pair
+        ensures { λ r. ⌜ r ≡ zeroPair ⌝ }
+    {
+        Pair::with([0u8; 64], [0u8; 8])
+    }
 
     // The starting pair: the identity matrix with the list 0 to 7.
     pub fn start() -> Pair
@@ -50,7 +62,6 @@ impl Pair {
         matrix[45] = 1;
         matrix[54] = 1;
         matrix[63] = 1;
-        let labels = [0u8, 1, 2, 3, 4, 5, 6, 7];
-        Pair { matrix, labels }
+        Pair::with(matrix, [0, 1, 2, 3, 4, 5, 6, 7])
     }
 }

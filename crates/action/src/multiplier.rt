@@ -1,9 +1,9 @@
 // The multiplier used alone: its questions, and one letter on a pair.
 use crate::Multiplied;
 use crate::Pair;
-use crate::tests::all_elements;
-use crate::tests::all_nonzero;
-use crate::tests::is_order;
+use crate::operands::all_elements;
+use crate::operands::all_nonzero;
+use crate::operands::is_order;
 use crate::word::carry;
 ghost use mathlib.Core.Path.{_≡_};
 ghost use mathlib.Core.Bool.{true};
@@ -11,7 +11,7 @@ ghost use Rattle.base.specs.Questions.{firstNo};
 ghost use Rattle.field.specs.Gf32.{gf32};
 ghost use Rattle.braid.specs.Letters.{isLetter};
 ghost use Rattle.action.specs.Action.{letterOn};
-ghost use Rattle.action.specs.Multiplier.{multiplierQuestions, zeroPair, Multiplies};
+ghost use Rattle.action.specs.Multiplier.{multiplierQuestions, Multiplies};
 
 // The number of the first question answered no, 0 if there is none: 17, 4, 6, 12.
 fn multiplier_answer(pair: Pair, t_values: &[u8; 8], letter: u8) -> u8
@@ -42,15 +42,6 @@ fn multiplier_answer(pair: Pair, t_values: &[u8; 8], letter: u8) -> u8
     0
 }
 
-// The pair of a refusal.
-fn zero_pair() -> Pair
-    ensures { λ r. ⌜ r ≡ zeroPair ⌝ }
-{
-    let matrix = [0u8; 64];
-    let labels = [0u8; 8];
-    Pair { matrix, labels }
-}
-
 // One letter on a pair: the word of that letter.
 fn one_letter(pair: Pair, t_values: &[u8; 8], letter: u8) -> Pair
     requires { ⌜ isLetter letter ≡ true ⌝ }
@@ -66,7 +57,7 @@ pub fn multiply(pair: Pair, t_values: &[u8; 8], letter: u8) -> Multiplied
 {
     let answer = multiplier_answer(pair, t_values, letter);
     if answer != 0 {
-        let zeros = zero_pair();
+        let zeros = Pair::zeros();
         return Multiplied {
             answer,
             pair: zeros,

@@ -83,7 +83,8 @@ fn codes_in(part: &[u8], n: usize) -> usize
     if n < all { n } else { all }
 }
 
-// The first n packed codes, or all if there are fewer, multiplied into the pair; where one of them is no letter, the pair as it was.
+// The first n packed codes, or all if there are fewer, multiplied into the pair; where one of them is no letter, the
+// pair as it was.
 pub fn carry(pair: Pair, t_values: &[u8; 8], part: &[u8], n: usize) -> Pair
     ensures { λ r. ⌜ r ≡ codesOn gf32 (now («t_values» .entry)) (take n (halves (now (part .entry)))) pair ⌝ }
 {
@@ -105,5 +106,5 @@ pub fn carry(pair: Pair, t_values: &[u8; 8], part: &[u8], n: usize) -> Pair
         part,
         end,
     );
-    Pair { matrix, labels }
+    Pair::with(matrix, labels)
 }

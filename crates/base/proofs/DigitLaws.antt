@@ -1,13 +1,11 @@
--- Laws of digits: how many there are, the number that a row of digits writes and the digits of a number, each of the other; rows that are joined;
--- half bytes one by one. "All below b" is said of every place, also past the end, where 0 stands.
--- Assumes nothing.
+-- Laws of digits: how many there are, the number that a row of digits writes and the digits of a number, each of the
+-- other; rows that are joined; half bytes one by one. "All below b" is said of every place, also past the end, where 0
+-- stands.
 use Prim.Native.Nat.{ℕ, zero, suc, _+_, _-_, _*_, _/_, _%_, _^_, _≤_, _<_}
 use mathlib.Core.Path.{_≡_, refl, sym, ap, ap₂, _∙_}
 use mathlib.Core.Bool.{Bool, true, _&&_}
 use mathlib.Core.List.{List, [], _∷_, _++_}
-use native.Mathlib.Nat.{add-assoc, add-comm, add-zero, zero-add, suc-add, mul-comm, mul-assoc, add-mul, mul-one, one-mul, zero-mul}
-use native.Mathlib.Nat.{pow-zero, pow-suc, pow-succ', one-le-pow, mul-le-mul-right, suc-mul, zero-lt-suc}
-use native.Mathlib.Nat.{mod-lt, mod-eq-of-lt, mod-one, div-eq-of-lt, div-add-mod', div-div-eq-div-mul, add-mul-div-right, add-mul-mod-self-right, mul-add-mod-self-right, mul-add-div-right}
+use native.Mathlib.Nat.{add-assoc, add-comm, add-zero, zero-add, suc-add, mul-comm, mul-assoc, add-mul, mul-one, one-mul, zero-mul, pow-zero, pow-suc, pow-succ', one-le-pow, mul-le-mul-right, suc-mul, zero-lt-suc, mod-lt, mod-eq-of-lt, mod-one, div-eq-of-lt, div-add-mod', div-div-eq-div-mul, add-mul-div-right, add-mul-mod-self-right, mul-add-mod-self-right, mul-add-div-right}
 use native.Mathlib.Numerals.{add-one}
 use native.Mathlib.Omega.{arith}
 use borrow.Author.Tests.{ltb-true, lt-ltb}

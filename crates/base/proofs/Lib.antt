@@ -1,3 +1,4 @@
 pub mod QuestionLaws
 pub mod ListLaws
 pub mod DigitLaws
+pub mod PackLaws

@@ -1,6 +1,5 @@
--- Laws of lists of numbers: a test on every element and its elements one by one, lists of values, two lists compared, how often a number
--- occurs, and what a writer leaves of its output.
--- Assumes nothing.
+-- Laws of lists of numbers: a test on every element and its elements one by one, lists of values, two lists compared,
+-- how often a number occurs, and what a writer leaves of its output.
 use Prim.Native.Nat.{ℕ, zero, suc, _+_, _≤_, _<_, zero-le, suc-le-suc}
 use mathlib.Core.Path.{_≡_, refl, sym, ap, ap₂, _∙_}
 use mathlib.Core.Bool.{Bool, true, false, cond, _&&_, Bool·beq, true≢false, false≢true}
@@ -8,11 +7,12 @@ use mathlib.Core.List.{List, [], _∷_, _++_}
 use native.Mathlib.Nat.{not-suc-le-zero, le-of-suc-le-suc, zero-lt-suc, add-zero, add-suc, zero-add, suc-add}
 use native.Mathlib.Numerals.{add-one}
 use native.Mathlib.Omega.{arith}
+use native.Mathlib.Decide.{ℕ-discrete}
 use borrow.Author.Tests.{ltb-true, eqb-true, eq-eqb}
 use lib.Dec.{eqb, ltb}
 use lib.ListN.{length, take, drop, getD, set, length-append, length-drop, take-append-drop}
-use lib.Seq.{take-suc, drop-cons, length-take-le, drop-nil, take-length, set-at, append-snoc, take-append-seam, drop-append-seam, ext-getD}
-use Rattle.base.specs.Lists.{every, count, valuesFrom, values, same, overlaid, eachOnce}
+use lib.Seq.{take-suc, drop-cons, length-take-le, drop-nil, take-length, set-at, append-snoc, take-append-seam, drop-append-seam, ext-getD, getD-set-same, getD-set-other}
+use Rattle.base.specs.Lists.{every, count, valuesFrom, values, equal, overlaid, eachOnce}
 
 -- ---- two tests at once
 
@@ -157,6 +157,15 @@ values-of f n l e h =
 pub values-getD : (l : List ℕ) (n : ℕ) → length l ≡ n → values (λ k. getD l k 0) n ≡ l
 values-getD l n e = sym (values-of (λ k. getD l k 0) n l e (λ k b. refl))
 
+-- a loop that fills a list: it has the values before place i, and then at i
+pub one-more : (f : ℕ → ℕ) (l : List ℕ) (i v : ℕ) → i < length l → ((k : ℕ) → k < i → getD l k 0 ≡ f k) → v ≡ f i
+    → (k : ℕ) → k < i + 1 → getD (set l i v) k 0 ≡ f k
+one-more f l i v h before e k b = at (ℕ-discrete k i)
+  where
+    at : Dec (k ≡ i) → getD (set l i v) k 0 ≡ f k
+    at (yes d) = rw d (getD-set-same l i v 0 h ∙ e)
+    at (no n) = getD-set-other l i k v 0 n ∙ before k (omega arith)
+
 -- a test on the values, one by one
 pub every-values : (t : ℕ → Bool) (f : ℕ → ℕ) (n : ℕ) → every t (values f n) ≡ true → (k : ℕ) → k < n → t (f k) ≡ true
 every-values t f n e k h =
@@ -165,28 +174,28 @@ every-values t f n e k h =
 
 -- ---- two lists compared
 
-pub same-true : (xs ys : List ℕ) → same xs ys ≡ true → xs ≡ ys
-unfolding same
-same-true [] [] e = refl
-same-true [] (y ∷ ys) e = absurd (false≢true e)
-same-true (x ∷ xs) [] e = absurd (false≢true e)
-same-true (x ∷ xs) (y ∷ ys) e =
-    ap₂ (λ (z : ℕ) (zs : List ℕ). z ∷ zs) (eqb-true x y (and-left (eqb x y) (same xs ys) e)) (same-true xs ys (and-right (eqb x y) (same xs ys) e))
+pub equal-true : (xs ys : List ℕ) → equal xs ys ≡ true → xs ≡ ys
+unfolding equal
+equal-true [] [] e = refl
+equal-true [] (y ∷ ys) e = absurd (false≢true e)
+equal-true (x ∷ xs) [] e = absurd (false≢true e)
+equal-true (x ∷ xs) (y ∷ ys) e =
+    ap₂ (λ (z : ℕ) (zs : List ℕ). z ∷ zs) (eqb-true x y (and-left (eqb x y) (equal xs ys) e)) (equal-true xs ys (and-right (eqb x y) (equal xs ys) e))
 
-pub same-refl : (xs : List ℕ) → same xs xs ≡ true
-unfolding same
-same-refl [] = refl
-same-refl (x ∷ xs) = and-both (eq-eqb x x refl) (same-refl xs)
+pub equal-refl : (xs : List ℕ) → equal xs xs ≡ true
+unfolding equal
+equal-refl [] = refl
+equal-refl (x ∷ xs) = and-both (eq-eqb x x refl) (equal-refl xs)
 
-pub same-of : {xs ys : List ℕ} → xs ≡ ys → same xs ys ≡ true
-same-of {xs} e = ap (same xs) (sym e) ∙ same-refl xs
+pub equal-of : {xs ys : List ℕ} → xs ≡ ys → equal xs ys ≡ true
+equal-of {xs} e = ap (equal xs) (sym e) ∙ equal-refl xs
 
-pub same-false : (xs ys : List ℕ) → (xs ≡ ys → ⊥) → same xs ys ≡ false
-same-false xs ys h = not-true-false (same xs ys) (λ t. h (same-true xs ys t))
+pub equal-false : (xs ys : List ℕ) → (xs ≡ ys → ⊥) → equal xs ys ≡ false
+equal-false xs ys h = not-true-false (equal xs ys) (λ t. h (equal-true xs ys t))
 
 -- lists that differ at a place
-pub same-refuted : (xs ys : List ℕ) (k : ℕ) → (getD xs k 0 ≡ getD ys k 0 → ⊥) → same xs ys ≡ false
-same-refuted xs ys k h = same-false xs ys (λ e. h (ap (λ (l : List ℕ). getD l k 0) e))
+pub equal-refuted : (xs ys : List ℕ) (k : ℕ) → (getD xs k 0 ≡ getD ys k 0 → ⊥) → equal xs ys ≡ false
+equal-refuted xs ys k h = equal-false xs ys (λ e. h (ap (λ (l : List ℕ). getD l k 0) e))
 
 -- ---- how often a number occurs
 

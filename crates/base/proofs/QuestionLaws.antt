@@ -1,9 +1,10 @@
--- Laws of numbered questions: one step for a question that is passed, one for a question that is not; what answer 0 tells; lists in a row.
--- Assumes nothing.
+-- Laws of numbered questions: one step for a question that is passed, one for a question that is not; what answer 0
+-- tells; lists in a row.
 use Prim.Native.Nat.{ℕ, zero, suc}
 use mathlib.Core.Path.{_≡_, refl, sym, ap, _∙_, subst}
 use mathlib.Core.Bool.{Bool, true, false, cond, not, _&&_}
 use mathlib.Core.List.{List, [], _∷_, _++_}
+use native.Mathlib.Omega.{arith}
 use lib.Dec.{T, eqb}
 use Rattle.base.specs.Questions.{Question, _else_, firstNo, granted}
 
@@ -76,3 +77,31 @@ pub granted-refused {ℓ} : {A : Type ℓ} {n : ℕ} (a b : A) → (n ≡ 0 → 
 unfolding granted
 granted-refused {n = zero} a b h = absurd (h refl)
 granted-refused {n = suc n} a b h = refl
+
+-- what is given, either way: what holds of the first on 0 and of the second holds of it, and a function of it is what
+-- the function gives on each
+pub granted-either {ℓ} : {A : Type ℓ} (P : A → Type 0) (n : ℕ) (a b : A) → (n ≡ 0 → P a) → P b → P (granted n a b)
+unfolding granted
+granted-either P zero a b p q = p refl
+granted-either P (suc n) a b p q = q
+
+pub granted-ap {ℓ} : {A B : Type ℓ} (f : A → B) (n : ℕ) (a b : A) → f (granted n a b) ≡ granted n (f a) (f b)
+unfolding granted
+granted-ap f zero a b = refl
+granted-ap f (suc n) a b = refl
+
+-- two lists in a row: the first is passed, or has the first refusal; and answer 0 of both
+module _ (ps qs : List Question) (t : T (numbered ps)) where
+  pub all-passed : firstNo ps ≡ 0 → firstNo (ps ++ qs) ≡ firstNo qs
+  all-passed e = in-a-row ps qs t ∙ granted-zero (firstNo qs) (firstNo ps) e
+
+  pub refused-there : (firstNo ps ≡ 0 → ⊥) → firstNo (ps ++ qs) ≡ firstNo ps
+  refused-there h = in-a-row ps qs t ∙ granted-refused (firstNo qs) (firstNo ps) h
+
+  pub both-passed : firstNo (ps ++ qs) ≡ 0 → (firstNo ps ≡ 0) × (firstNo qs ≡ 0)
+  unfolding granted
+  both-passed e = go (firstNo ps) (sym (in-a-row ps qs t) ∙ e)
+    where
+      go : (m : ℕ) → granted m (firstNo qs) m ≡ 0 → (m ≡ 0) × (firstNo qs ≡ 0)
+      go zero z = (refl, z)
+      go (suc m) z = absurd (omega arith)

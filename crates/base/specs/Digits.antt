@@ -1,5 +1,5 @@
--- Digits to a base, the most significant first, and the number that they write. What a file packs are the digits of the number that its bytes
--- write. Assumes nothing.
+-- Digits to a base, the most significant first, and the number that they write. What a file packs are the digits of the
+-- number that its bytes write.
 use Prim.Native.Nat.{ℕ, zero, suc, _+_, _*_, _/_, _%_, _^_}
 use mathlib.Core.List.{List, [], _∷_}
 use lib.ListN.{length, take, drop}

@@ -1,3 +1,4 @@
 pub mod Questions
 pub mod Lists
 pub mod Digits
+pub mod Packing

@@ -1,5 +1,5 @@
--- Lists of numbers: a test on every element, how often a number occurs, the values of a function in a row, two lists compared, and what a
--- writer leaves of its output. Assumes nothing.
+-- Lists of numbers: a test on every element, how often a number occurs, the values of a function in a row, two lists
+-- compared, and what a writer leaves of its output.
 use Prim.Native.Nat.{ℕ, zero, suc, _+_}
 use mathlib.Core.Bool.{Bool, true, false, cond, _&&_}
 use mathlib.Core.List.{List, [], _∷_, _++_}
@@ -26,11 +26,11 @@ abbrev pub values : (ℕ → ℕ) → ℕ → List ℕ
 values f n = valuesFrom f 0 n
 
 -- two lists are the same
-unfoldable pub same : List ℕ → List ℕ → Bool
-same [] [] = true
-same [] (y ∷ ys) = false
-same (x ∷ xs) [] = false
-same (x ∷ xs) (y ∷ ys) = eqb x y && same xs ys
+unfoldable pub equal : List ℕ → List ℕ → Bool
+equal [] [] = true
+equal [] (y ∷ ys) = false
+equal (x ∷ xs) [] = false
+equal (x ∷ xs) (y ∷ ys) = eqb x y && equal xs ys
 
 -- the bytes stand in the first places of the output; the rest is as it was
 unfoldable pub overlaid : List ℕ → List ℕ → List ℕ

@@ -1,5 +1,5 @@
--- Questions with numbers. An operation's answer is the number of the first question that is answered no, and 0 where every answer is yes.
--- Assumes nothing.
+-- Questions with numbers. An operation's answer is the number of the first question that is answered no, and 0 where
+-- every answer is yes.
 use Prim.Native.Nat.{ℕ, zero, suc}
 use mathlib.Core.Bool.{Bool, cond}
 use mathlib.Core.List.{List, [], _∷_}

@@ -1,7 +1,15 @@
-// Bytes copied to the front of an output, and two rows of bytes compared.
+// Bytes copied to the front of an output, two rows of bytes compared, a number in two bytes, and digits regrouped.
+ghost use Prim.Native.Nat.{_+_, _≤_, _<_};
 ghost use mathlib.Core.Path.{_≡_};
 ghost use lib.ListN.{length, take};
-ghost use Rattle.base.specs.Lists.{overlaid, same};
+ghost use Rattle.base.specs.Lists.{overlaid, equal};
+ghost use Rattle.base.specs.Digits.{value, part};
+
+mod pack; // pack.rt: digits regrouped
+
+pub use pack::number;
+pub use pack::regroup;
+pub use pack::spell;
 
 // As many bytes of `from` as fit go to the front of `out`.
 pub fn put(out: &mut [u8], from: &[u8])
@@ -20,7 +28,7 @@ pub fn put(out: &mut [u8], from: &[u8])
 
 // Are two rows of bytes the same?
 pub fn equal(a: &[u8], b: &[u8]) -> bool
-    ensures { λ r. ⌜ r ≡ same (now (a .entry)) (now (b .entry)) ⌝ }
+    ensures { λ r. ⌜ r ≡ equal (now (a .entry)) (now (b .entry)) ⌝ }
 {
     if a.len() != b.len() {
         return false;
@@ -33,4 +41,12 @@ pub fn equal(a: &[u8], b: &[u8]) -> bool
         i += 1;
     }
     true
+}
+
+// The number that two bytes write from a place on, the high one first.
+pub fn two_bytes(bytes: &[u8], at: usize) -> usize
+    requires { ⌜ at + 2 ≤ length (now bytes) ⌝ }
+    ensures { λ r. ⌜ (r ≡ value 256 (part at 2 (now (bytes .entry)))) × (r < 65536) ⌝ }
+{
+    bytes[at] as usize * 256 + bytes[at + 1] as usize
 }

@@ -1,5 +1,5 @@
--- Laws of cancellations, moves of kind 1 one after another: the reduced word is reached by them, and of a word of letters it is the only
--- irreducible word that is. Assumes nothing.
+-- Laws of cancellations, moves of kind 1 one after another: the reduced word is reached by them, and of a word of
+-- letters it is the only irreducible word that is.
 use Prim.Native.Nat.{ℕ, suc, _+_, _≤_}
 use mathlib.Core.Path.{_≡_, refl, sym, ap, _∙_}
 use mathlib.Core.List.{List, [], _∷_, _++_}
@@ -11,8 +11,8 @@ use lib.Seq.{drop-cons}
 use Rattle.base.specs.Questions.{firstNo}
 use Rattle.base.proofs.ListLaws.{and-both, every-append, every-take, every-drop, every-getD}
 use Rattle.base.proofs.QuestionLaws.{passed-answers, answers-passed}
-use Rattle.braid.specs.Letters.{isLetter, opposite}
-use Rattle.braid.specs.Moves.{Cancels, done, then, removal}
+use Rattle.braid.specs.Letters.{isLetter, inverse}
+use Rattle.braid.specs.Cancellation.{Cancels, done, then, removal}
 use Rattle.braid.specs.Reduction.{joined, reduced, Irreducible}
 use Rattle.braid.proofs.LetterLaws.{Lettered}
 use Rattle.braid.proofs.ReductionLaws.{joined-cases, irreducible-reduced, reduced-pair}
@@ -22,16 +22,16 @@ module _ (place : ℕ) (w : List ℕ) where
   abbrev pub Accepted : Type 0
   Accepted = firstNo (removal place w .questions) ≡ 0
 
-  pub accept : place + 2 ≤ length w → getD w (place + 1) 0 ≡ opposite (getD w place 0) → Accepted
+  accept : place + 2 ≤ length w → getD w (place + 1) 0 ≡ inverse (getD w place 0) → Accepted
   accept l e =
       passed-answers (removal place w .questions)
-      (le-leb (place + 2) (length w) l, (eq-eqb (getD w (place + 1) 0) (opposite (getD w place 0)) e, tt))
+      (le-leb (place + 2) (length w) l, (eq-eqb (getD w (place + 1) 0) (inverse (getD w place 0)) e, tt))
 
   pub accepted-fits : Accepted → place + 2 ≤ length w
   accepted-fits a = leb-true (place + 2) (length w) (answers-passed (removal place w .questions) tt a .0)
 
-  pub accepted-inverse : Accepted → getD w (place + 1) 0 ≡ opposite (getD w place 0)
-  accepted-inverse a = eqb-true (getD w (place + 1) 0) (opposite (getD w place 0)) (answers-passed (removal place w .questions) tt a .1 .0)
+  pub accepted-inverse : Accepted → getD w (place + 1) 0 ≡ inverse (getD w place 0)
+  accepted-inverse a = eqb-true (getD w (place + 1) 0) (inverse (getD w place 0)) (answers-passed (removal place w .questions) tt a .1 .0)
 
   -- the word about the two letters
   around : Accepted → take place w ++ (getD w place 0 ∷ getD w (place + 1) 0 ∷ drop (place + 2) w) ≡ w
@@ -47,7 +47,7 @@ module _ (place : ℕ) (w : List ℕ) where
       every-append isLetter (take place w) (drop (place + 2) w)
       ∙ and-both (every-take isLetter place w h) (every-drop isLetter (place + 2) w h)
 
-  pub removal-reduced : Accepted → Lettered w → reduced (removal place w .word) ≡ reduced w
+  removal-reduced : Accepted → Lettered w → reduced (removal place w .word) ≡ reduced w
   removal-reduced a h =
       let l = accepted-fits a in
       let letter = every-getD isLetter w h place (omega arith) in
@@ -55,7 +55,7 @@ module _ (place : ℕ) (w : List ℕ) where
       ∙ ap reduced (around a)
 
 -- cancellations go on after one another, and behind a letter
-pub cancels-on : {w v u : List ℕ} → Cancels w v → Cancels v u → Cancels w u
+cancels-on : {w v u : List ℕ} → Cancels w v → Cancels v u → Cancels w u
 cancels-on done q = q
 cancels-on (then place a p) q = then place a (cancels-on p q)
 
@@ -70,7 +70,7 @@ behind-word : (c place : ℕ) (w : List ℕ) → removal (suc place) (c ∷ w) .
 behind-word c place w =
     let e : suc place + 2 ≡ suc (place + 2) = omega arith in ap (λ (n : ℕ). take (suc place) (c ∷ w) ++ drop n (c ∷ w)) e
 
-pub cancels-behind : (c : ℕ) {w v : List ℕ} → Cancels w v → Cancels (c ∷ w) (c ∷ v)
+cancels-behind : (c : ℕ) {w v : List ℕ} → Cancels w v → Cancels (c ∷ w) (c ∷ v)
 cancels-behind c done = done
 cancels-behind c (then {w = w} {v = v} place a p) =
     let on : Cancels (removal (suc place) (c ∷ w) .word) (c ∷ v) = rw (behind-word c place w) (cancels-behind c p) in
@@ -80,7 +80,7 @@ cancels-behind c (then {w = w} {v = v} place a p) =
 joined-reached : (c : ℕ) (w : List ℕ) → Cancels (c ∷ w) (joined c w)
 joined-reached c w =
     joined-cases (λ w v. Cancels (c ∷ w) v) c
-    (λ v. then 0 (accept 0 (c ∷ opposite c ∷ v) (omega arith) refl) done)
+    (λ v. then 0 (accept 0 (c ∷ inverse c ∷ v) (omega arith) refl) done)
     (λ v n. done) w
 
 -- the reduced word is reached

@@ -1,17 +1,16 @@
--- Laws of letters: which half bytes are letters; the inverse of a letter is a letter, and the inverse of that is the letter again. Words of
--- letters, one letter more or less.
--- Assumes nothing.
+-- Laws of letters: which half bytes are letters; the inverse of a letter is a letter, and the inverse of that is the
+-- letter again. Words of letters, one letter more or less.
 use Prim.Native.Nat.{ℕ, _+_, _-_, _/_, _%_, _≤_, _<_}
-use mathlib.Core.Path.{_≡_, refl, ap, ap₂, _∙_}
+use mathlib.Core.Path.{_≡_, refl, sym, ap, ap₂, _∙_}
 use mathlib.Core.Bool.{Bool, true, false, cond, not, _&&_, _||_, Bool·beq}
 use mathlib.Core.List.{List, _∷_}
 use mathlib.Core.Logic.{_⊎_, inl, inr, ⊎-elim}
 use native.Mathlib.Omega.{arith}
-use borrow.Author.Tests.{leb-true, le-leb, lt-leb, eqb-true}
+use borrow.Author.Tests.{leb-true, eqb-true}
 use lib.Dec.{leb, eqb}
 use Rattle.base.specs.Lists.{every, valuesFrom, values}
 use Rattle.base.proofs.ListLaws.{and-left, and-right, and-both, beq-true, every-values}
-use Rattle.braid.specs.Letters.{isLetter, opposite}
+use Rattle.braid.specs.Letters.{isLetter, isInverse, generator, inverse}
 
 -- what a passed test of two ways tells
 either : (a b : Bool) → (a || b) ≡ true → (a ≡ true) ⊎ (b ≡ true)
@@ -25,14 +24,15 @@ letter-cases c e =
     (λ p. inr (leb-true 8 c (and-left (leb 8 c) (leb c 14) p), leb-true c 14 (and-right (leb 8 c) (leb c 14) p)))
     (either (leb c 6) (leb 8 c && leb c 14) e)
 
-positive-letter : (c : ℕ) → c ≤ 6 → isLetter c ≡ true
-positive-letter c h = ap (λ (b : Bool). b || (leb 8 c && leb c 14)) (le-leb c 6 h)
+pub letter-below : (c : ℕ) → isLetter c ≡ true → c < 15
+letter-below c e = ⊎-elim (λ p. omega arith) (λ p. omega arith) (letter-cases c e)
 
-inverse-letter : (c : ℕ) → 8 ≤ c → c ≤ 14 → isLetter c ≡ true
-inverse-letter c h k =
-    ap₂ (λ (a b : Bool). a || (b && leb c 14)) (lt-leb c 6 (omega arith)) (le-leb 8 c h) ∙ le-leb c 14 k
+-- a letter's own column is one of the first seven
+pub generator-below : (c : ℕ) → isLetter c ≡ true → generator c < 7
+generator-below c e = ⊎-elim (λ p. omega arith) (λ p. omega arith) (letter-cases c e)
 
--- a half byte is no letter where its last three bits are ones, 7 and 15, and one where they are not: one test over the sixteen
+-- a half byte is no letter where its last three bits are ones, 7 and 15, and one where they are not: one test over the
+-- sixteen
 abbrev codeRule : ℕ → Bool
 codeRule h = Bool·beq (not (eqb (h % 8) 7)) (isLetter h)
 
@@ -50,41 +50,45 @@ byte-letters b p =
     ap₂ (λ (x y : Bool). x && y) (half-letter (b / 16) (omega arith))
     (ap (λ (r : ℕ). not (eqb r 7)) low ∙ half-letter (b % 16) (omega arith))
 
--- the high bit of a half byte turned, as a sum and as a difference: one test over the sixteen
-abbrev oppositeRule : ℕ → Bool
-oppositeRule c = eqb (opposite c) (cond (leb 8 c) (c - 8) (c + 8))
+-- the inverse of a letter is a letter with the same generator and the other sign, and the inverse of that is the
+-- letter: one test over the sixteen
+abbrev inverseRule : ℕ → Bool
+inverseRule c =
+    isLetter (inverse c)
+    && (eqb (inverse (inverse c)) c
+    && (eqb (generator (inverse c)) (generator c) && Bool·beq (isInverse (inverse c)) (not (isInverse c))))
 
-opposite-rules : every oppositeRule (values (λ c. c) 16) ≡ true
+inverse-rules : every (λ c. cond (isLetter c) (inverseRule c) true) (values (λ c. c) 16) ≡ true
 unfolding valuesFrom every
-opposite-rules = refl
+inverse-rules = refl
 
-turned : (c : ℕ) → c < 16 → opposite c ≡ cond (leb 8 c) (c - 8) (c + 8)
-turned c h = eqb-true (opposite c) (cond (leb 8 c) (c - 8) (c + 8)) (every-values oppositeRule (λ k. k) 16 opposite-rules c h)
+module _ (c : ℕ) (e : isLetter c ≡ true) where
+  rule : inverseRule c ≡ true
+  rule =
+      ap (λ (b : Bool). cond b (inverseRule c) true) (sym e)
+      ∙ every-values (λ c. cond (isLetter c) (inverseRule c) true) (λ k. k) 16 inverse-rules c (omega (arith, letter-below c e))
 
-pub opposite-low : (c : ℕ) → c < 8 → opposite c ≡ c + 8
-opposite-low c h = turned c (omega arith) ∙ ap (λ (b : Bool). cond b (c - 8) (c + 8)) (lt-leb 8 c h)
+  pub inverse-letter : isLetter (inverse c) ≡ true
+  inverse-letter = and-left _ _ rule
 
-pub opposite-high : (c : ℕ) → 8 ≤ c → c < 16 → opposite c ≡ c - 8
-opposite-high c h l = turned c l ∙ ap (λ (b : Bool). cond b (c - 8) (c + 8)) (le-leb 8 c h)
+  pub inverse-twice : inverse (inverse c) ≡ c
+  inverse-twice = eqb-true _ _ (and-left _ _ (and-right (isLetter (inverse c)) _ rule))
 
--- the inverse of a letter is a letter
-pub opposite-letter : (c : ℕ) → isLetter c ≡ true → isLetter (opposite c) ≡ true
-opposite-letter c e =
-    ⊎-elim (λ p. ap isLetter (opposite-low c (omega arith)) ∙ inverse-letter (c + 8) (omega arith) (omega arith))
-    (λ p. ap isLetter (opposite-high c (p .0) (omega arith)) ∙ positive-letter (c - 8) (omega arith))
-    (letter-cases c e)
+  pub inverse-generator : generator (inverse c) ≡ generator c
+  inverse-generator = eqb-true _ _ (and-left _ _ (and-right (eqb (inverse (inverse c)) c) _ (and-right (isLetter (inverse c)) _ rule)))
 
--- the inverse of the inverse is the letter
-pub opposite-twice : (c : ℕ) → isLetter c ≡ true → opposite (opposite c) ≡ c
-opposite-twice c e =
-    ⊎-elim
-    (λ p.
-    let back : c + 8 - 8 ≡ c = omega arith in
-    ap opposite (opposite-low c (omega arith)) ∙ (opposite-high (c + 8) (omega arith) (omega arith) ∙ back))
-    (λ p.
-    let back : c - 8 + 8 ≡ c = omega arith in
-    ap opposite (opposite-high c (p .0) (omega arith)) ∙ (opposite-low (c - 8) (omega arith) ∙ back))
-    (letter-cases c e)
+  pub inverse-sign : isInverse (inverse c) ≡ not (isInverse c)
+  inverse-sign =
+      beq-true _ _
+      (and-right (eqb (generator (inverse c)) (generator c)) _
+      (and-right (eqb (inverse (inverse c)) c) _ (and-right (isLetter (inverse c)) _ rule)))
+
+-- generators that differ by at least 2, and by 1
+abbrev pub Apart : ℕ → ℕ → Type 0
+Apart c d = (generator c + 2 ≤ generator d) ⊎ (generator d + 2 ≤ generator c)
+
+abbrev pub Neighbours : ℕ → ℕ → Type 0
+Neighbours j k = (generator j + 1 ≡ generator k) ⊎ (generator k + 1 ≡ generator j)
 
 -- a word of letters, taken apart and put together
 abbrev pub Lettered : List ℕ → Type 0

@@ -10,3 +10,5 @@ pub mod ReducerLaws
 pub mod ReducedWord
 pub mod WrongPrograms
 pub mod WordSlips
+pub mod StrandLaws
+pub mod ExponentLaws

@@ -1,6 +1,6 @@
--- What free reduction writes, from its contract: where it answers 0, the output's first bytes, as many as it reports, are an accepted word. Its
--- letters are reached from the input's by cancellations, no letter of it has its inverse right after it, and no other such word is reached.
--- Assumes nothing.
+-- What free reduction writes, from its contract: where it answers 0, the output's first bytes, as many as it reports,
+-- are an accepted word. Its letters are reached from the input's by cancellations, no letter of it has its inverse
+-- right after it, and no other such word is reached.
 use Prim.Native.Nat.{ℕ}
 use mathlib.Core.Path.{_≡_, sym, _∙_, subst₂}
 use mathlib.Core.List.{List}
@@ -8,22 +8,18 @@ use lib.ListN.{take}
 use Rattle.base.specs.Questions.{firstNo}
 use Rattle.base.proofs.QuestionLaws.{passes, answers-passed}
 use Rattle.braid.specs.Words.{codes, letters, wordFile, wordQuestions, wordAnswer, Wrote}
-use Rattle.braid.specs.Moves.{Cancels}
+use Rattle.braid.specs.Cancellation.{Cancels}
 use Rattle.braid.specs.Reduction.{reduced, Irreducible, reducerQuestions}
-use Rattle.braid.proofs.ReadLaws.{letters-accepted, accepted-letters}
-use Rattle.braid.proofs.RoundTrip.{wordFile-accepted, letters-wordFile, written-letters}
+use Rattle.braid.proofs.ReadLaws.{accepted-word, letters-accepted}
+use Rattle.braid.proofs.RoundTrip.{wordFile-accepted, written-letters}
 use Rattle.braid.proofs.LetterLaws.{Lettered}
 use Rattle.braid.proofs.ReductionLaws.{reduced-irreducible}
 use Rattle.braid.proofs.CancellationLaws.{reduced-reached, reduced-unique}
 use Rattle.braid.proofs.ReducerLaws.{reduced-few, reduced-letters}
 
--- the file of an accepted word's reduced codes is accepted, and reads back
-module _ (word : List ℕ) (e : wordAnswer word ≡ 0) where
-  pub reduced-accepted : wordAnswer (wordFile (reduced (codes word))) ≡ 0
-  reduced-accepted = wordFile-accepted (reduced (codes word)) (reduced-few word e) (reduced-letters word e)
-
-  pub reduced-read : letters (wordFile (reduced (codes word))) ≡ reduced (codes word)
-  reduced-read = letters-wordFile (reduced (codes word)) (reduced-few word e) (reduced-letters word e)
+-- the file of an accepted word's reduced codes is accepted
+pub reduced-accepted : (word : List ℕ) → wordAnswer word ≡ 0 → wordAnswer (wordFile (reduced (codes word))) ≡ 0
+reduced-accepted word e = wordFile-accepted (reduced (codes word)) (reduced-few word e) (reduced-letters word e)
 
 -- a word is the free reduction of another
 pub record Reduces (w v : List ℕ) : Type 0 where
@@ -60,4 +56,4 @@ module _ (room : ℕ) (word before : List ℕ) {after : List ℕ} {answer bytes 
   pub output-reduced : Reduces (letters word) (letters (take bytes after))
   output-reduced =
       subst₂ Reduces (sym (letters-accepted word word-accepted)) (sym (written .1))
-      (reduces (codes word) (accepted-letters word word-accepted))
+      (reduces (codes word) (accepted-word word word-accepted .lettered))

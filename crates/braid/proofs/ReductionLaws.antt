@@ -1,7 +1,7 @@
--- Laws of free reduction, of any word unless letters are asked for: the reduced word is irreducible, its letters are letters, and it is no
--- longer than the word. An irreducible word is its own reduced word. Two letters in a row of which the second is the first one's inverse make
--- no difference, wherever they stand. A letter that comes to the end of an irreducible word cancels against the last one or stays.
--- Assumes nothing.
+-- Laws of free reduction, of any word unless letters are asked for: the reduced word is irreducible, its letters are
+-- letters, and it is no longer than the word. An irreducible word is its own reduced word. Two letters in a row of
+-- which the second is the first one's inverse make no difference, wherever they stand. A letter that comes to the end
+-- of an irreducible word cancels against the last one or stays.
 use Prim.Native.Nat.{ℕ, zero, suc, _+_, _≤_, _<_}
 use mathlib.Core.Path.{_≡_, refl, sym, ap, _∙_, subst}
 use mathlib.Core.Bool.{Bool, true, false, cond}
@@ -13,9 +13,9 @@ use borrow.Author.Tests.{eqb-true, eqb-false, eq-eqb}
 use lib.Dec.{eqb}
 use lib.ListN.{length, take, getD, length-append, length-take, List·getD-append}
 use lib.Seq.{getD-take, getD-append-seam, take-suc, take-all}
-use Rattle.braid.specs.Letters.{isLetter, opposite}
+use Rattle.braid.specs.Letters.{isLetter, inverse}
 use Rattle.braid.specs.Reduction.{joined, reduced, Irreducible}
-use Rattle.braid.proofs.LetterLaws.{Lettered, lettered-cons, cons-lettered, opposite-twice}
+use Rattle.braid.proofs.LetterLaws.{Lettered, lettered-cons, cons-lettered, inverse-twice}
 
 -- The word begins with the letter
 abbrev Leads : ℕ → List ℕ → Type 0
@@ -24,56 +24,56 @@ Leads c (d ∷ w) = d ≡ c
 
 -- a letter before a word, by cases: it cancels against the first letter, or it stays
 pub joined-cases : (P : List ℕ → List ℕ → Type 0) (c : ℕ)
-    → ((v : List ℕ) → P (opposite c ∷ v) v)
-    → ((w : List ℕ) → (Leads (opposite c) w → ⊥) → P w (c ∷ w))
+    → ((v : List ℕ) → P (inverse c ∷ v) v)
+    → ((w : List ℕ) → (Leads (inverse c) w → ⊥) → P w (c ∷ w))
     → (w : List ℕ) → P w (joined c w)
 unfolding joined
 joined-cases P c f g [] = g [] (λ e. e)
-joined-cases P c f g (d ∷ w) = go (eqb d (opposite c)) refl
+joined-cases P c f g (d ∷ w) = go (eqb d (inverse c)) refl
   where
-    go : (b : Bool) → eqb d (opposite c) ≡ b → P (d ∷ w) (cond b w (c ∷ d ∷ w))
-    go true e = subst (λ (x : ℕ). P (x ∷ w) w) (sym (eqb-true d (opposite c) e)) (f w)
-    go false e = g (d ∷ w) (eqb-false d (opposite c) e)
+    go : (b : Bool) → eqb d (inverse c) ≡ b → P (d ∷ w) (cond b w (c ∷ d ∷ w))
+    go true e = subst (λ (x : ℕ). P (x ∷ w) w) (sym (eqb-true d (inverse c) e)) (f w)
+    go false e = g (d ∷ w) (eqb-false d (inverse c) e)
 
 -- it cancels
-joined-cancels : (c : ℕ) (w : List ℕ) → joined c (opposite c ∷ w) ≡ w
+joined-cancels : (c : ℕ) (w : List ℕ) → joined c (inverse c ∷ w) ≡ w
 unfolding joined
-joined-cancels c w = ap (λ (b : Bool). cond b w (c ∷ opposite c ∷ w)) (eq-eqb (opposite c) (opposite c) refl)
+joined-cancels c w = ap (λ (b : Bool). cond b w (c ∷ inverse c ∷ w)) (eq-eqb (inverse c) (inverse c) refl)
 
 -- an irreducible word, by `suc`
-irreducible : (w : List ℕ) → ((k : ℕ) → suc k < length w → getD w (suc k) 0 ≡ opposite (getD w k 0) → ⊥) → Irreducible w
+irreducible : (w : List ℕ) → ((k : ℕ) → suc k < length w → getD w (suc k) 0 ≡ inverse (getD w k 0) → ⊥) → Irreducible w
 irreducible w h k = rw add-one (h k)
 
-apart : (w : List ℕ) → Irreducible w → (k : ℕ) → suc k < length w → getD w (suc k) 0 ≡ opposite (getD w k 0) → ⊥
+apart : (w : List ℕ) → Irreducible w → (k : ℕ) → suc k < length w → getD w (suc k) 0 ≡ inverse (getD w k 0) → ⊥
 apart w i k = rw add-one at (i k)
 
 -- its rest is irreducible, and so is each part from the front
 irreducible-rest : (c : ℕ) (w : List ℕ) → Irreducible (c ∷ w) → Irreducible w
 irreducible-rest c w i = irreducible w (λ k h. apart (c ∷ w) i (suc k) (omega arith))
 
-irreducible-leads : (c : ℕ) (w : List ℕ) → Irreducible (c ∷ w) → Leads (opposite c) w → ⊥
+irreducible-leads : (c : ℕ) (w : List ℕ) → Irreducible (c ∷ w) → Leads (inverse c) w → ⊥
 irreducible-leads c [] i e = e
 irreducible-leads c (d ∷ w) i e = apart (c ∷ d ∷ w) i 0 (omega arith) e
 
-irreducible-cons : (c : ℕ) (w : List ℕ) → (Leads (opposite c) w → ⊥) → Irreducible w → Irreducible (c ∷ w)
+irreducible-cons : (c : ℕ) (w : List ℕ) → (Leads (inverse c) w → ⊥) → Irreducible w → Irreducible (c ∷ w)
 irreducible-cons c w h i = irreducible (c ∷ w) (go w h i)
   where
-    go : (w : List ℕ) → (Leads (opposite c) w → ⊥) → Irreducible w
-        → (k : ℕ) → suc k < length (c ∷ w) → getD (c ∷ w) (suc k) 0 ≡ opposite (getD (c ∷ w) k 0) → ⊥
+    go : (w : List ℕ) → (Leads (inverse c) w → ⊥) → Irreducible w
+        → (k : ℕ) → suc k < length (c ∷ w) → getD (c ∷ w) (suc k) 0 ≡ inverse (getD (c ∷ w) k 0) → ⊥
     go [] h i k l e = omega arith
     go (d ∷ w) h i zero l e = h e
     go (d ∷ w) h i (suc k) l e = apart (d ∷ w) i k (omega arith) e
 
-pub irreducible-take : (n : ℕ) (w : List ℕ) → Irreducible w → Irreducible (take n w)
+irreducible-take : (n : ℕ) (w : List ℕ) → Irreducible w → Irreducible (take n w)
 irreducible-take n w i k h e =
     let l = length-take n w in
     let a = getD-take n w k 0 (omega arith) in
     let b = getD-take n w (k + 1) 0 (omega arith) in
-    i k (omega arith) (sym b ∙ (e ∙ ap opposite a))
+    i k (omega arith) (sym b ∙ (e ∙ ap inverse a))
 
 -- the reduced word is irreducible
 joined-irreducible : (c : ℕ) (w : List ℕ) → Irreducible w → Irreducible (joined c w)
-joined-irreducible c w = joined-cases (λ w v. Irreducible w → Irreducible v) c (λ v. irreducible-rest (opposite c) v) (irreducible-cons c) w
+joined-irreducible c w = joined-cases (λ w v. Irreducible w → Irreducible v) c (λ v. irreducible-rest (inverse c) v) (irreducible-cons c) w
 
 pub reduced-irreducible : (w : List ℕ) → Irreducible (reduced w)
 unfolding reduced
@@ -83,7 +83,7 @@ reduced-irreducible (c ∷ w) = joined-irreducible c (reduced w) (reduced-irredu
 -- its letters are letters
 joined-lettered : (c : ℕ) (w : List ℕ) → isLetter c ≡ true → Lettered w → Lettered (joined c w)
 joined-lettered c w e =
-    joined-cases (λ w v. Lettered w → Lettered v) c (λ v h. lettered-cons (opposite c) v h .1) (λ v n h. cons-lettered c v e h) w
+    joined-cases (λ w v. Lettered w → Lettered v) c (λ v h. lettered-cons (inverse c) v h .1) (λ v n h. cons-lettered c v e h) w
 
 pub reduced-lettered : (w : List ℕ) → Lettered w → Lettered (reduced w)
 unfolding reduced
@@ -104,7 +104,7 @@ reduced-length (c ∷ w) = omega (arith, joined-length c (reduced w), reduced-le
 joined-stays : (c : ℕ) (w : List ℕ) → Irreducible (c ∷ w) → joined c w ≡ c ∷ w
 joined-stays c w =
     joined-cases (λ w v. Irreducible (c ∷ w) → v ≡ c ∷ w) c
-    (λ v i. absurd (irreducible-leads c (opposite c ∷ v) i refl)) (λ v n i. refl) w
+    (λ v i. absurd (irreducible-leads c (inverse c ∷ v) i refl)) (λ v n i. refl) w
 
 pub irreducible-reduced : (w : List ℕ) → Irreducible w → reduced w ≡ w
 unfolding reduced
@@ -113,13 +113,13 @@ irreducible-reduced (c ∷ w) i =
     ap (joined c) (irreducible-reduced w (irreducible-rest c w i)) ∙ joined-stays c w i
 
 -- a letter and its inverse before an irreducible word make no difference
-joined-twice : (c : ℕ) (w : List ℕ) → isLetter c ≡ true → Irreducible w → joined c (joined (opposite c) w) ≡ w
+joined-twice : (c : ℕ) (w : List ℕ) → isLetter c ≡ true → Irreducible w → joined c (joined (inverse c) w) ≡ w
 joined-twice c w e =
-    joined-cases (λ w v. Irreducible w → joined c v ≡ w) (opposite c)
-    (λ v. rw (opposite-twice c e) (joined-stays c v)) (λ v n i. joined-cancels c v) w
+    joined-cases (λ w v. Irreducible w → joined c v ≡ w) (inverse c)
+    (λ v. rw (inverse-twice c e) (joined-stays c v)) (λ v n i. joined-cancels c v) w
 
 -- nor do they anywhere in a word
-pub reduced-pair : (s : List ℕ) (d c : ℕ) (rest : List ℕ) → isLetter d ≡ true → c ≡ opposite d
+pub reduced-pair : (s : List ℕ) (d c : ℕ) (rest : List ℕ) → isLetter d ≡ true → c ≡ inverse d
     → reduced (s ++ (d ∷ c ∷ rest)) ≡ reduced (s ++ rest)
 unfolding reduced
 reduced-pair [] d c rest e h =
@@ -141,7 +141,7 @@ reduced-front (c ∷ w) v e =
     joined-append c (reduced w) v (t .0) ∙ ap (joined c) (reduced-front w v (t .1))
 
 -- a letter that comes to the end of an irreducible word and is the last one's inverse takes it away
-pub end-cancels : (s : List ℕ) (n c : ℕ) → Irreducible s → length s ≡ suc n → isLetter (getD s n 0) ≡ true → c ≡ opposite (getD s n 0)
+pub end-cancels : (s : List ℕ) (n c : ℕ) → Irreducible s → length s ≡ suc n → isLetter (getD s n 0) ≡ true → c ≡ inverse (getD s n 0)
     → reduced (s ++ (c ∷ [])) ≡ take n s
 end-cancels s n c i l e h =
     let last : s ≡ take n s ++ (getD s n 0 ∷ []) = sym (take-all (suc n) s (omega arith)) ∙ take-suc s n 0 (omega arith) in
@@ -151,19 +151,19 @@ end-cancels s n c i l e h =
     ∙ (ap reduced (append-nil (take n s)) ∙ irreducible-reduced (take n s) (irreducible-take n s i))))
 
 -- any other stays
-pub end-stays : (s : List ℕ) (c : ℕ) → Irreducible s → ((n : ℕ) → length s ≡ suc n → c ≡ opposite (getD s n 0) → ⊥)
+pub end-stays : (s : List ℕ) (c : ℕ) → Irreducible s → ((n : ℕ) → length s ≡ suc n → c ≡ inverse (getD s n 0) → ⊥)
     → reduced (s ++ (c ∷ [])) ≡ s ++ (c ∷ [])
 end-stays s c i h = irreducible-reduced (s ++ (c ∷ [])) (irreducible (s ++ (c ∷ [])) go)
   where
-    go : (k : ℕ) → suc k < length (s ++ (c ∷ [])) → getD (s ++ (c ∷ [])) (suc k) 0 ≡ opposite (getD (s ++ (c ∷ [])) k 0) → ⊥
+    go : (k : ℕ) → suc k < length (s ++ (c ∷ [])) → getD (s ++ (c ∷ [])) (suc k) 0 ≡ inverse (getD (s ++ (c ∷ [])) k 0) → ⊥
     go k l e =
         let n = length-append s (c ∷ []) in
         elim (decLt (suc k) (length s)) [
           | yes p ↦
-              apart s i k p (sym (List·getD-append s (c ∷ []) 0 (suc k) p) ∙ (e ∙ ap opposite (List·getD-append s (c ∷ []) 0 k (omega arith))))
+              apart s i k p (sym (List·getD-append s (c ∷ []) 0 (suc k) p) ∙ (e ∙ ap inverse (List·getD-append s (c ∷ []) 0 k (omega arith))))
           | no q ↦
               let at : suc k ≡ length s = omega arith in
               h k (sym at)
               (sym (getD-append-seam s c [] 0)
-              ∙ (ap (λ (m : ℕ). getD (s ++ (c ∷ [])) m 0) (sym at) ∙ (e ∙ ap opposite (List·getD-append s (c ∷ []) 0 k (omega arith)))))
+              ∙ (ap (λ (m : ℕ). getD (s ++ (c ∷ [])) m 0) (sym at) ∙ (e ∙ ap inverse (List·getD-append s (c ∷ []) 0 k (omega arith)))))
         ]

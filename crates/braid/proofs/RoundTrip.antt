@@ -1,12 +1,11 @@
--- Word files there and back: the file of any list of at most 10,000 letters is accepted and reads back as that list; an accepted file is the file of
--- its letters; and what a writer of words left in its output, as many bytes as it reports, is the word's file. So, from bytes to bytes, of what the
--- writer from codes and the word reader give: a word that was written reads back, and a file that was read is written back as its own bytes.
--- Assumes nothing.
+-- Word files there and back: the file of any list of at most 10,000 letters is accepted and reads back as that list; an
+-- accepted file is the file of its letters; and what a writer of words left in its output, as many bytes as it reports,
+-- is the word's file. So, from bytes to bytes, of what the writer from codes and the word reader give: a word that was
+-- written reads back, and a file that was read is written back as its own bytes.
 use Prim.Native.Nat.{ℕ, zero, suc, _+_, _*_, _/_, _%_, _≤_, _<_}
 use mathlib.Core.Path.{_≡_, refl, sym, ap, ap₂, _∙_}
 use mathlib.Core.Bool.{Bool, true}
 use mathlib.Core.List.{List, [], _∷_, _++_}
-use native.Mathlib.Nat.{suc-ne-zero}
 use native.Mathlib.Omega.{arith}
 use borrow.Author.Tests.{le-leb, leb-true, eq-eqb, eqb-true}
 use lib.Dec.{eqb, ltb, lit<}
@@ -15,14 +14,14 @@ use lib.Seq.{length-take-le, take-at, ext-getD}
 use Rattle.base.specs.Questions.{Question, firstNo}
 use Rattle.base.specs.Lists.{every, overlaid}
 use Rattle.base.specs.Digits.{value, digits, halves}
-use Rattle.base.proofs.QuestionLaws.{passed-answers, answers-passed, granted-zero, granted-refused}
+use Rattle.base.proofs.QuestionLaws.{passed-answers, answers-passed, granted-zero, granted-either}
 use Rattle.base.proofs.ListLaws.{and-left, and-both, take-overlaid, drop-overlaid}
 use Rattle.base.proofs.DigitLaws.{length-digits, value-digits-below, digits-value, take-below}
 use Rattle.braid.specs.Letters.{isLetter}
 use Rattle.braid.specs.Words.{stated, needed, codes, filler, wordQuestions, wordAnswer, letters, packed, wordFile, writerQuestions, Wrote, Read, LetterAt}
 use Rattle.braid.proofs.WordLaws.{letters-below, length-wordFile, wordFile-rest}
 use Rattle.braid.proofs.WriteLaws.{writable}
-use Rattle.braid.proofs.ReadLaws.{letters-accepted, accepted-long, accepted-number, accepted-length, accepted-letters, accepted-filler, length-codes}
+use Rattle.braid.proofs.ReadLaws.{accepted-word, letters-accepted}
 
 -- ---- packed codes, and the half bytes of the packed codes
 
@@ -66,7 +65,7 @@ module _ (cs : List ℕ) (few : length cs ≤ 10000) where
   pub file-short : length (wordFile cs) ≤ 5002
   file-short = omega (arith, length-wordFile cs)
 
-  pub stated-wordFile : stated (wordFile cs) ≡ length cs
+  stated-wordFile : stated (wordFile cs) ≡ length cs
   unfolding wordFile
   stated-wordFile =
       ap (value 256) (take-at (digits 256 2 (length cs)) (packed cs) 2 (length-digits 256 2 (length cs)))
@@ -109,38 +108,33 @@ module _ (file : List ℕ) where
   -- the letters of any file, of a refused one too, are letters, at most 10,000
   pub letters-are : every isLetter (letters file) ≡ true
   unfolding letters every
-  letters-are = go (wordAnswer file) refl
-    where
-      go : (m : ℕ) → wordAnswer file ≡ m → every isLetter (letters file) ≡ true
-      go zero e = ap (every isLetter) (letters-accepted file e) ∙ accepted-letters file e
-      go (suc m) e = ap (every isLetter) (granted-refused (codes file) [] (λ q. suc-ne-zero m (sym e ∙ q)))
+  letters-are =
+      granted-either (λ (l : List ℕ). every isLetter l ≡ true) (wordAnswer file) (codes file) [] (λ e. accepted-word file e .lettered) refl
 
   pub letters-few : length (letters file) ≤ 10000
   unfolding letters
-  letters-few = go (wordAnswer file) refl
-    where
-      go : (m : ℕ) → wordAnswer file ≡ m → length (letters file) ≤ 10000
-      go zero e = omega (arith, ap length (letters-accepted file e), length-codes file (accepted-length file e), accepted-number file e)
-      go (suc m) e = omega (arith, ap length (granted-refused (codes file) [] (λ q. suc-ne-zero m (sym e ∙ q))))
+  letters-few =
+      granted-either (λ (l : List ℕ). length l ≤ 10000) (wordAnswer file) (codes file) []
+      (λ e. omega (arith, accepted-word file e .count, accepted-word file e .few)) (omega arith)
 
   -- an accepted file of bytes is the file of its letters
   pub wordFile-letters : ((k : ℕ) → getD file k 0 < 256) → wordAnswer file ≡ 0 → wordFile (letters file) ≡ file
   unfolding wordFile codes filler
   wordFile-letters h e =
       ap wordFile (letters-accepted file e)
-      ∙ ap₂ (λ (xs ys : List ℕ). xs ++ ys) (ap (digits 256 2) (length-codes file (accepted-length file e)) ∙ head) rest
+      ∙ ap₂ (λ (xs ys : List ℕ). xs ++ ys) (ap (digits 256 2) (accepted-word file e .count) ∙ head) rest
       ∙ take-append-drop 2 file
     where
       head : digits 256 2 (stated file) ≡ take 2 file
       head =
-          ap (λ (n : ℕ). digits 256 n (stated file)) (sym (length-take-le 2 file (accepted-long file e)))
+          ap (λ (n : ℕ). digits 256 n (stated file)) (sym (length-take-le 2 file (accepted-word file e .long)))
           ∙ digits-value 256 (take 2 file) (take-below 2 file h)
 
       rest : packed (codes file) ≡ drop 2 file
       rest =
-          let l = accepted-length file e in
+          let l = accepted-word file e .size in
           let d = length-drop 2 file in
-          packed-halves (drop 2 file) (stated file) (omega arith) (omega arith) (accepted-filler file e)
+          packed-halves (drop 2 file) (stated file) (omega arith) (omega arith) (accepted-word file e .filled)
 
 -- ---- what a writer of words left
 
@@ -163,10 +157,6 @@ module _ {questions : List Question} {file before after : List ℕ} {answer byte
       ∙ drop-overlaid file before
       ∙ ap (λ (n : ℕ). drop n before) (sym (wrote-bytes e))
 
-  -- on a refusal the output is as it was
-  pub wrote-nothing : (firstNo questions ≡ 0 → ⊥) → after ≡ before
-  wrote-nothing h = w .output-is ∙ granted-refused (overlaid file before) before h
-
 -- a word that was written reads back
 pub written-letters : {questions : List Question} {before after : List ℕ} {answer bytes : ℕ} (cs : List ℕ) → length cs ≤ 10000
     → every isLetter cs ≡ true → Wrote questions (wordFile cs) before after answer bytes → firstNo questions ≡ 0
@@ -176,8 +166,8 @@ written-letters cs few e w a =
 
 -- ---- what the operations give
 
--- where the writer from codes answers 0, the word reader, on the output's first bytes, as many as are reported, answers 0 and gives the number of the
--- codes; and the letter at each place there is the code
+-- where the writer from codes answers 0, the word reader, on the output's first bytes, as many as are reported, answers
+-- 0 and gives the number of the codes; and the letter at each place there is the code
 pub written-reads-back : (cs : List ℕ) {before after : List ℕ} {answer bytes answer′ count : ℕ}
     → Wrote (writerQuestions (length before) cs) (wordFile cs) before after answer bytes → answer ≡ 0
     → Read (take bytes after) answer′ count
@@ -192,16 +182,17 @@ written-reads-back cs {before} w z r =
       λ place code left t. (t .left-is ∙ ap (λ (l : List ℕ). ltb place (length l)) (back .1), t .code-is ∙ ap (λ (l : List ℕ). getD l place 0) (back .1)),
     )
 
--- where the word reader answers 0 on a file of bytes, the writer from codes, on the letters at its places and an output of at least 5,002 bytes, answers
--- 0, reports the file's length and leaves the file's own bytes at the output's front, the rest as it was
+-- where the word reader answers 0 on a file of bytes, the writer from codes, on the letters at its places and an output
+-- of at least 5,002 bytes, answers 0, reports the file's length and leaves the file's own bytes at the output's front,
+-- the rest as it was
 pub read-writes-back : (file : List ℕ) → ((k : ℕ) → getD file k 0 < 256) → {answer count answer′ bytes : ℕ} → Read file answer count → answer ≡ 0
     → (cs : List ℕ) → length cs ≡ count → ((place : ℕ) → place < count → LetterAt file place true (getD cs place 0))
     → {before after : List ℕ} → 5002 ≤ length before → Wrote (writerQuestions (length before) cs) (wordFile cs) before after answer′ bytes
     → (answer′ ≡ 0) × (bytes ≡ length file) × (take bytes after ≡ file) × (drop bytes after ≡ drop bytes before)
 read-writes-back file small {bytes = bytes} r z cs l at {before} {after} room w =
     let e : wordAnswer file ≡ 0 = sym (r .answer-is) ∙ z in
-    let same : cs ≡ letters file = ext-getD 0 cs (letters file) (l ∙ r .count-is) (λ k h. at k (omega arith) .code-is) in
-    let few : length cs ≤ 10000 = omega (arith, letters-few file, ap length same) in
-    let asked : firstNo (writerQuestions (length before) cs) ≡ 0 = writable (length before) cs room few (ap (every isLetter) same ∙ letters-are file) in
-    let own : wordFile cs ≡ file = ap wordFile same ∙ wordFile-letters file small e in
+    let equal : cs ≡ letters file = ext-getD 0 cs (letters file) (l ∙ r .count-is) (λ k h. at k (omega arith) .code-is) in
+    let few : length cs ≤ 10000 = omega (arith, letters-few file, ap length equal) in
+    let asked : firstNo (writerQuestions (length before) cs) ≡ 0 = writable (length before) cs room few (ap (every isLetter) equal ∙ letters-are file) in
+    let own : wordFile cs ≡ file = ap wordFile equal ∙ wordFile-letters file small e in
     (w .answer-is ∙ asked, wrote-bytes w asked ∙ ap length own, wrote-file w asked ∙ own, wrote-rest w asked)

@@ -1,31 +1,19 @@
 -- Laws of word files: a letter's code is below 15; the packed codes one by one; a word's file byte by byte.
--- Assumes nothing.
 use Prim.Native.Nat.{ℕ, zero, suc, _+_, _*_, _/_, _%_, _≤_, _<_}
 use mathlib.Core.Path.{_≡_, refl, sym, ap, ap₂, _∙_}
-use mathlib.Core.Bool.{Bool, true, false, _&&_, _||_}
+use mathlib.Core.Bool.{true}
 use mathlib.Core.List.{List, [], _∷_, _++_}
 use native.Mathlib.Omega.{arith}
-use borrow.Author.Tests.{leb-true}
-use lib.Dec.{leb}
 use lib.ListN.{length, take, drop, getD}
 use lib.Seq.{take-add, getD-drop}
 use Rattle.base.specs.Lists.{every}
 use Rattle.base.specs.Digits.{digits}
-use Rattle.base.proofs.ListLaws.{and-right, every-all}
+use Rattle.base.proofs.ListLaws.{every-all}
 use Rattle.braid.specs.Letters.{isLetter}
 use Rattle.braid.specs.Words.{needed, packed, wordFile}
+use Rattle.braid.proofs.LetterLaws.{letter-below}
 
 -- ---- letters
-
-either : (a b : Bool) (c : ℕ) → (a ≡ true → c < 15) → (b ≡ true → c < 15) → a || b ≡ true → c < 15
-either true b c f g e = f refl
-either false b c f g e = g e
-
-pub letter-below : (c : ℕ) → isLetter c ≡ true → c < 15
-letter-below c e =
-    either (leb c 6) (leb 8 c && leb c 14) c
-    (λ p. let h : c ≤ 6 = leb-true c 6 p in omega arith)
-    (λ p. let h : c ≤ 14 = leb-true c 14 (and-right (leb 8 c) (leb c 14) p) in omega arith) e
 
 pub letters-below : (cs : List ℕ) → every isLetter cs ≡ true → (k : ℕ) → getD cs k 0 < 15
 letters-below cs e k = letter-below (getD cs k 0) (every-all isLetter refl cs e k)

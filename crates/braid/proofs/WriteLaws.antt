@@ -1,16 +1,16 @@
--- Laws of the writers of words: what a writer gives and leaves on a refusal and on success, the questions of the writer from codes, and the file as
--- that writer writes it. Assumes nothing.
-use Prim.Native.Nat.{ℕ, _+_, _-_, _*_, _/_, _%_, _≤_, _<_}
+-- Laws of the writers of words: what a writer gives and leaves on a refusal and on success, codes that pass the
+-- questions of the writer from codes, and the file as that writer writes it.
+use Prim.Native.Nat.{ℕ, _+_, _-_, _*_, _/_, _%_, _≤_}
 use mathlib.Core.Path.{_≡_, refl, sym, ap, ap₂, _∙_}
-use mathlib.Core.Bool.{true, false}
+use mathlib.Core.Bool.{true}
 use mathlib.Core.List.{List, [], _∷_, _++_, append-assoc, append-nil}
 use native.Mathlib.Omega.{arith}
-use borrow.Author.Tests.{le-leb, lt-leb}
+use borrow.Author.Tests.{le-leb}
 use lib.ListN.{length, take, drop, getD, set, length-drop, length-set, drop-of-length-le, List·getD-eq-default}
 use lib.Seq.{length-take-le, length-front, take-all, take-at, drop-at, drop-drop}
 use Rattle.base.specs.Questions.{Question, firstNo, granted}
 use Rattle.base.specs.Lists.{every, overlaid}
-use Rattle.base.proofs.QuestionLaws.{passes, fails, granted-zero, granted-refused}
+use Rattle.base.proofs.QuestionLaws.{passed-answers, granted-zero, granted-refused}
 use Rattle.base.proofs.ListLaws.{overlay-step, overlay-whole}
 use Rattle.braid.specs.Letters.{isLetter}
 use Rattle.braid.specs.Words.{packed, wordFile, writerQuestions, Wrote}
@@ -46,27 +46,9 @@ wrote-same {before = before} e f w =
       output-is = w .output-is ∙ ap₂ (λ (n : ℕ) (l : List ℕ). granted n (overlaid l before) before) e f;
     }
 
-module _ (room : ℕ) (cs : List ℕ) where
-  pub no-room : room < 5002 → firstNo (writerQuestions room cs) ≡ 15
-  no-room h = fails 15 (drop 1 (writerQuestions room cs)) (lt-leb 5002 room h)
-
-  pub too-many : 5002 ≤ room → 10000 < length cs → firstNo (writerQuestions room cs) ≡ 10
-  too-many h g =
-      passes 15 (drop 1 (writerQuestions room cs)) (le-leb 5002 room h)
-      ∙ fails 10 (drop 2 (writerQuestions room cs)) (lt-leb (length cs) 10000 g)
-
-  pub no-letter : 5002 ≤ room → length cs ≤ 10000 → every isLetter cs ≡ false → firstNo (writerQuestions room cs) ≡ 12
-  no-letter h g e =
-      passes 15 (drop 1 (writerQuestions room cs)) (le-leb 5002 room h)
-      ∙ passes 10 (drop 2 (writerQuestions room cs)) (le-leb (length cs) 10000 g)
-      ∙ fails 12 [] e
-
-  pub writable : 5002 ≤ room → length cs ≤ 10000 → every isLetter cs ≡ true → firstNo (writerQuestions room cs) ≡ 0
-  unfolding firstNo
-  writable h g e =
-      passes 15 (drop 1 (writerQuestions room cs)) (le-leb 5002 room h)
-      ∙ passes 10 (drop 2 (writerQuestions room cs)) (le-leb (length cs) 10000 g)
-      ∙ passes 12 [] e
+-- codes that pass the questions of the writer from codes
+pub writable : (room : ℕ) (cs : List ℕ) → 5002 ≤ room → length cs ≤ 10000 → every isLetter cs ≡ true → firstNo (writerQuestions room cs) ≡ 0
+writable room cs h g e = passed-answers (writerQuestions room cs) (le-leb 5002 room h, (le-leb (length cs) 10000 g, (e, tt)))
 
 -- ---- the file of a word, as it is written
 
@@ -101,7 +83,7 @@ module _ (cs out : List ℕ) where
       start (x ∷ y ∷ xs) l = refl
 
   -- and with ys in place of all that follows them
-  abbrev pub paired : List ℕ → List ℕ
+  abbrev paired : List ℕ → List ℕ
   paired ys = take 2 numbered ++ (ys ++ drop (length numbered - 2) (drop 2 numbered))
 
   -- the bytes that hold two codes

@@ -1,6 +1,5 @@
--- Wrong programs that the contracts shut out: a word reader with none left at the first letter, one that reads an odd word's last half byte as a
--- letter, and a writer that reports another number of bytes than the word's.
--- Assumes nothing.
+-- Wrong programs that the contracts shut out: a word reader with none left at the first letter, one that reads an odd
+-- word's last half byte as a letter, and a writer that reports another number of bytes than the word's.
 use Prim.Native.Nat.{ℕ, _<_}
 use mathlib.Core.Path.{_≡_, refl, sym, ap, _∙_}
 use mathlib.Core.Bool.{true, false, false≢true, true≢false}

@@ -1,8 +1,7 @@
 -- Letters of braid words: the Artin generators b1 to b7 and their inverses, by their codes of four bits.
--- Assumes nothing.
-use Prim.Native.Nat.{ℕ, _%_}
-use mathlib.Core.Bool.{Bool, _&&_, _||_}
-use lib.Dec.{leb}
+use Prim.Native.Nat.{ℕ, _+_, _%_}
+use mathlib.Core.Bool.{Bool, _&&_, _||_, Bool·beq}
+use lib.Dec.{leb, eqb}
 use lib.Bits.{bitXor}
 
 -- codes 0 to 6 are b1 to b7
@@ -22,5 +21,16 @@ abbrev pub generator : ℕ → ℕ
 generator c = c % 8
 
 -- the code of the same generator with the other sign: the high bit turned
-abbrev pub opposite : ℕ → ℕ
-opposite c = bitXor c 8
+abbrev pub inverse : ℕ → ℕ
+inverse c = bitXor c 8
+
+-- generators that differ by at least 2, and by 1
+abbrev pub far : ℕ → ℕ → Bool
+far c d = leb (generator c + 2) (generator d) || leb (generator d + 2) (generator c)
+
+abbrev pub neighbours : ℕ → ℕ → Bool
+neighbours c d = eqb (generator c + 1) (generator d) || eqb (generator d + 1) (generator c)
+
+-- both letters are inverses, or neither is
+abbrev pub sameSign : ℕ → ℕ → Bool
+sameSign c d = Bool·beq (isInverse c) (isInverse d)

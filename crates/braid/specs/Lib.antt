@@ -1,4 +1,6 @@
 pub mod Letters
+pub mod Exponent
+pub mod Strands
 pub mod Words
-pub mod Moves
+pub mod Cancellation
 pub mod Reduction

@@ -1,5 +1,4 @@
 -- Free reduction: a word with every letter that stands before its inverse cancelled against it, until none does.
--- Assumes nothing.
 use Prim.Native.Nat.{ℕ, _+_, _<_}
 use mathlib.Core.Path.{_≡_}
 use mathlib.Core.Bool.{cond}
@@ -7,13 +6,13 @@ use mathlib.Core.List.{List, [], _∷_}
 use lib.Dec.{eqb}
 use lib.ListN.{length, getD}
 use Rattle.base.specs.Questions.{Question}
-use Rattle.braid.specs.Letters.{opposite}
-use Rattle.braid.specs.Words.{roomQuestion, wordQuestions}
+use Rattle.braid.specs.Letters.{inverse}
+use Rattle.braid.specs.Words.{codes, roomQuestion, wordQuestions, wordFile, Wrote}
 
 -- a letter before a reduced word: it cancels against a first letter that is its inverse
 unfoldable pub joined : ℕ → List ℕ → List ℕ
 joined c [] = c ∷ []
-joined c (d ∷ w) = cond (eqb d (opposite c)) w (c ∷ d ∷ w)
+joined c (d ∷ w) = cond (eqb d (inverse c)) w (c ∷ d ∷ w)
 
 -- the freely reduced word
 unfoldable pub reduced : List ℕ → List ℕ
@@ -22,8 +21,13 @@ reduced (c ∷ w) = joined c (reduced w)
 
 -- no letter has its inverse right after it
 abbrev pub Irreducible : List ℕ → Type 0
-Irreducible w = (k : ℕ) → k + 1 < length w → getD w (k + 1) 0 ≡ opposite (getD w k 0) → ⊥
+Irreducible w = (k : ℕ) → k + 1 < length w → getD w (k + 1) 0 ≡ inverse (getD w k 0) → ⊥
 
 -- Free reduction: 15, then the word
 abbrev pub reducerQuestions : ℕ → List ℕ → List Question
 reducerQuestions room file = roomQuestion room ∷ wordQuestions file
+
+-- what free reduction gives and leaves
+abbrev pub WroteReduced : List ℕ → List ℕ → List ℕ → ℕ → ℕ → Type 0
+WroteReduced word before after answer bytes =
+    Wrote (reducerQuestions (length before) word) (wordFile (reduced (codes word))) before after answer bytes

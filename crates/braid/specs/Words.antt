@@ -1,6 +1,6 @@
--- Word files (signatures): the number of letters in 2 bytes, the codes two to a byte with the earlier in the high half, and 0 in an odd word's
--- last half byte. The questions of the reader and of the writer from codes, in the paper's order.
--- Assumes nothing.
+-- Word files (signatures): the number of letters in 2 bytes, the codes two to a byte with the earlier in the high half,
+-- and 0 in an odd word's last half byte. The questions of the reader and of the writer from codes, in the paper's
+-- order.
 use Prim.Native.Nat.{ℕ, _+_, _*_, _/_}
 use mathlib.Core.Path.{_≡_}
 use mathlib.Core.Bool.{Bool}
@@ -77,19 +77,24 @@ writerQuestions room cs =
     ∷ (every isLetter cs else 12)
     ∷ []
 
--- what a writer of words gives and leaves: its answer; the number of the file's bytes, 0 on a refusal; the file in the output's first bytes
--- with the rest as it was, and on a refusal the output as it was
+-- what a writer of words gives and leaves: its answer; the number of the file's bytes, 0 on a refusal; the file in the
+-- output's first bytes with the rest as it was, and on a refusal the output as it was
 pub record Wrote (questions : List Question) (file before after : List ℕ) (answer bytes : ℕ) : Type 0 where
   pub answer-is : answer ≡ firstNo questions
   pub bytes-is : bytes ≡ granted (firstNo questions) (length file) 0
   pub output-is : after ≡ granted (firstNo questions) (overlaid file before) before
+
+-- what the writer from codes gives and leaves
+abbrev pub WroteWord : List ℕ → List ℕ → List ℕ → ℕ → ℕ → Type 0
+WroteWord cs before after answer bytes = Wrote (writerQuestions (length before) cs) (wordFile cs) before after answer bytes
 
 -- what the word reader gives: the number of the first question failed, or 0; and the number of letters, 0 on a refusal
 pub record Read (file : List ℕ) (answer count : ℕ) : Type 0 where
   pub answer-is : answer ≡ wordAnswer file
   pub count-is : count ≡ length (letters file)
 
--- the letter at a place: whether one is left there, and its code. The papers leave free what stands beside "none is left": it is 0 here
+-- the letter at a place: whether one is left there, and its code. The papers leave free what stands beside "none is
+-- left": it is 0 here
 pub record LetterAt (file : List ℕ) (place : ℕ) (left : Bool) (code : ℕ) : Type 0 where
   pub left-is : left ≡ ltb place (length (letters file))
   pub code-is : code ≡ getD (letters file) place 0

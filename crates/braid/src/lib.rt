@@ -1,7 +1,7 @@
 // Braid words: reading and writing word files (signatures).
 mod read; // read.rt: the word reader
 mod reduce; // reduce.rt: free reduction
-mod write; // write.rt: the writer of words from codes
+mod write; // write.rt: the writer of words from codes, and codes out of their bytes
 
 pub use read::all_letters;
 pub use read::code_part;
@@ -11,6 +11,7 @@ pub use read::letter_at;
 pub use read::read_word;
 pub use reduce::free_reduce;
 pub use reduce::inverse;
+pub use write::unpack;
 pub use write::write_word;
 
 // A word has at most so many letters, and its file at most so many bytes.
@@ -18,7 +19,8 @@ pub const MAX_LETTERS: usize = 10000;
 
 pub const MAX_BYTES: usize = 5002;
 
-// What the word reader gives: the number of the first question answered no, 0 if there is none, and the number of letters, 0 on a refusal.
+// What the word reader gives: the number of the first question answered no, 0 if there is none, and the number of
+// letters, 0 on a refusal.
 #[repr(C)]
 pub struct Word {
     pub answer: u8,

@@ -1,4 +1,5 @@
-// The word reader: the questions of a word file in the paper's order, the part that holds its codes, and the letter at a place.
+// The word reader: the questions of a word file in the paper's order, the part that holds its codes, and the letter at
+// a place.
 use crate::Letter;
 use crate::MAX_LETTERS;
 use crate::Word;
@@ -38,7 +39,7 @@ fn number(file: &[u8]) -> usize
     requires { ⌜ 2 ≤ length (now file) ⌝ }
     ensures { λ r. ⌜ r ≡ stated (now (file .entry)) ⌝ }
 {
-    file[0] as usize * 256 + file[1] as usize
+    base::two_bytes(file, 0)
 }
 
 // Are both half bytes of the byte letters? Of the half bytes only 7 and 15 are none.
@@ -62,8 +63,8 @@ fn whole_letters(part: &[u8], m: usize) -> bool
     lettered
 }
 
-// Is every one of the first n half bytes, or of all if there are fewer, a letter? It is asked of the whole bytes, and of the half byte left
-// where n is odd: past the end that is 0, a letter.
+// Is every one of the first n half bytes, or of all if there are fewer, a letter? It is asked of the whole bytes, and
+// of the half byte left where n is odd: past the end that is 0, a letter.
 pub fn all_letters(part: &[u8], n: usize) -> bool
     ensures { λ r. ⌜ r ≡ every isLetter (take n (halves (now (part .entry)))) ⌝ }
 {

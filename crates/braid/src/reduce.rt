@@ -1,5 +1,5 @@
-// Free reduction: the letters come one by one to the end of a stack of codes. A letter takes the last one away if it is its inverse, and stays
-// otherwise, so that the stack holds the freely reduced word of the letters that have come.
+// Free reduction: the letters come one by one to the end of a stack of codes. A letter takes the last one away if it is
+// its inverse, and stays otherwise, so that the stack holds the freely reduced word of the letters that have come.
 use crate::MAX_BYTES;
 use crate::MAX_LETTERS;
 use crate::Written;
@@ -14,13 +14,12 @@ ghost use lib.Dec.{ltb, eqb};
 ghost use lib.ListN.{length, take, getD};
 ghost use Rattle.base.specs.Lists.{every};
 ghost use Rattle.base.specs.Digits.{halves};
-ghost use Rattle.braid.specs.Letters.{isLetter, opposite};
-ghost use Rattle.braid.specs.Words.{codes, wordFile, Wrote};
-ghost use Rattle.braid.specs.Reduction.{reduced, Irreducible, reducerQuestions};
+ghost use Rattle.braid.specs.Letters.{isLetter, inverse};
+ghost use Rattle.braid.specs.Reduction.{reduced, Irreducible, WroteReduced};
 
 // The code of the same generator with the other sign.
 pub fn inverse(c: u8) -> u8
-    ensures { λ r. ⌜ r ≡ opposite c ⌝ }
+    ensures { λ r. ⌜ r ≡ inverse c ⌝ }
 {
     c ^ 8
 }
@@ -28,7 +27,7 @@ pub fn inverse(c: u8) -> u8
 // Is the letter the inverse of the last of the stack's n?
 fn cancels(stack: &[u8], n: usize, c: u8) -> bool
     requires { ⌜ n ≤ length (now stack) ⌝ }
-    ensures { λ r. ⌜ r ≡ ltb 0 n && eqb c (opposite (getD (now (stack .entry)) (n - 1) 0)) ⌝ }
+    ensures { λ r. ⌜ r ≡ ltb 0 n && eqb c (inverse (getD (now (stack .entry)) (n - 1) 0)) ⌝ }
 {
     if n == 0 {
         return false;
@@ -67,7 +66,7 @@ fn cancel(part: &[u8], n: usize, stack: &mut [u8]) -> usize
 
 // Free reduction: 15, then the word; its freely reduced word goes to the output.
 pub fn free_reduce(word: &[u8], out: &mut [u8]) -> Written
-    ensures { λ r. ⌜ Wrote (reducerQuestions (length (now (out .entry))) (now (word .entry))) (wordFile (reduced (codes (now (word .entry))))) (now (out .entry)) (now (out .exit)) (r .answer) (r .bytes) ⌝ }
+    ensures { λ r. ⌜ WroteReduced (now (word .entry)) (now (out .entry)) (now (out .exit)) (r .answer) (r .bytes) ⌝ }
 {
     if out.len() < MAX_BYTES {
         return Written {

@@ -1,4 +1,5 @@
-// The writer of words from codes, one to a byte: questions 15, 10 and 12, then the file in the output's first bytes.
+// The writer of words from codes, one to a byte: questions 15, 10 and 12, then the file in the output's first bytes;
+// and codes out of their bytes.
 use crate::MAX_BYTES;
 use crate::MAX_LETTERS;
 use crate::Written;
@@ -8,8 +9,9 @@ ghost use mathlib.Core.Path.{_≡_};
 ghost use mathlib.Core.Bool.{true};
 ghost use lib.ListN.{length, take};
 ghost use Rattle.base.specs.Lists.{every, overlaid};
+ghost use Rattle.base.specs.Digits.{halves};
 ghost use Rattle.braid.specs.Letters.{isLetter};
-ghost use Rattle.braid.specs.Words.{needed, packed, wordFile, writerQuestions, Wrote};
+ghost use Rattle.braid.specs.Words.{needed, packed, wordFile, WroteWord};
 
 // Is every code a letter? No code ends the loop early, so that many are tested at once.
 fn all_codes(codes: &[u8]) -> bool
@@ -24,7 +26,8 @@ fn all_codes(codes: &[u8]) -> bool
     lettered
 }
 
-// Two codes go to each byte of the output, from its first on, the earlier in the high half; a last odd code is left out.
+// Two codes go to each byte of the output, from its first on, the earlier in the high half; a last odd code is left
+// out.
 fn pack(codes: &[u8], out: &mut [u8])
     requires { ⌜ (every isLetter (now codes) ≡ true) × (length (now codes) / 2 ≤ length (now out)) ⌝ }
     ensures { λ _. ⌜ now (out .exit) ≡ overlaid (take (length (now (codes .entry)) / 2) (packed (now (codes .entry)))) (now (out .entry)) ⌝ }
@@ -37,7 +40,21 @@ fn pack(codes: &[u8], out: &mut [u8])
     }
 }
 
-// The word's file goes to the front of the output: the number of letters in two bytes, the codes two by two, and a last odd one by itself.
+// The way back: the half bytes of a row of bytes go to the front of the row of codes, one to a byte.
+pub fn unpack(bytes: &[u8], codes: &mut [u8])
+    requires { ⌜ 2 * length (now bytes) ≤ length (now codes) ⌝ }
+    ensures { λ _. ⌜ now (codes .exit) ≡ overlaid (halves (now (bytes .entry))) (now (codes .entry)) ⌝ }
+{
+    let mut k = 0;
+    while k < bytes.len() {
+        codes[2 * k] = bytes[k] / 16;
+        codes[2 * k + 1] = bytes[k] % 16;
+        k += 1;
+    }
+}
+
+// The word's file goes to the front of the output: the number of letters in two bytes, the codes two by two, and a last
+// odd one by itself.
 fn write_file(codes: &[u8], out: &mut [u8]) -> usize
     requires { ⌜ (length (now codes) ≤ 10000) × (every isLetter (now codes) ≡ true) × (5002 ≤ length (now out)) ⌝ }
     ensures { λ r. ⌜ (r ≡ needed (length (now (codes .entry)))) × (now (out .exit) ≡ overlaid (wordFile (now (codes .entry))) (now (out .entry))) ⌝ }
@@ -54,7 +71,7 @@ fn write_file(codes: &[u8], out: &mut [u8]) -> usize
 
 // The writer of words from codes: 15, 10, 12. The output is touched only once all three are answered yes.
 pub fn write_word(codes: &[u8], out: &mut [u8]) -> Written
-    ensures { λ r. ⌜ Wrote (writerQuestions (length (now (out .entry))) (now (codes .entry))) (wordFile (now (codes .entry))) (now (out .entry)) (now (out .exit)) (r .answer) (r .bytes) ⌝ }
+    ensures { λ r. ⌜ WroteWord (now (codes .entry)) (now (out .entry)) (now (out .exit)) (r .answer) (r .bytes) ⌝ }
 {
     if out.len() < MAX_BYTES {
         return Written {

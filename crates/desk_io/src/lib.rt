@@ -1,8 +1,8 @@
 // The desk's reading and writing: bytes come in, and what `slip` makes of them goes out.
+use desk_line::Got;
+use desk_line::Line;
 use libc::STDIN_FILENO;
 use libc::STDOUT_FILENO;
-use slip::Got;
-use slip::Line;
 ghost use Rattle.io.specs.Counts.{Counts};
 
 // Writes a line to standard output, or says that it cannot.
@@ -18,9 +18,9 @@ fn tell(line: Line)
 
 // The desk program: a slip on standard input, key, digest and signature end to end.
 pub fn desk() {
-    let mut input = [0u8; slip::INPUT_ROOM];
+    let mut input = [0u8; desk_line::INPUT_ROOM];
     let n = io::read_full(STDIN_FILENO, &mut input);
-    tell(slip::input_line(&input, n));
+    tell(desk_line::input_line(&input, n));
 }
 
 // Fills the start of `buf` from an open file, to its end or the file's.
@@ -68,11 +68,11 @@ fn file(i: usize, buf: &mut [u8]) -> Got {
 
 // The desk program on three files, whose names are the arguments: key, digest, signature.
 pub fn desk_files() {
-    let mut key = [0u8; slip::KEY_ROOM];
-    let mut digest = [0u8; slip::DIGEST_ROOM];
-    let mut word = [0u8; slip::WORD_ROOM];
+    let mut key = [0u8; desk_line::KEY_ROOM];
+    let mut digest = [0u8; desk_line::DIGEST_ROOM];
+    let mut word = [0u8; desk_line::WORD_ROOM];
     let k = file(1, &mut key);
     let d = file(2, &mut digest);
     let w = file(3, &mut word);
-    tell(slip::files_line(&key, &digest, &word, k, d, w));
+    tell(desk_line::files_line(&key, &digest, &word, k, d, w));
 }

@@ -1,5 +1,5 @@
--- The braid of a digest: it grows by one half byte's braid at a time, has at most 20 letters for each, and is made of letters, so that what the
--- encoder writes is an accepted word. Assumes nothing.
+-- The braid of a digest: it grows by one half byte's braid at a time, has at most 20 letters for each, and is made of
+-- letters, so that what the encoder writes is an accepted word.
 use Prim.Native.Nat.{ℕ, suc, _+_, _*_, _≤_, _<_}
 use mathlib.Core.Path.{_≡_, refl, sym, ap, _∙_}
 use mathlib.Core.Bool.{true}
@@ -30,23 +30,18 @@ braidOf-more hs k p =
     ap (λ (n : ℕ). braidOf (take n hs)) (add-one k) ∙ ap braidOf (take-suc hs k 0 p) ∙ braidOf-append (take k hs) (getD hs k 0 ∷ [])
     ∙ ap (λ (w : List ℕ). braidOf (take k hs) ++ w) (append-nil (halfByteBraid (getD hs k 0)))
 
-pub braidOf-none : braidOf [] ≡ []
+-- of half bytes: short, and made of letters
+short : (hs : List ℕ) → ((k : ℕ) → getD hs k 0 < 16) → length (braidOf hs) ≤ 20 * length hs
 unfolding braidOf
-braidOf-none = refl
+short [] b = omega arith
+short (h ∷ hs) b =
+    simp length-append (omega (arith, braid-short h (b 0), short hs (λ k. b (suc k))))
 
-module _ where
-  -- of half bytes: short, and made of letters
-  short : (hs : List ℕ) → ((k : ℕ) → getD hs k 0 < 16) → length (braidOf hs) ≤ 20 * length hs
-  unfolding braidOf
-  short [] b = omega arith
-  short (h ∷ hs) b =
-      simp length-append (omega (arith, braid-short h (b 0), short hs (λ k. b (suc k))))
-
-  lettered : (hs : List ℕ) → ((k : ℕ) → getD hs k 0 < 16) → every isLetter (braidOf hs) ≡ true
-  unfolding braidOf every
-  lettered [] b = refl
-  lettered (h ∷ hs) b =
-      every-append isLetter (halfByteBraid h) (braidOf hs) ∙ and-both (braid-letters h (b 0)) (lettered hs (λ k. b (suc k)))
+lettered : (hs : List ℕ) → ((k : ℕ) → getD hs k 0 < 16) → every isLetter (braidOf hs) ≡ true
+unfolding braidOf every
+lettered [] b = refl
+lettered (h ∷ hs) b =
+    every-append isLetter (halfByteBraid h) (braidOf hs) ∙ and-both (braid-letters h (b 0)) (lettered hs (λ k. b (suc k)))
 
 pub encoded-short : (digest : List ℕ) → ((k : ℕ) → getD digest k 0 < 256) → length digest ≡ 32 → length (encoded digest) ≤ 1280
 unfolding encoded

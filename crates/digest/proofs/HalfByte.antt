@@ -1,5 +1,5 @@
--- The braid of a half byte by its places: how long it is, which letter stands where, that every one is a letter. Each rule is one test that
--- antt computes over the sixteen half bytes. Assumes nothing.
+-- The braid of a half byte by its places: how long it is, which letter stands where, that every one is a letter. Each
+-- rule is one test that antt computes over the sixteen half bytes.
 use Prim.Native.Nat.{ℕ, _+_, _*_, _-_, _/_, _%_, _<_, _≤_}
 use mathlib.Core.Path.{_≡_, refl, sym, _∙_}
 use mathlib.Core.Bool.{Bool, true, false, false≢true, cond, _&&_, _||_, not}
@@ -22,7 +22,7 @@ over h = 7 - selected h
 abbrev pub turn : ℕ → ℕ
 turn h = over h + 2 * (h / 4 + 1)
 
-abbrev pub lengthRule : ℕ → Bool
+abbrev lengthRule : ℕ → Bool
 lengthRule h = eqb (2 * over h + 2 * (h / 4 + 1)) (length (halfByteBraid h)) && leb (length (halfByteBraid h)) 20 && every isLetter (halfByteBraid h)
 
 lengths : every lengthRule (values (λ h. h) 16) ≡ true
@@ -30,10 +30,10 @@ unfolding halfByteBraid valuesFrom every
 lengths = refl
 
 -- which letter stands at a place
-abbrev pub letterAt : ℕ → ℕ → ℕ
+abbrev letterAt : ℕ → ℕ → ℕ
 letterAt h j = cond (ltb j (over h)) (6 - j) (cond (ltb j (turn h)) (6 - over h) (15 - over h + (j - turn h)))
 
-abbrev pub placeRule : ℕ → ℕ → Bool
+abbrev placeRule : ℕ → ℕ → Bool
 placeRule h j = not (ltb j (length (halfByteBraid h))) || eqb (letterAt h j) (getD (halfByteBraid h) j 0)
 
 places : every (λ h. every (placeRule h) (values (λ j. j) 20)) (values (λ h. h) 16) ≡ true
@@ -41,7 +41,7 @@ unfolding halfByteBraid valuesFrom every
 places = refl
 
 -- by the low two bits
-abbrev pub lowRule : ℕ → Bool
+abbrev lowRule : ℕ → Bool
 lowRule h = eqb (getD (0 ∷ 2 ∷ 4 ∷ 6 ∷ []) (h % 4) 0) (over h) && leb (over h) 6
 
 low-bits : every lowRule (values (λ h. h) 16) ≡ true
@@ -70,7 +70,7 @@ other : (a b : Bool) → a ≡ true → (not a || b) ≡ true → b ≡ true
 other true b e h = h
 other false b e h = absurd (false≢true e)
 
-pub braid-at : (h j : ℕ) → h < 16 → j < length (halfByteBraid h) → letterAt h j ≡ getD (halfByteBraid h) j 0
+braid-at : (h j : ℕ) → h < 16 → j < length (halfByteBraid h) → letterAt h j ≡ getD (halfByteBraid h) j 0
 braid-at h j p q =
     let n : ℕ = length (halfByteBraid h) in
     let s : n ≤ 20 = braid-short h p in

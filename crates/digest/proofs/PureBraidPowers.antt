@@ -1,20 +1,20 @@
--- The braid of a half byte is a power of a pure braid generator, freely reduced: one test that antt computes over the sixteen half bytes.
--- Assumes nothing.
+-- The braid of a half byte is a power of a pure braid generator, freely reduced: one test that antt computes over the
+-- sixteen half bytes.
 use Prim.Native.Nat.{ℕ, _<_}
 use mathlib.Core.Path.{_≡_, refl}
 use mathlib.Core.Bool.{true}
-use Rattle.base.specs.Lists.{values, valuesFrom, every, same}
-use Rattle.base.proofs.ListLaws.{every-values, same-true}
+use Rattle.base.specs.Lists.{values, valuesFrom, every, equal}
+use Rattle.base.proofs.ListLaws.{every-values, equal-true}
 use Rattle.braid.specs.Reduction.{joined, reduced}
 use Rattle.digest.specs.Digest.{selected, powerOf, halfByteBraid}
 use Rattle.digest.specs.PureBraids.{pureGenerator, power}
 
-powers : every (λ h. same (reduced (power (powerOf h) (pureGenerator (selected h)))) (halfByteBraid h)) (values (λ h. h) 16) ≡ true
-unfolding halfByteBraid valuesFrom every same joined reduced pureGenerator power
+powers : every (λ h. equal (reduced (power (powerOf h) (pureGenerator (selected h)))) (halfByteBraid h)) (values (λ h. h) 16) ≡ true
+unfolding halfByteBraid valuesFrom every equal joined reduced pureGenerator power
 powers = refl
 
 -- g_(l,8) to the p-th power, with what cancels between its factors cancelled
 pub half-byte-power : (h : ℕ) → h < 16 → reduced (power (powerOf h) (pureGenerator (selected h))) ≡ halfByteBraid h
 half-byte-power h below =
-    same-true (reduced (power (powerOf h) (pureGenerator (selected h)))) (halfByteBraid h)
-    (every-values (λ h. same (reduced (power (powerOf h) (pureGenerator (selected h)))) (halfByteBraid h)) (λ h. h) 16 powers h below)
+    equal-true (reduced (power (powerOf h) (pureGenerator (selected h)))) (halfByteBraid h)
+    (every-values (λ h. equal (reduced (power (powerOf h) (pureGenerator (selected h)))) (halfByteBraid h)) (λ h. h) 16 powers h below)

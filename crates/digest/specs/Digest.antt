@@ -1,5 +1,5 @@
--- A digest as a braid: each half byte of 32 bytes, high half first, becomes a power of a pure braid generator. Nothing is cancelled.
--- Assumes nothing.
+-- A digest as a braid: each half byte of 32 bytes, high half first, becomes a power of a pure braid generator. Nothing
+-- is cancelled.
 use Prim.Native.Nat.{ℕ, _+_, _*_, _-_, _/_, _%_}
 use mathlib.Core.List.{List, [], _∷_, _++_, map, reverse}
 use lib.Dec.{eqb}
@@ -7,7 +7,7 @@ use lib.ListN.{length, getD, replicate}
 use Rattle.base.specs.Questions.{Question, _else_}
 use Rattle.base.specs.Lists.{valuesFrom}
 use Rattle.base.specs.Digits.{halves}
-use Rattle.braid.specs.Words.{roomQuestion}
+use Rattle.braid.specs.Words.{roomQuestion, wordFile, Wrote}
 
 -- the low two bits 0, 1, 2, 3 select l = 7, 5, 3, 1, the number of a generator
 abbrev pub selected : ℕ → ℕ
@@ -42,3 +42,8 @@ digestQuestions digest = (eqb (length digest) 32 else 8) ∷ []
 -- Encoder alone: 15, 8
 abbrev pub encoderQuestions : ℕ → List ℕ → List Question
 encoderQuestions room digest = roomQuestion room ∷ digestQuestions digest
+
+-- what the encoder gives and leaves
+abbrev pub WroteEncoded : List ℕ → List ℕ → List ℕ → ℕ → ℕ → Type 0
+WroteEncoded digest before after answer bytes =
+    Wrote (encoderQuestions (length before) digest) (wordFile (encoded digest)) before after answer bytes

@@ -1,5 +1,5 @@
--- Source 003's pure braid generators on eight strands, and powers of a word: what a half byte's braid is, said in that source's terms.
--- Assumes nothing.
+-- Source 003's pure braid generators on eight strands, and powers of a word: what a half byte's braid is, said in that
+-- source's terms.
 use Prim.Native.Nat.{ℕ, zero, suc, _+_, _-_}
 use mathlib.Core.List.{List, [], _∷_, _++_, map, reverse}
 use Rattle.digest.specs.Digest.{above}

@@ -3,8 +3,7 @@ ghost use mathlib.Core.Path.{_≡_};
 ghost use mathlib.Core.List.{_++_};
 ghost use Prim.Native.Nat.{_+_, _-_, _≤_, _<_};
 ghost use lib.ListN.{length, take, getD};
-ghost use Rattle.braid.specs.Words.{wordFile, Wrote};
-ghost use Rattle.digest.specs.Digest.{selected, halfByteBraid, encoded, encoderQuestions};
+ghost use Rattle.digest.specs.Digest.{selected, halfByteBraid, encoded, WroteEncoded};
 use braid::Written;
 
 // How many generators lie above b_l, of those up to b7: the low two bits 0, 1, 2, 3 select l = 7, 5, 3, 1.
@@ -73,7 +72,7 @@ fn encode_into(digest: &[u8], codes: &mut [u8]) -> usize
 
 // The encoder alone: 15, 8. The whole braid as a word file; nothing is cancelled.
 pub fn encode(digest: &[u8], out: &mut [u8]) -> Written
-    ensures { λ r. ⌜ Wrote (encoderQuestions (length (now (out .entry))) (now (digest .entry))) (wordFile (encoded (now (digest .entry)))) (now (out .entry)) (now (out .exit)) (r .answer) (r .bytes) ⌝ }
+    ensures { λ r. ⌜ WroteEncoded (now (digest .entry)) (now (out .entry)) (now (out .exit)) (r .answer) (r .bytes) ⌝ }
 {
     if out.len() < braid::MAX_BYTES {
         return Written {

@@ -1,6 +1,6 @@
--- The polynomials over two elements, reduced by one of degree n, are a binary field if every element but 0 has a reciprocal: the record of laws asks
--- nothing else of them, whatever the degree. That each has one is computed, at all of them: for GF(32), and for the field of four elements as well.
--- Assumes nothing.
+-- The polynomials over two elements, reduced by one of degree n, are a binary field if every element but 0 has a
+-- reciprocal: the record of laws asks nothing else of them, whatever the degree. That each has one is computed, at all
+-- of them: for GF(32), and for the field of four elements as well.
 use Prim.Native.Nat.{ℕ, zero, suc, _^_, _<_}
 use mathlib.Core.Path.{_≡_, refl, sym, ap, _∙_}
 use native.Mathlib.Nat.{not-suc-le-zero, le-of-suc-le-suc}
@@ -12,7 +12,7 @@ use Rattle.base.specs.Lists.{values, valuesFrom}
 use Rattle.base.proofs.ListLaws.{getD-values}
 use Rattle.field.specs.Binary.{BinaryField}
 use Rattle.field.specs.Polynomial.{timesX, horner, times, first, reciprocalOf, polynomials}
-use Rattle.field.specs.Gf32.{gf32, modulus}
+use Rattle.field.specs.Gf32.{gf32}
 use Rattle.field.proofs.Xor.{xor-assoc}
 use Rattle.field.proofs.Laws.{Degree, times-below, times-comm, times-assoc, times-sum, one-times}
 use Rattle.field.proofs.ReciprocalLaws.{reciprocal-below}

@@ -1,5 +1,4 @@
 -- What an operation of the field gives: the element where every question is passed, and 0 on a refusal.
--- Assumes nothing.
 use Prim.Native.Nat.{ℕ, suc}
 use mathlib.Core.Path.{_≡_, sym, _∙_}
 use mathlib.Core.List.{List}

@@ -1,8 +1,7 @@
--- Products of polynomials over two elements, reduced by a polynomial p of degree n: the laws of a ring, for every degree from 1 on and every p.
--- One step, x times a, is linear. So is then the multiplication by any b, and it commutes with the step; hence (c × a) × b = (c × b) × a.
--- With 1 × a = a that gives commutativity and associativity. Products read the n low bits of their factors alone, so that only the law of 1
--- names a bound.
--- Assumes nothing.
+-- Products of polynomials over two elements, reduced by a polynomial p of degree n: the laws of a ring, for every
+-- degree from 1 on and every p. One step, x times a, is linear. So is then the multiplication by any b, and it commutes
+-- with the step; hence (c × a) × b = (c × b) × a. With 1 × a = a that gives commutativity and associativity. Products
+-- read the n low bits of their factors alone, so that only the law of 1 names a bound.
 use Prim.Native.Nat.{ℕ, zero, suc, _+_, _-_, _*_, _/_, _%_, _^_, _≤_, _<_}
 use mathlib.Core.Path.{_≡_, refl, sym, ap, ap₂, _∙_}
 use mathlib.Core.Bool.{Bool, true, false, cond}
@@ -186,11 +185,11 @@ module _ {n p : ℕ} (degree : Degree n p) where
   times-below a b = horner-below a n b
 
   -- products read the n low bits alone
-  pub times-low : (a b : ℕ) → times n p (a % 2 ^ n) b ≡ times n p a b
+  times-low : (a b : ℕ) → times n p (a % 2 ^ n) b ≡ times n p a b
   unfolding times
   times-low a b = horner-low a n b
 
-  pub one-times-low : (a : ℕ) → times n p 1 a ≡ a % 2 ^ n
+  one-times-low : (a : ℕ) → times n p 1 a ≡ a % 2 ^ n
   unfolding times
   one-times-low a = horner-one n a (omega arith)
 
@@ -210,7 +209,7 @@ module _ {n p : ℕ} (degree : Degree n p) where
   times-assoc a b c =
       ap (λ (x : ℕ). times n p x c) (times-comm a b) ∙ times-right-comm b a c ∙ times-comm (times n p b c) a
 
-  pub sum-times : (a b c : ℕ) → times n p (bitXor a b) c ≡ bitXor (times n p a c) (times n p b c)
+  sum-times : (a b c : ℕ) → times n p (bitXor a b) c ≡ bitXor (times n p a c) (times n p b c)
   unfolding times
   sum-times a b c = horner-sum a b n c
 

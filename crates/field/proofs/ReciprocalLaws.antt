@@ -1,5 +1,5 @@
--- The reciprocal as the first element that passes a test: it is found if there is one, it is below the size, and it is the only one.
--- For every degree from 1 on and every polynomial of that degree. Assumes nothing.
+-- The reciprocal as the first element that passes a test: it is found if there is one, it is below the size, and it is
+-- the only one. For every degree from 1 on and every polynomial of that degree.
 use Prim.Native.Nat.{ℕ, zero, suc, _+_, _^_, _≤_, _<_}
 use mathlib.Core.Path.{_≡_, refl, sym, ap, _∙_}
 use mathlib.Core.Bool.{Bool, true, false, cond, false≢true}
@@ -20,7 +20,7 @@ apart : (f : ℕ → Bool) (i b : ℕ) → f i ≡ false → f b ≡ true → i 
 apart f i b z e q = false≢true (sym z ∙ ap f q ∙ e)
 
 -- among k numbers from i on, one passes: the first that does passes
-pub first-passes : (f : ℕ → Bool) (i k b : ℕ) → i ≤ b → b < i + k → f b ≡ true → f (first f i k) ≡ true
+first-passes : (f : ℕ → Bool) (i k b : ℕ) → i ≤ b → b < i + k → f b ≡ true → f (first f i k) ≡ true
 unfolding first
 first-passes f i zero b l h e = let z : ⊥ = omega arith in absurd z
 first-passes f i (suc k) b l h e =
@@ -42,7 +42,7 @@ unfolding reciprocalOf
 reciprocal-below n p a = first-below (λ b. eqb (times n p a b) 1) 0 (2 ^ n) (2 ^ n) (pow-pos n) (omega arith)
 
 -- where some element's product with a is 1, the reciprocal's is
-pub times-reciprocal : (n p a b : ℕ) → b < 2 ^ n → times n p a b ≡ 1 → times n p a (reciprocalOf n p a) ≡ 1
+times-reciprocal : (n p a b : ℕ) → b < 2 ^ n → times n p a b ≡ 1 → times n p a (reciprocalOf n p a) ≡ 1
 unfolding reciprocalOf
 times-reciprocal n p a b h e =
     let f : ℕ → Bool = λ c. eqb (times n p a c) 1 in

@@ -1,10 +1,8 @@
--- Rules for `simp` in any binary field, given as a variable record of operations and its laws. `simp ring` sorts sums and products and lets
--- equal terms cancel; `simp (ring, reciprocals)` cancels a reciprocal against its element too, where the hypotheses say that the element is
--- above 0 and below the size.
--- Assumes nothing.
-use Prim.Native.Nat.{ℕ, zero, suc, _<_}
-use mathlib.Core.Path.{_≡_, refl, sym, ap, _∙_}
-use native.Mathlib.Omega.{arith}
+-- Rules for `simp` in any binary field, given as a variable record of operations and its laws. `simp ring` sorts sums
+-- and products and lets equal terms cancel; `simp (ring, reciprocals)` cancels a reciprocal against its element too,
+-- where the hypotheses say that the element is above 0 and below the size.
+use Prim.Native.Nat.{ℕ, _<_}
+use mathlib.Core.Path.{_≡_, sym, ap, _∙_}
 use Rattle.field.specs.Binary.{Operations, BinaryField}
 
 module _ {F : Operations} (L : BinaryField F) where
@@ -93,7 +91,8 @@ pub ruleset ring = (
   one-mul-inv,
 )
 
--- two factors whose product is 1 go away, wherever sorting puts them: side by side, or with up to three factors between them
+-- two factors whose product is 1 go away, wherever sorting puts them: side by side, or with up to two factors between
+-- them
 module _ {F : Operations} (L : BinaryField F) (p q : ℕ) (e : F .mul p q ≡ 1) where
   over : (x u w : ℕ) → F .mul p u ≡ w → F .mul p (F .mul x u) ≡ F .mul x w
   over x u w h = mul-left-comm L p x u ∙ ap (F .mul x) h
@@ -107,17 +106,11 @@ module _ {F : Operations} (L : BinaryField F) (p q : ℕ) (e : F .mul p q ≡ 1)
   two-between : (x y : ℕ) → F .mul p (F .mul x (F .mul y q)) ≡ F .mul x y
   two-between x y = over x (F .mul y q) (F .mul 1 y) (one-between y) ∙ mul-one-mul L x y
 
-  three-between : (x y z : ℕ) → F .mul p (F .mul x (F .mul y (F .mul z q))) ≡ F .mul x (F .mul y z)
-  three-between x y z = over x (F .mul y (F .mul z q)) (F .mul y z) (two-between y z)
-
   one-between-more : (x y : ℕ) → F .mul p (F .mul x (F .mul q y)) ≡ F .mul x y
   one-between-more x y = over x (F .mul q y) (F .mul 1 y) (beside y) ∙ mul-one-mul L x y
 
   two-between-more : (x y z : ℕ) → F .mul p (F .mul x (F .mul y (F .mul q z))) ≡ F .mul x (F .mul y z)
   two-between-more x y z = over x (F .mul y (F .mul q z)) (F .mul y z) (one-between-more y z)
-
-  three-between-more : (x y z w : ℕ) → F .mul p (F .mul x (F .mul y (F .mul z (F .mul q w)))) ≡ F .mul x (F .mul y (F .mul z w))
-  three-between-more x y z w = over x (F .mul y (F .mul z (F .mul q w))) (F .mul y (F .mul z w)) (two-between-more y z w)
 
 -- the same for an element a other than 0 and its reciprocal, in either order
 module _ {F : Operations} (L : BinaryField F) (a : ℕ) (pos : 0 < a) (below : a < F .size) where
@@ -145,12 +138,6 @@ module _ {F : Operations} (L : BinaryField F) (a : ℕ) (pos : 0 < a) (below : a
   pub inv-2-mul : (x y : ℕ) → F .mul (F .inv a) (F .mul x (F .mul y a)) ≡ F .mul x y
   inv-2-mul = two-between L (F .inv a) a inv-mul
 
-  pub mul-3-inv : (x y z : ℕ) → F .mul a (F .mul x (F .mul y (F .mul z (F .inv a)))) ≡ F .mul x (F .mul y z)
-  mul-3-inv = three-between L a (F .inv a) mul-inv
-
-  pub inv-3-mul : (x y z : ℕ) → F .mul (F .inv a) (F .mul x (F .mul y (F .mul z a))) ≡ F .mul x (F .mul y z)
-  inv-3-mul = three-between L (F .inv a) a inv-mul
-
   pub mul-1-inv-more : (x y : ℕ) → F .mul a (F .mul x (F .mul (F .inv a) y)) ≡ F .mul x y
   mul-1-inv-more = one-between-more L a (F .inv a) mul-inv
 
@@ -163,34 +150,6 @@ module _ {F : Operations} (L : BinaryField F) (a : ℕ) (pos : 0 < a) (below : a
   pub inv-2-mul-more : (x y z : ℕ) → F .mul (F .inv a) (F .mul x (F .mul y (F .mul a z))) ≡ F .mul x (F .mul y z)
   inv-2-mul-more = two-between-more L (F .inv a) a inv-mul
 
-  pub mul-3-inv-more : (x y z w : ℕ) → F .mul a (F .mul x (F .mul y (F .mul z (F .mul (F .inv a) w)))) ≡ F .mul x (F .mul y (F .mul z w))
-  mul-3-inv-more = three-between-more L a (F .inv a) mul-inv
-
-  pub inv-3-mul-more : (x y z w : ℕ) → F .mul (F .inv a) (F .mul x (F .mul y (F .mul z (F .mul a w)))) ≡ F .mul x (F .mul y (F .mul z w))
-  inv-3-mul-more = three-between-more L (F .inv a) a inv-mul
-
-  -- on an element x of the field a multiplication by a and one by its reciprocal undo one another
-  pub mul-inv-undo : (x : ℕ) → x < F .size → F .mul a (F .mul (F .inv a) x) ≡ x
-  mul-inv-undo x h = mul-inv-more x ∙ L .one-mul h
-
-  pub inv-mul-undo : (x : ℕ) → x < F .size → F .mul (F .inv a) (F .mul a x) ≡ x
-  inv-mul-undo x h = inv-mul-more x ∙ L .one-mul h
-
-  -- the reciprocal is the one element whose product with a is 1
-  pub inv-unique : (b : ℕ) → b < F .size → F .mul a b ≡ 1 → F .inv a ≡ b
-  inv-unique b h e =
-      sym (mul-one L (F .inv a) (L .inv-below a)) ∙ ap (F .mul (F .inv a)) (sym e) ∙ inv-mul-undo b h
-
-  pub inv-pos : 0 < F .inv a
-  inv-pos = positive (F .inv a) refl
-    where
-      positive : (i : ℕ) → F .inv a ≡ i → 0 < i
-      positive zero e = let z : _≡_ {A = ℕ} 0 1 = sym (mul-zero L a) ∙ ap (F .mul a) (sym e) ∙ mul-inv in omega arith
-      positive (suc i) e = omega arith
-
-pub inv-inv : {F : Operations} (L : BinaryField F) (a : ℕ) → 0 < a → a < F .size → F .inv (F .inv a) ≡ a
-inv-inv {F} L a pos below = inv-unique L (F .inv a) (inv-pos L a pos below) (L .inv-below a) a below (inv-mul L a pos below)
-
 pub ruleset reciprocals = (
   mul-inv,
   inv-mul,
@@ -200,26 +159,8 @@ pub ruleset reciprocals = (
   inv-1-mul,
   mul-2-inv,
   inv-2-mul,
-  mul-3-inv,
-  inv-3-mul,
   mul-1-inv-more,
   inv-1-mul-more,
   mul-2-inv-more,
   inv-2-mul-more,
-  mul-3-inv-more,
-  inv-3-mul-more,
 )
-
--- three identities, to show the rules at work: (a + b) (a + b) = a a + b b
-square : {F : Operations} (L : BinaryField F) (a b : ℕ) → F .mul (F .add a b) (F .add a b) ≡ F .add (F .mul a a) (F .mul b b)
-square L a b = simp ring
-
--- t (x + y / t) + x t = y, as where a letter meets its inverse
-letter-undone : {F : Operations} (L : BinaryField F) (t x y : ℕ) → 0 < t → t < F .size → y < F .size
-    → F .add (F .mul t (F .add x (F .mul y (F .inv t)))) (F .mul x t) ≡ y
-letter-undone L t x y pos below h = simp (ring, reciprocals)
-
--- (s t) (x + (x y) / (s t)) + x (t s) = y x
-two-undone : {F : Operations} (L : BinaryField F) (t s x y : ℕ) → 0 < t → t < F .size → 0 < s → s < F .size
-    → F .add (F .mul (F .mul s t) (F .add x (F .mul (F .mul x y) (F .mul (F .inv s) (F .inv t))))) (F .mul x (F .mul t s)) ≡ F .mul y x
-two-undone L t s x y p q r u = simp (ring, reciprocals)

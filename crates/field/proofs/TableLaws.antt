@@ -1,23 +1,19 @@
--- The tables of products and of reciprocals at each place, and products of numbers past the field's size. Assumes nothing.
+-- The tables of products and of reciprocals at each place, and products of numbers past the field's size.
 use Prim.Native.Nat.{ℕ, suc, _+_, _-_, _*_, _/_, _%_, _<_}
 use mathlib.Core.Path.{_≡_, ap, ap₂, _∙_}
-use native.Mathlib.Nat.{mul-comm}
 use native.Mathlib.Omega.{arith}
 use lib.Dec.{lit<, lit≤}
-use lib.Arith.{digits-div, digits-mod}
 use lib.ListN.{getD}
 use Rattle.base.proofs.ListLaws.{getD-values}
 use Rattle.field.specs.Gf32.{gf32, modulus, products, reciprocals}
 use Rattle.field.proofs.Laws.{Degree, times-low-both}
 
 -- entry 32 a + b is a × b
-pub product-at : (a b : ℕ) → a < 32 → b < 32 → getD products (a * 32 + b) 0 ≡ gf32 .mul a b
+pub product-at : (a b : ℕ) → a < 32 → b < 32 → getD products (32 * a + b) 0 ≡ gf32 .mul a b
 product-at a b ha hb =
-    getD-values (λ k. gf32 .mul (k / 32) (k % 32)) 1024 (a * 32 + b) (omega arith)
-    ∙ ap₂ (gf32 .mul) (digits-div a hb) (digits-mod a hb)
-
-pub product-at-left : (a b : ℕ) → a < 32 → b < 32 → getD products (32 * a + b) 0 ≡ gf32 .mul a b
-product-at-left a b ha hb = ap (λ (m : ℕ). getD products (m + b) 0) (mul-comm 32 a) ∙ product-at a b ha hb
+    let first : (32 * a + b) / 32 ≡ a = omega arith in
+    let second : (32 * a + b) % 32 ≡ b = omega arith in
+    getD-values (λ k. gf32 .mul (k / 32) (k % 32)) 1024 (32 * a + b) (omega arith) ∙ ap₂ (gf32 .mul) first second
 
 -- entry a - 1 is the reciprocal of a
 pub reciprocal-at : (a : ℕ) → 0 < a → a < 32 → getD reciprocals (a - 1) 0 ≡ gf32 .inv a

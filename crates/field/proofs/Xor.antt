@@ -1,5 +1,4 @@
 -- Laws of the sum of polynomials, `bitXor`: it is associative, and doubling passes through it.
--- Assumes nothing.
 use Prim.Native.Nat.{ℕ, zero, suc, _+_, _*_, _/_, _%_, _<_}
 use mathlib.Core.Path.{_≡_, refl, sym, ap, ap₂, _∙_}
 use native.Mathlib.Nat.{le-refl, mod-lt, zero-lt-suc, le-of-suc-le-suc, not-suc-le-zero, mul-div-cancel, mul-mod-left, add-zero}
@@ -41,7 +40,7 @@ xor-assoc =
     ∙ ap (differ (n % 2)) (sym (xor-odd b c)))
     ∙ sym (xor-step n (bitXor b c)))
 
-pub xor-left-comm : (a b c : ℕ) → bitXor a (bitXor b c) ≡ bitXor b (bitXor a c)
+xor-left-comm : (a b c : ℕ) → bitXor a (bitXor b c) ≡ bitXor b (bitXor a c)
 xor-left-comm a b c = sym (xor-assoc a b c) ∙ ap (λ (x : ℕ). bitXor x c) (xor-comm a b) ∙ xor-assoc b a c
 
 -- a sum of sums, regrouped

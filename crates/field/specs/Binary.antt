@@ -1,6 +1,5 @@
 -- Binary fields: finite fields in which a + a = 0, with elements 0 to size - 1.
 -- The operations are total on all numbers; the laws name a bound only where they need it.
--- Assumes nothing.
 use Prim.Native.Nat.{ℕ, _<_}
 use mathlib.Core.Path.{_≡_}
 

@@ -1,5 +1,4 @@
 -- GF(32): polynomials over two elements, reduced by x^5 + x^2 + 1; its two public operations, with their questions.
--- Assumes nothing.
 use Prim.Native.Nat.{ℕ, suc, _/_, _%_}
 use mathlib.Core.Path.{_≡_}
 use mathlib.Core.Bool.{Bool, not}

@@ -1,5 +1,5 @@
--- Polynomials over two elements as numbers, bit k being the coefficient of x^k, and their products reduced by a polynomial p of degree n.
--- Assumes nothing.
+-- Polynomials over two elements as numbers, bit k being the coefficient of x^k, and their products reduced by a
+-- polynomial p of degree n.
 use Prim.Native.Nat.{ℕ, zero, suc, _*_, _/_, _%_, _^_}
 use mathlib.Core.Bool.{Bool, cond}
 use lib.Dec.{eqb, ltb}

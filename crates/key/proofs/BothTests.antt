@@ -1,4 +1,4 @@
--- Two or three tests one after another, each made only where those before it are passed. Assumes nothing.
+-- Two or three tests one after another, each made only where those before it are passed.
 use mathlib.Core.Path.{_≡_, sym, ap, ap₂, _∙_}
 use mathlib.Core.Bool.{Bool, true, false, _&&_}
 

@@ -1,20 +1,24 @@
--- The entries that a key file has of a matrix: as a loop puts them down one by one, and those of the matrix of 57 entries are these again.
--- Assumes nothing.
-use Prim.Native.Nat.{ℕ, _+_, _*_, _/_, _%_, _<_}
-use mathlib.Core.Path.{_≡_, sym, ap, _∙_}
+-- The entries that a key file has of a matrix: as a loop reads them out one by one, the matrix that a loop fills with
+-- them one by one, and those of that matrix are these again.
+use Prim.Native.Nat.{ℕ, zero, suc, _+_, _-_, _*_, _/_, _%_, _≤_, _<_}
+use mathlib.Core.Path.{_≡_, refl, sym, ap, ap₂, _∙_}
 use mathlib.Core.List.{List, [], _∷_, _++_}
 use native.Mathlib.Omega.{arith}
-use lib.ListN.{length, take, drop, getD, set, replicate, drop-of-length-le, take-append-drop, List·getD-append}
+use native.Mathlib.Decide.{decLt, ℕ-discrete}
+use lib.ListN.{length, take, drop, getD, set, replicate, length-set, drop-of-length-le, take-append-drop, List·getD-append}
 use lib.Seq.{drop-cons, set-split, getD-take, getD-append-add, length-take-le}
 use Rattle.base.specs.Lists.{values}
 use Rattle.base.proofs.ListLaws.{values-of}
-use Rattle.action.specs.Layout.{entry}
-use Rattle.action.proofs.LayoutLaws.{entry-matrixOf}
+use Rattle.matrix.specs.Layout.{place, entry}
+use Rattle.matrix.proofs.LayoutLaws.{entry-matrixOf, by-entries}
+use Rattle.matrix.proofs.StoreLaws.{store-same, store-other}
 use Rattle.key.specs.Keys.{wholeMatrix, fileEntries}
 
 -- the entry at a place of the file, before the last
 abbrev pub fileEntry : List ℕ → ℕ → ℕ
 fileEntry m k = entry m (k / 8) (k % 8)
+
+-- ---- entries read out
 
 -- the first 56 entries of a list, with one more
 put : (m es : List ℕ) (x : ℕ) (rest : List ℕ) → length es ≡ 57 → ((k : ℕ) → k < 56 → getD es k 0 ≡ fileEntry m k) → x ≡ entry m 7 7 → rest ≡ []
@@ -32,6 +36,41 @@ pub entries-put : (m es : List ℕ) (x : ℕ) → length es ≡ 57 → ((k : ℕ
 entries-put m es x l rows last =
     set-split es 56 x (omega arith) ∙ put m es x (drop 57 es) l rows last (drop-of-length-le es {i = 57} (omega arith))
 
+-- ---- the matrix of 57 entries
+
+pub getD-zeros : (n k : ℕ) → _≡_ {A = ℕ} (getD (replicate n 0) k 0) 0
+getD-zeros zero k = refl
+getD-zeros (suc n) zero = refl
+getD-zeros (suc n) (suc k) = getD-zeros n k
+
+-- a matrix in which the first n entries are in their places, and zeros after them
+pub record Filled (es : List ℕ) (n : ℕ) (m : List ℕ) : Type 0 where
+  pub size : length m ≡ 64
+  pub placed : (k : ℕ) → k < n → fileEntry m k ≡ getD es k 0
+  pub zeros : (k : ℕ) → n ≤ k → k < 64 → fileEntry m k ≡ 0
+
+pub filled-none : (es : List ℕ) → Filled es 0 (replicate 64 0)
+unfolding entry
+filled-none es =
+    record { size = refl; placed = λ k h. absurd (omega arith); zeros = λ k h b. getD-zeros 64 (place (k / 8) (k % 8)) }
+
+-- one entry more
+pub filled-more : (es m : List ℕ) (n : ℕ) {at : ℕ} → at ≡ place (n / 8) (n % 8) → n < 56 → Filled es n m → Filled es (n + 1) (set m at (getD es n 0))
+filled-more es m n e h f =
+    rw e record {
+      size = length-set m (place (n / 8) (n % 8)) (getD es n 0) ∙ f .size;
+      placed = λ k b. own k b (ℕ-discrete k n);
+      zeros = λ k a b. other k b (λ e. omega arith) ∙ f .zeros k (omega arith) b;
+    }
+  where
+    other : (k : ℕ) → k < 64 → (k ≡ n → ⊥) → fileEntry (set m (place (n / 8) (n % 8)) (getD es n 0)) k ≡ fileEntry m k
+    other k b d =
+        store-other m (n / 8) (n % 8) (getD es n 0) (omega arith) (omega arith) (k / 8) (k % 8) (omega arith) (omega arith) (λ p q. d (omega arith))
+
+    own : (k : ℕ) → k < n + 1 → Dec (k ≡ n) → fileEntry (set m (place (n / 8) (n % 8)) (getD es n 0)) k ≡ getD es k 0
+    own k b (yes e) = rw e (store-same m (n / 8) (n % 8) (getD es n 0) (omega arith) (omega arith) (f .size))
+    own k b (no d) = other k (omega arith) d ∙ f .placed k (omega arith)
+
 module _ (es : List ℕ) (l : length es ≡ 57) where
   -- the matrix row by row, as `wholeMatrix` has it
   abbrev whole : List ℕ
@@ -40,24 +79,60 @@ module _ (es : List ℕ) (l : length es ≡ 57) where
   front-size : length (take 56 es) ≡ 56
   front-size = length-take-le 56 es (omega arith)
 
-  rows : (k : ℕ) → k < 56 → getD es k 0 ≡ fileEntry (wholeMatrix es) k
+  whole-row : (k : ℕ) → k < 56 → getD whole k 0 ≡ getD es k 0
+  whole-row k h = List·getD-append (take 56 es) (replicate 7 0 ++ drop 56 es) 0 k (omega (arith, front-size)) ∙ getD-take 56 es k 0 h
+
+  row-8 : (k : ℕ) → getD whole (56 + k) 0 ≡ getD (replicate 7 0 ++ drop 56 es) k 0
+  row-8 k = ap (λ (n : ℕ). getD whole (n + k) 0) (sym front-size) ∙ getD-append-add (take 56 es) (replicate 7 0 ++ drop 56 es) k 0
+
+  whole-zero : (k : ℕ) → k < 7 → getD whole (56 + k) 0 ≡ 0
+  whole-zero k h = row-8 k ∙ List·getD-append (replicate 7 0) (drop 56 es) 0 k h ∙ getD-zeros 7 k
+
+  whole-last : getD whole 63 0 ≡ getD es 56 0
+  whole-last = row-8 7 ∙ ap (λ (r : List ℕ). getD r 0 0) (drop-cons es 56 0 (omega arith))
+
+  -- the last entry
+  abbrev x : ℕ
+  x = getD es 56 0
+
+  -- 56 entries in their places, and the last one put to them
+  pub whole-put : (m : List ℕ) {at : ℕ} → at ≡ place 7 7 → Filled es 56 m → set m at x ≡ wholeMatrix es
   unfolding wholeMatrix
-  rows k h =
+  whole-put m e f =
+      ap (λ (at : ℕ). set m at x) e
+      ∙ by-entries (set m (place 7 7) x) (λ r c. getD whole (8 * r + c) 0) (length-set m (place 7 7) x ∙ f .size)
+      (λ r c p q. at r c p q (decLt (8 * r + c) 56) (ℕ-discrete (8 * r + c) 63))
+    where
+      kept : (r c : ℕ) → r < 8 → c < 8 → (8 * r + c ≡ 63 → ⊥) → entry (set m (place 7 7) x) r c ≡ fileEntry m (8 * r + c)
+      kept r c p q d =
+          let er : r ≡ (8 * r + c) / 8 = omega arith in
+          let ec : c ≡ (8 * r + c) % 8 = omega arith in
+          store-other m 7 7 x (omega arith) (omega arith) r c p q (λ a b. d (omega arith)) ∙ ap₂ (entry m) er ec
+
+      at : (r c : ℕ) → r < 8 → c < 8 → Dec (8 * r + c < 56) → Dec (8 * r + c ≡ 63) → entry (set m (place 7 7) x) r c ≡ getD whole (8 * r + c) 0
+      at r c p q (yes h) e = kept r c p q (λ d. omega arith) ∙ f .placed (8 * r + c) h ∙ sym (whole-row (8 * r + c) h)
+      at r c p q (no h) (no d) =
+          let k : 56 + (8 * r + c - 56) ≡ 8 * r + c = omega arith in
+          kept r c p q d ∙ f .zeros (8 * r + c) (omega arith) (omega arith)
+          ∙ sym (ap (λ (j : ℕ). getD whole j 0) (sym k) ∙ whole-zero (8 * r + c - 56) (omega arith))
+      at r c p q (no h) (yes e) =
+          let er : r ≡ 7 = omega arith in
+          let ec : c ≡ 7 = omega arith in
+          ap₂ (entry (set m (place 7 7) x)) er ec ∙ store-same m 7 7 x (omega arith) (omega arith) (f .size)
+          ∙ sym (ap (λ (j : ℕ). getD whole j 0) e ∙ whole-last)
+
+  row : (k : ℕ) → k < 56 → getD es k 0 ≡ fileEntry (wholeMatrix es) k
+  unfolding wholeMatrix
+  row k h =
       let p : 8 * (k / 8) + k % 8 ≡ k = omega arith in
       sym
       (entry-matrixOf (λ r c. getD whole (8 * r + c) 0) (k / 8) (k % 8) (omega arith) (omega arith)
       ∙ ap (λ (j : ℕ). getD whole j 0) p
-      ∙ List·getD-append (take 56 es) (replicate 7 0 ++ drop 56 es) 0 k (omega (arith, front-size))
-      ∙ getD-take 56 es k 0 h)
+      ∙ whole-row k h)
 
   last : getD es 56 0 ≡ entry (wholeMatrix es) 7 7
   unfolding wholeMatrix
-  last =
-      sym
-      (entry-matrixOf (λ r c. getD whole (8 * r + c) 0) 7 7 (omega arith) (omega arith)
-      ∙ ap (λ (n : ℕ). getD whole (n + 7) 0) (sym front-size)
-      ∙ getD-append-add (take 56 es) (replicate 7 0 ++ drop 56 es) 7 0
-      ∙ ap (λ (r : List ℕ). getD r 0 0) (drop-cons es 56 0 (omega arith)))
+  last = sym (entry-matrixOf (λ r c. getD whole (8 * r + c) 0) 7 7 (omega arith) (omega arith) ∙ whole-last)
 
   -- what a file has of the matrix of 57 entries are these entries
   pub entries-whole : fileEntries (wholeMatrix es) ≡ es
@@ -65,4 +140,4 @@ module _ (es : List ℕ) (l : length es ≡ 57) where
       sym
       (sym (take-append-drop 56 es)
       ∙ ap (λ (r : List ℕ). take 56 es ++ r) (drop-cons es 56 0 (omega arith))
-      ∙ put (wholeMatrix es) es (getD es 56 0) (drop 57 es) l rows last (drop-of-length-le es {i = 57} (omega arith)))
+      ∙ put (wholeMatrix es) es (getD es 56 0) (drop 57 es) l row last (drop-of-length-le es {i = 57} (omega arith)))

@@ -1,5 +1,5 @@
--- A key file as its parts in a row: parts put in their places one after another, a part read back, a file cut into its parts.
--- Assumes nothing.
+-- A key file as its parts in a row: parts put in their places one after another, a part read back, a file cut into its
+-- parts.
 use Prim.Native.Nat.{ℕ, _+_, _≤_}
 use mathlib.Core.Path.{_≡_, refl, sym, ap, ap₂, _∙_}
 use mathlib.Core.List.{List, [], _∷_, _++_, append-assoc}
@@ -15,7 +15,7 @@ use Rattle.key.proofs.MatrixLaws.{packed-size}
 abbrev pub placed : ℕ → ℕ → List ℕ → List ℕ → List ℕ
 placed at n out xs = take at out ++ (xs ++ drop n (drop at out))
 
-pub length-placed : (at n : ℕ) (out xs : List ℕ) → length xs ≡ n → at + n ≤ length out → length (placed at n out xs) ≡ length out
+length-placed : (at n : ℕ) (out xs : List ℕ) → length xs ≡ n → at + n ≤ length out → length (placed at n out xs) ≡ length out
 length-placed at n out xs l h =
     omega (
       arith,
@@ -27,7 +27,7 @@ length-placed at n out xs l h =
     )
 
 -- what stands before and what was put stand in a row
-pub take-placed : (at n : ℕ) (out front xs : List ℕ) → length front ≡ at → length xs ≡ n → take at out ≡ front → take (at + n) (placed at n out xs) ≡ front ++ xs
+take-placed : (at n : ℕ) (out front xs : List ℕ) → length front ≡ at → length xs ≡ n → take at out ≡ front → take (at + n) (placed at n out xs) ≡ front ++ xs
 take-placed at n out front xs lf lx e =
     ap (λ (p : List ℕ). take (at + n) (p ++ (xs ++ drop n (drop at out)))) e
     ∙ ap (take (at + n)) (sym (append-assoc front xs (drop n (drop at out))))
@@ -84,10 +84,10 @@ key-file-size ts order first second =
 
 -- ---- parts of lists in a row
 
-pub part-skip : (n at m : ℕ) (p q : List ℕ) → length p ≡ n → part (n + at) m (p ++ q) ≡ part at m q
+part-skip : (n at m : ℕ) (p q : List ℕ) → length p ≡ n → part (n + at) m (p ++ q) ≡ part at m q
 part-skip n at m p q l = ap (take m) (ap (λ (k : ℕ). drop (k + at) (p ++ q)) (sym l) ∙ drop-append-add p q at)
 
-pub part-here : (m : ℕ) (p q : List ℕ) → length p ≡ m → part 0 m (p ++ q) ≡ p
+part-here : (m : ℕ) (p q : List ℕ) → length p ≡ m → part 0 m (p ++ q) ≡ p
 part-here m p q l = take-at p q m l
 
 -- the rest of a list, with its first n elements told apart

@@ -1,41 +1,45 @@
--- What is known of a key file: its T-values, labels and matrices have their sizes and bounds whatever the bytes, and answer 0 says what each question
--- asks. Assumes nothing.
-use Prim.Native.Nat.{ℕ, zero, suc, _+_, _*_, _/_, _≤_, _<_}
+-- What is known of a key file: its T-values, labels and matrices have their sizes and bounds whatever the bytes, and
+-- answer 0 says what each question asks.
+use Prim.Native.Nat.{ℕ, _+_, _*_, _/_, _≤_, _<_}
 use mathlib.Core.Path.{_≡_}
-use mathlib.Core.Bool.{true, not, _&&_}
+use mathlib.Core.Bool.{true, _&&_}
 use mathlib.Core.List.{List, _++_}
 use native.Mathlib.Omega.{arith}
-use borrow.Author.Tests.{leb-true, eqb-true, eqb-false, eq-eqb, not-true}
-use lib.Dec.{eqb, ltb}
+use borrow.Author.Tests.{leb-true, eqb-true, eq-eqb}
+use lib.Dec.{eqb}
 use lib.ListN.{length, take, drop, getD, replicate}
 use Rattle.base.specs.Questions.{firstNo}
-use Rattle.base.specs.Lists.{every, count, values, eachOnce}
 use Rattle.base.specs.Digits.{value, part}
 use Rattle.base.proofs.QuestionLaws.{passed-answers, answers-passed}
-use Rattle.base.proofs.ListLaws.{and-left, and-right, and-both, every-getD}
+use Rattle.base.proofs.ListLaws.{and-left, and-right, and-both}
 use Rattle.base.proofs.DigitLaws.{take-below, drop-below, append-below, length-digits, digits-below, all-below, below-all}
-use Rattle.action.specs.Multiplier.{elements, nonzero, isOrder}
-use Rattle.action.proofs.LayoutLaws.{Matrix, matrixOf-good}
-use Rattle.key.specs.declared.Key.{Key}
-use Rattle.key.specs.Keys.{strands, fieldSize, tValues, labels, entries, fillerBits, firstBytes, secondBytes, wholeMatrix, startsWithOnes, keyQuestions, keyAnswer, keyOf, keyWriterQuestions}
+use Rattle.braid.specs.Strands.{isOrder}
+use Rattle.field.specs.Gf32.{gf32}
+use Rattle.action.specs.Multiplier.{elements, nonzero}
+use Rattle.action.specs.Good.{TValues, GoodPair}
+use Rattle.action.proofs.GoodLaws.{tested-values, order-below}
+use Rattle.matrix.specs.Layout.{Matrix}
+use Rattle.matrix.proofs.LayoutLaws.{matrixOf-good}
+use Rattle.key.specs.Keys.{statedStrands, fieldSize, tValues, labels, entries, fillerBits, firstBytes, secondBytes, wholeMatrix, startsWithOnes, keyQuestions, keyAnswer, keyOf, keyWriterQuestions}
 use Rattle.key.specs.Parts.{Parts}
-use Rattle.key.proofs.Packing.{Below}
+use Rattle.base.specs.Packing.{Below}
+use Rattle.key.proofs.EntryLaws.{getD-zeros}
 
 -- ---- whatever the bytes
 
-pub t-values-size : (file : List ℕ) → length (tValues file) ≡ 8
+t-values-size : (file : List ℕ) → length (tValues file) ≡ 8
 unfolding tValues
 t-values-size file = length-digits 32 8 (value 256 (part 3 5 file))
 
-pub t-values-below : (file : List ℕ) → Below 32 (tValues file)
+t-values-below : (file : List ℕ) → Below 32 (tValues file)
 unfolding tValues
 t-values-below file = digits-below 32 8 (value 256 (part 3 5 file)) (omega arith)
 
-pub labels-size : (file : List ℕ) → length (labels file) ≡ 8
+labels-size : (file : List ℕ) → length (labels file) ≡ 8
 unfolding labels
 labels-size file = length-digits 8 8 (value 256 (part 44 3 file))
 
-pub labels-below : (file : List ℕ) → Below 8 (labels file)
+labels-below : (file : List ℕ) → Below 8 (labels file)
 unfolding labels
 labels-below file = digits-below 8 8 (value 256 (part 44 3 file)) (omega arith)
 
@@ -48,19 +52,17 @@ unfolding entries
 entries-below bytes = digits-below 32 57 (value 256 bytes / 8) (omega arith)
 
 below-zeros : (b n : ℕ) → 0 < b → Below b (replicate n 0)
-below-zeros b zero p k = p
-below-zeros b (suc n) p zero = p
-below-zeros b (suc n) p (suc k) = below-zeros b n p k
+below-zeros b n p k = rw (getD-zeros n k) p
 
 -- 64 entries below 32
-pub whole-matrix : (es : List ℕ) → Below 32 es → Matrix 32 (wholeMatrix es)
+whole-matrix : (es : List ℕ) → Below 32 es → Matrix 32 (wholeMatrix es)
 unfolding wholeMatrix
 whole-matrix es below =
     let all = append-below (take 56 es) (replicate 7 0 ++ drop 56 es) (take-below 56 es below)
     (append-below (replicate 7 0) (drop 56 es) (below-zeros 32 7 (omega arith)) (drop-below 56 es below)) in
     matrixOf-good (λ r c. getD (take 56 es ++ (replicate 7 0 ++ drop 56 es)) (8 * r + c) 0) (omega arith) (λ r c p q. all (8 * r + c))
 
-pub matrix-good : (bytes : List ℕ) → Matrix 32 (wholeMatrix (entries bytes))
+matrix-good : (bytes : List ℕ) → Matrix 32 (wholeMatrix (entries bytes))
 matrix-good bytes = whole-matrix (entries bytes) (entries-below bytes)
 
 -- the same as tests
@@ -71,7 +73,7 @@ t-values-elements file = below-all 32 (tValues file) (λ k h. t-values-below fil
 
 pub record Accepted (file : List ℕ) : Type 0 where
   pub size : length file ≡ 83
-  pub strands-are : strands file ≡ 8
+  pub strands-are : statedStrands file ≡ 8
   pub field-size : fieldSize file ≡ 32
   pub no-zero : nonzero (tValues file) ≡ true
   pub ones : startsWithOnes (tValues file) ≡ true
@@ -88,7 +90,7 @@ accepted file e =
     let f = p .1 .1 .1 .1 .1 .1 .0 in
     record {
       size = eqb-true (length file) 83 (p .0);
-      strands-are = eqb-true (strands file) 8 (p .1 .0);
+      strands-are = eqb-true (statedStrands file) 8 (p .1 .0);
       field-size = eqb-true (fieldSize file) 32 (p .1 .1 .0);
       no-zero = p .1 .1 .1 .0;
       ones = p .1 .1 .1 .1 .0;
@@ -103,7 +105,7 @@ accepted-answers file a =
     passed-answers (keyQuestions file) (
       eq-eqb (length file) 83 (a .size),
       (
-        eq-eqb (strands file) 8 (a .strands-are),
+        eq-eqb (statedStrands file) 8 (a .strands-are),
         (
           eq-eqb (fieldSize file) 32 (a .field-size),
           (
@@ -123,32 +125,16 @@ accepted-answers file a =
       ),
     )
 
--- no T-value of an accepted key is zero
-pub t-values-nonzero : (file : List ℕ) → keyAnswer file ≡ 0 → (k : ℕ) → k < 8 → getD (tValues file) k 0 ≡ 0 → ⊥
-t-values-nonzero file e k h =
-    let p = every-getD (λ t. not (eqb t 0)) (tValues file) (accepted file e .no-zero) k (rw (t-values-size file) h) in
-    eqb-false (getD (tValues file) k 0) 0 (not-true (eqb (getD (tValues file) k 0) 0) p)
-
--- a key as cloaking and the verdict need it
-pub record Sound (key : Key) : Type 0 where
-  pub ts-size : length (key .«t_values») ≡ 8
-  pub ts-below : Below 32 (key .«t_values»)
-  pub ts-nonzero : (k : ℕ) → k < 8 → getD (key .«t_values») k 0 ≡ 0 → ⊥
-  pub labels-count : length (key .pair .labels) ≡ 8
-  pub labels-small : Below 8 (key .pair .labels)
-  pub first : Matrix 32 (key .pair .matrix)
-
-pub key-sound : (file : List ℕ) → keyAnswer file ≡ 0 → Sound (keyOf file)
+-- an accepted key's T-values and its pair Pub(S), as the laws of pairs ask them
+pub key-values : (file : List ℕ) → keyAnswer file ≡ 0 → TValues gf32 (keyOf file .«t_values»)
 unfolding keyOf
-key-sound file e =
-    record {
-      ts-size = t-values-size file;
-      ts-below = t-values-below file;
-      ts-nonzero = t-values-nonzero file e;
-      labels-count = labels-size file;
-      labels-small = labels-below file;
-      first = matrix-good (firstBytes file);
-    }
+key-values file e = tested-values (tValues file) (t-values-size file) (t-values-elements file) (accepted file e .no-zero)
+
+pub key-pair : (file : List ℕ) → GoodPair gf32 (keyOf file .pair)
+unfolding keyOf
+key-pair file =
+    let m = matrix-good (firstBytes file) in
+    record { entries = m .size; entry-below = m .below; strands = labels-size file; label-below = labels-below file }
 
 -- ---- what the key writer asks
 
@@ -174,11 +160,6 @@ writable room ts order first second e =
       ts-ones = p .1 .1 .1 .0;
       is-order = p .1 .1 .1 .1 .0;
     }
-
-order-below : (order : List ℕ) → isOrder order ≡ true → Below 8 order
-unfolding eachOnce
-order-below order e =
-    all-below 8 order (omega arith) (and-left (every (λ x. ltb x 8) order) (every (λ a. eqb (count a order) 1) (values (λ a. a) 8)) e)
 
 pub parts : {room : ℕ} {ts order first second : List ℕ} → Writable room ts order first second → Parts ts order first second
 parts {ts = ts} {order} {first} {second} w =

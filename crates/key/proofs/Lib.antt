@@ -1,4 +1,3 @@
-pub mod Packing
 pub mod MatrixLaws
 pub mod BothTests
 pub mod KeyFacts

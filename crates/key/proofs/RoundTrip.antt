@@ -1,5 +1,5 @@
--- Keys there and back, from bytes to bytes, of what the key writer and the key reader give: a key that was written reads back as its T-values, its list
--- and its matrices, and a file that was read is written back as its own bytes. Assumes nothing.
+-- Keys there and back, from bytes to bytes, of what the key writer and the key reader give: a key that was written
+-- reads back as its T-values, its list and its matrices, and a file that was read is written back as its own bytes.
 use Prim.Native.Nat.{ℕ, _≤_, _<_}
 use mathlib.Core.Path.{_≡_, refl, sym, ap, ap₂, _∙_}
 use mathlib.Core.Bool.{true}
@@ -14,12 +14,14 @@ use Rattle.base.specs.Digits.{value, digits, part}
 use Rattle.base.proofs.QuestionLaws.{passed-answers, granted-zero}
 use Rattle.base.proofs.ListLaws.{and-both, take-overlaid, drop-overlaid}
 use Rattle.base.proofs.DigitLaws.{digits-value, below-all}
-use Rattle.action.specs.Multiplier.{elements, nonzero, isOrder}
+use Rattle.braid.specs.Strands.{isOrder}
+use Rattle.action.specs.Multiplier.{elements, nonzero}
 use Rattle.key.specs.declared.Key.{Key}
-use Rattle.key.specs.Keys.{tValues, labels, entries, firstBytes, secondBytes, fillerBits, fieldSize, fileEntries, packedMatrix, startsWithOnes, keyAnswer, keyHolding, keyOf, zeroKey, ReadsKey, keyFile, keyWriterQuestions, WroteKey}
+use Rattle.key.specs.Keys.{tValues, labels, entries, firstBytes, secondBytes, fillerBits, fieldSize, fileEntries, packedMatrix, startsWithOnes, keyAnswer, keyHolding, keyOf, zeroKey, ReadsKey, keyFile, keyWriterQuestions, WroteFile, WroteKey}
 use Rattle.key.specs.Parts.{Parts, Sizes}
-use Rattle.key.proofs.Packing.{Below, below-part, length-part}
-use Rattle.key.proofs.MatrixLaws.{regrouped-back, entries-packed, filler-packed, packed-entries}
+use Rattle.base.specs.Packing.{Below}
+use Rattle.base.proofs.PackLaws.{below-part, length-part, regrouped-back}
+use Rattle.key.proofs.MatrixLaws.{entries-packed, filler-packed, packed-entries}
 use Rattle.key.proofs.FileLaws.{key-file-size, part-ts, part-first, part-order, part-second, cut, cut-last}
 use Rattle.key.proofs.KeyFacts.{Accepted, accepted, accepted-answers, Writable, writable, parts, t-values-elements, entries-size, entries-below}
 use Rattle.key.proofs.EntryLaws.{entries-whole}
@@ -129,7 +131,7 @@ read-is-writable room file h e =
 -- ---- what the operations give
 
 -- on answer 0 a file of 83 bytes stands in the output's first 83, and the rest is as it was
-module _ {questions : List Question} {file before after : List ℕ} {answer : ℕ} (w : WroteKey questions file before after answer) (z : firstNo questions ≡ 0) (l : length file ≡ 83) where
+module _ {questions : List Question} {file before after : List ℕ} {answer : ℕ} (w : WroteFile questions file before after answer) (z : firstNo questions ≡ 0) (l : length file ≡ 83) where
   output : after ≡ overlaid file before
   output = w .output-is ∙ granted-zero (overlaid file before) before z
 
@@ -142,11 +144,11 @@ module _ {questions : List Question} {file before after : List ℕ} {answer : �
       ∙ drop-overlaid file before
       ∙ ap (λ (n : ℕ). drop n before) l
 
--- where the key writer answers 0, the key reader, on the first 83 bytes of its output, answers 0 and gives the T-values, the list and the matrices that
--- were written
+-- where the key writer answers 0, the key reader, on the first 83 bytes of its output, answers 0 and gives the
+-- T-values, the list and the matrices that were written
 pub written-reads-back : (ts order first second : List ℕ) → Sizes ts order first second
     → {before after : List ℕ} {answer answer′ : ℕ} {key : Key}
-    → WroteKey (keyWriterQuestions (length before) ts order first second) (keyFile ts order first second) before after answer → answer ≡ 0
+    → WroteKey ts order first second before after answer → answer ≡ 0
     → ReadsKey (take 83 after) answer′ key
     → (answer′ ≡ 0) × (key ≡ keyHolding ts order first second)
 written-reads-back ts order first second size {before} {after} w z r =
@@ -158,12 +160,13 @@ written-reads-back ts order first second size {before} {after} w z r =
     ap keyAnswer file ∙ accepted-answers (keyFile ts order first second) (accepted-back ts order first second size fit ok) in
     (r .answer-is ∙ e, r .key-is ∙ granted-zero (keyOf (take 83 after)) zeroKey e ∙ ap keyOf file ∙ key-back ts order first second size fit)
 
--- where the key reader answers 0 on a file of bytes, the key writer, on what it gave, with the entries that a file has of its matrices, and an output of
--- at least 83 bytes, answers 0 and leaves the file's own bytes in the output's first 83, the rest as it was
+-- where the key reader answers 0 on a file of bytes, the key writer, on what it gave, with the entries that a file has
+-- of its matrices, and an output of at least 83 bytes, answers 0 and leaves the file's own bytes in the output's first
+-- 83, the rest as it was
 pub read-writes-back : (file : List ℕ) → ((k : ℕ) → getD file k 0 < 256)
     → {answer answer′ : ℕ} {key : Key} → ReadsKey file answer key → answer ≡ 0
     → {first second before after : List ℕ} → first ≡ fileEntries (key .pair .matrix) → second ≡ fileEntries (key .second) → 83 ≤ length before
-    → WroteKey (keyWriterQuestions (length before) (key .«t_values») (key .pair .labels) first second) (keyFile (key .«t_values») (key .pair .labels) first second) before after answer′
+    → WroteKey (key .«t_values») (key .pair .labels) first second before after answer′
     → (answer′ ≡ 0) × (take 83 after ≡ file) × (drop 83 after ≡ drop 83 before)
 unfolding keyOf
 read-writes-back file bytes {key = key} r z {first} {second} {before} {after} ef es room w =
@@ -177,7 +180,7 @@ read-writes-back file bytes {key = key} r z {first} {second} {before} {after} ef
     es ∙ ap (λ (k : Key). fileEntries (k .second)) held ∙ entries-whole (entries (secondBytes file)) (entries-size (secondBytes file)) in
     let asked : firstNo (keyWriterQuestions (length before) (key .«t_values») (key .pair .labels) first second) ≡ 0 =
     (λ i. firstNo (keyWriterQuestions (length before) (t i) (o i) (f i) (s i))) ∙ read-is-writable (length before) file room e in
-    let same : keyFile (key .«t_values») (key .pair .labels) first second ≡ file =
+    let equal : keyFile (key .«t_values») (key .pair .labels) first second ≡ file =
     (λ i. keyFile (t i) (o i) (f i) (s i)) ∙ again file bytes (accepted file e) in
     let size : length (keyFile (key .«t_values») (key .pair .labels) first second) ≡ 83 = key-file-size (key .«t_values») (key .pair .labels) first second in
-    (w .answer-is ∙ asked, output-file w asked size ∙ same, output-rest w asked size)
+    (w .answer-is ∙ asked, output-file w asked size ∙ equal, output-rest w asked size)

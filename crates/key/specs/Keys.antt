@@ -1,5 +1,5 @@
--- Key files: 83 bytes of N, q, eight T-values, the matrix of Pub(S), its list, the matrix of Pub(S'). The questions of the reader and of the
--- writer from fixed arrays, in the paper's order. Assumes nothing.
+-- Key files: 83 bytes of N, q, eight T-values, the matrix of Pub(S), its list, the matrix of Pub(S'). The questions of
+-- the reader and of the writer from fixed arrays, in the paper's order.
 use Prim.Native.Nat.{ℕ, _+_, _*_, _/_, _%_}
 use mathlib.Core.Path.{_≡_}
 use mathlib.Core.Bool.{Bool, _&&_}
@@ -9,14 +9,15 @@ use lib.ListN.{length, take, drop, getD, replicate}
 use Rattle.base.specs.Questions.{Question, _else_, firstNo, granted}
 use Rattle.base.specs.Lists.{values, overlaid}
 use Rattle.base.specs.Digits.{value, digits, part}
-use Rattle.action.specs.Layout.{entry, matrixOf}
+use Rattle.matrix.specs.Layout.{entry, matrixOf}
 use Rattle.action.specs.Action.{pairOf}
-use Rattle.action.specs.Multiplier.{elements, nonzero, isOrder, zeroPair}
+use Rattle.braid.specs.Strands.{isOrder}
+use Rattle.action.specs.Multiplier.{elements, nonzero, zeroPair}
 use Rattle.key.specs.declared.Key.{Key}
 
 -- N in 1 byte and q in 2
-abbrev pub strands : List ℕ → ℕ
-strands file = getD file 0 0
+abbrev pub statedStrands : List ℕ → ℕ
+statedStrands file = getD file 0 0
 
 abbrev pub fieldSize : List ℕ → ℕ
 fieldSize file = value 256 (part 1 2 file)
@@ -44,7 +45,8 @@ labels file = digits 8 8 (value 256 (part 44 3 file))
 abbrev pub secondBytes : List ℕ → List ℕ
 secondBytes file = part 47 36 file
 
--- rows 1 to 7 whole, then row 8, whose first seven entries are 0. A file holds a matrix row by row, whatever the layout in memory
+-- rows 1 to 7 whole, then row 8, whose first seven entries are 0. A file holds a matrix row by row, whatever the layout
+-- in memory
 unfoldable pub wholeMatrix : List ℕ → List ℕ
 wholeMatrix es = matrixOf (λ r c. getD (take 56 es ++ (replicate 7 0 ++ drop 56 es)) (8 * r + c) 0)
 
@@ -60,7 +62,7 @@ startsWithOnes ts = eqb (getD ts 0 0) 1 && eqb (getD ts 1 0) 1
 abbrev pub keyQuestions : List ℕ → List Question
 keyQuestions file =
     (eqb (length file) 83 else 1)
-    ∷ (eqb (strands file) 8 else 2)
+    ∷ (eqb (statedStrands file) 8 else 2)
     ∷ (eqb (fieldSize file) 32 else 3)
     ∷ (nonzero (tValues file) else 4)
     ∷ (startsWithOnes (tValues file) else 5)
@@ -112,8 +114,13 @@ keyWriterQuestions room ts order first second =
     ∷ (isOrder order else 6)
     ∷ []
 
--- what the key writer gives and leaves: its answer; the file in the output's first bytes with the rest as it was, and on a refusal the output as
--- it was
-pub record WroteKey (questions : List Question) (file before after : List ℕ) (answer : ℕ) : Type 0 where
+-- what a writer that reports no bytes gives and leaves: its answer; the file in the output's first bytes with the rest
+-- as it was, and on a refusal the output as it was
+pub record WroteFile (questions : List Question) (file before after : List ℕ) (answer : ℕ) : Type 0 where
   pub answer-is : answer ≡ firstNo questions
   pub output-is : after ≡ granted (firstNo questions) (overlaid file before) before
+
+-- what the key writer gives and leaves
+abbrev pub WroteKey : List ℕ → List ℕ → List ℕ → List ℕ → List ℕ → List ℕ → ℕ → Type 0
+WroteKey ts order first second before after answer =
+    WroteFile (keyWriterQuestions (length before) ts order first second) (keyFile ts order first second) before after answer

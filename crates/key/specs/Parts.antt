@@ -1,4 +1,4 @@
--- What a key file is written from, as the functions that pack it ask for it. Assumes nothing.
+-- What a key file is written from, as the functions that pack it ask for it.
 use Prim.Native.Nat.{ℕ, _<_}
 use mathlib.Core.Path.{_≡_}
 use mathlib.Core.List.{List}

@@ -1,9 +1,9 @@
-// Key files: 83 bytes of N, q, eight T-values, the matrix of Pub(S), its list and the matrix of Pub(S'), read and written.
+// Key files: 83 bytes of N, q, eight T-values, the matrix of Pub(S), its list and the matrix of Pub(S'), read and
+// written.
 ghost use mathlib.Core.Path.{_≡_};
 ghost use lib.ListN.{length};
-ghost use Rattle.key.specs.Keys.{fileEntries, keyOf, zeroKey, ReadsKey, keyFile, keyWriterQuestions, WroteKey};
+ghost use Rattle.key.specs.Keys.{fileEntries, keyOf, zeroKey, ReadsKey, WroteKey};
 
-mod pack; // pack.rt: digits regrouped
 mod read; // read.rt: the parts of a key file, and its questions
 mod write; // write.rt: the bytes of a key file, and the writer's questions
 
@@ -25,9 +25,7 @@ pub struct KeyRead {
 fn zero_key() -> Key
     ensures { λ r. ⌜ r ≡ zeroKey ⌝ }
 {
-    let matrix = [0u8; 64];
-    let labels = [0u8; 8];
-    let pair = Pair { matrix, labels };
+    let pair = Pair::zeros();
     let t_values = [0u8; 8];
     let second = [0u8; 64];
     Key {
@@ -44,7 +42,7 @@ fn key_of(file: &[u8]) -> Key
 {
     let matrix = read::matrix(&file[8..44]);
     let labels = read::order(file);
-    let pair = Pair { matrix, labels };
+    let pair = Pair::with(matrix, labels);
     let t_values = read::t_values(file);
     let second = read::matrix(&file[47..83]);
     Key {
@@ -75,7 +73,7 @@ pub fn write_key(
     second: &[u8; 57],
     out: &mut [u8],
 ) -> u8
-    ensures { λ r. ⌜ WroteKey (keyWriterQuestions (length (now (out .entry))) (now («t_values» .entry)) (now (labels .entry)) (now (first .entry)) (now (second .entry))) (keyFile (now («t_values» .entry)) (now (labels .entry)) (now (first .entry)) (now (second .entry))) (now (out .entry)) (now (out .exit)) r ⌝ }
+    ensures { λ r. ⌜ WroteKey (now («t_values» .entry)) (now (labels .entry)) (now (first .entry)) (now (second .entry)) (now (out .entry)) (now (out .exit)) r ⌝ }
 {
     let answer = write::answer(out.len(), t_values, labels, first, second);
     if answer != 0 {
@@ -86,16 +84,17 @@ pub fn write_key(
     0
 }
 
-// The 57 entries that a key file has of a matrix, as the key writer takes them: rows 1 to 7 whole, then the last entry of row 8.
+// The 57 entries that a key file has of a matrix, as the key writer takes them: rows 1 to 7 whole, then the last entry
+// of row 8.
 pub fn file_entries(matrix: &[u8; 64]) -> [u8; 57]
     ensures { λ r. ⌜ r ≡ fileEntries (now (matrix .entry)) ⌝ }
 {
     let mut entries = [0u8; 57];
     let mut k = 0;
     while k < 56 {
-        entries[k] = action::entry(matrix, k / 8, k % 8);
+        entries[k] = matrix::entry(matrix, k / 8, k % 8);
         k += 1;
     }
-    entries[56] = action::entry(matrix, 7, 7);
+    entries[56] = matrix::entry(matrix, 7, 7);
     entries
 }

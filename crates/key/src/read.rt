@@ -6,7 +6,6 @@ ghost use Prim.Native.Nat.{_^_, _≤_, _<_};
 ghost use lib.ListN.{length};
 ghost use Rattle.base.specs.Digits.{value, digits};
 ghost use Rattle.key.specs.Keys.{tValues, labels, entries, wholeMatrix, fillerBits, firstBytes, secondBytes, startsWithOnes, keyAnswer};
-use crate::pack;
 
 // One group of m bytes as eight digits.
 fn eight(bytes: &[u8], m: usize, to: u64) -> [u8; 8]
@@ -14,7 +13,7 @@ fn eight(bytes: &[u8], m: usize, to: u64) -> [u8; 8]
     ensures { λ r. ⌜ r ≡ digits to 8 (value 256 (now (bytes .entry))) ⌝ }
 {
     let mut all = [0u8; 8];
-    pack::regroup(bytes, m, 256, &mut all, 8, to, 1);
+    base::regroup(bytes, m, 256, &mut all, 8, to, 1);
     all
 }
 
@@ -32,15 +31,37 @@ pub(crate) fn order(file: &[u8]) -> [u8; 8]
     eight(&file[44..47], 3, 8)
 }
 
-// Rows 1 to 7 whole, then the last entry of row 8.
+// The 57 entries of a matrix's 36 bytes: seven groups, and the last entry in the last byte.
+fn entries(bytes: &[u8]) -> [u8; 57]
+    requires { ⌜ length (now bytes) ≡ 36 ⌝ }
+    ensures { λ r. ⌜ r ≡ entries (now (bytes .entry)) ⌝ }
+{
+    let mut all = [0u8; 57];
+    base::regroup(&bytes[..35], 5, 256, &mut all[..56], 8, 32, 7);
+    all[56] = bytes[35] / 8;
+    all
+}
+
+// The matrix of the 57 entries that a file has of it: rows 1 to 7 whole, then the last entry of row 8.
+fn whole_matrix(all: &[u8; 57]) -> [u8; 64]
+    requires { ⌜ length (now all) ≡ 57 ⌝ }
+    ensures { λ r. ⌜ r ≡ wholeMatrix (now (all .entry)) ⌝ }
+{
+    let mut m = [0u8; 64];
+    let mut k = 0;
+    while k < 56 {
+        m[matrix::place(k / 8, k % 8)] = all[k];
+        k += 1;
+    }
+    m[matrix::place(7, 7)] = all[56];
+    m
+}
+
 pub(crate) fn matrix(bytes: &[u8]) -> [u8; 64]
     requires { ⌜ length (now bytes) ≡ 36 ⌝ }
     ensures { λ r. ⌜ r ≡ wholeMatrix (entries (now (bytes .entry))) ⌝ }
 {
-    let mut m = [0u8; 64];
-    pack::regroup(&bytes[..35], 5, 256, &mut m[..56], 8, 32, 7);
-    m[63] = bytes[35] / 8;
-    m
+    whole_matrix(&entries(bytes))
 }
 
 // Are the first two T-values 1?
@@ -69,7 +90,7 @@ pub(crate) fn answer(file: &[u8]) -> u8
     if strands != 8 {
         return 2;
     }
-    let size = pack::number(&file[1..3], 256);
+    let size = base::number(&file[1..3], 256);
     if size != 32 {
         return 3;
     }

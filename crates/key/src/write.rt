@@ -7,7 +7,6 @@ ghost use Rattle.base.specs.Questions.{firstNo};
 ghost use Rattle.action.specs.Multiplier.{elements};
 ghost use Rattle.key.specs.Keys.{packedMatrix, keyFile, keyWriterQuestions};
 ghost use Rattle.key.specs.Parts.{Parts, Sizes};
-use crate::pack;
 use crate::read;
 
 // Is every T-value and entry below 32?
@@ -62,7 +61,7 @@ fn put_matrix(entries: &[u8], dst: &mut [u8])
     requires { ⌜ ((k : ℕ) → getD (now entries) k 0 < 32) × (length (now entries) ≡ 57) × (length (now dst) ≡ 36) ⌝ }
     ensures { λ r. ⌜ now (dst .exit) ≡ packedMatrix (now (entries .entry)) ⌝ }
 {
-    pack::regroup(&entries[..56], 8, 32, &mut dst[..35], 5, 256, 7);
+    base::regroup(&entries[..56], 8, 32, &mut dst[..35], 5, 256, 7);
     dst[35] = entries[56] * 8;
 }
 
@@ -74,9 +73,9 @@ fn fill(out: &mut [u8], ts: &[u8], order: &[u8], first: &[u8], second: &[u8])
     out[0] = 8;
     out[1] = 0;
     out[2] = 32;
-    pack::regroup(ts, 8, 32, &mut out[3..8], 5, 256, 1);
+    base::regroup(ts, 8, 32, &mut out[3..8], 5, 256, 1);
     put_matrix(first, &mut out[8..44]);
-    pack::regroup(order, 8, 8, &mut out[44..47], 3, 256, 1);
+    base::regroup(order, 8, 8, &mut out[44..47], 3, 256, 1);
     put_matrix(second, &mut out[47..83]);
 }
 

@@ -1,5 +1,5 @@
--- What the multiplier by value gives, taken to a lent pair: the pair with the letter multiplied in on answer 0, and the pair as it was on a refusal.
--- Assumes nothing.
+-- What the multiplier by value gives, taken to a lent pair: the pair with the letter multiplied in on answer 0, and the
+-- pair as it was on a refusal.
 use Prim.Native.Nat.{ℕ}
 use mathlib.Core.Path.{_≡_, sym, _∙_}
 use mathlib.Core.List.{List}

@@ -1,6 +1,5 @@
--- Wrong programs that the definitions shut out, each by a witness: a lent multiplier that leaves its pair, and one that gives zeros on a refusal,
--- as the multiplier by value does.
--- Assumes nothing.
+-- Wrong programs that the definitions shut out, each by a witness: a lent multiplier that leaves its pair, and one that
+-- gives zeros on a refusal, as the multiplier by value does.
 use Prim.Native.Nat.{ℕ}
 use mathlib.Core.Path.{_≡_, refl, sym, ap, _∙_}
 use mathlib.Core.List.{List, [], _∷_}
@@ -11,8 +10,10 @@ use Rattle.base.specs.Lists.{every, count, valuesFrom, eachOnce}
 use Rattle.field.specs.Polynomial.{timesX, horner, times}
 use Rattle.field.specs.Gf32.{gf32}
 use Rattle.action.specs.declared.Pair.{Pair}
-use Rattle.action.specs.Layout.{entry, matrixOf}
-use Rattle.action.specs.Action.{tValue, shareOf, rowAfter, swapped, letterOn, identity, start}
+use Rattle.matrix.specs.Layout.{place, rowOf, columnOf, entry, matrixOf}
+use Rattle.matrix.specs.Product.{identity}
+use Rattle.braid.specs.Strands.{swapped}
+use Rattle.action.specs.Action.{tValue, shareOf, rowAfter, letterOn, start}
 use Rattle.action.specs.Multiplier.{multiplierQuestions, zeroPair}
 use Rattle.lent.specs.Lent.{Lends}
 
@@ -22,11 +23,11 @@ plain = 1 ∷ 1 ∷ 2 ∷ 3 ∷ 4 ∷ 5 ∷ 6 ∷ 7 ∷ []
 
 -- row 3, column 2: 0 at the start, 2 after b3
 before : getD (start .matrix) 17 0 ≡ 0
-unfolding start identity matrixOf valuesFrom
+unfolding start identity rowOf columnOf matrixOf valuesFrom
 before = refl
 
 after : getD (granted (firstNo (multiplierQuestions start plain 2)) (letterOn gf32 plain 2 start) start .matrix) 17 0 ≡ 2
-unfolding start identity entry matrixOf valuesFrom firstNo granted every count eachOnce tValue shareOf rowAfter swapped letterOn times horner timesX
+unfolding start identity place rowOf columnOf entry matrixOf valuesFrom firstNo granted every count eachOnce tValue shareOf rowAfter swapped letterOn times horner timesX
 after = refl
 
 -- the starting pair is lent, the letter is b3, and the pair is left, whatever the answer
@@ -35,7 +36,7 @@ leaves-its-pair answer m = let e = sym before ∙ ap (λ (p : Pair). getD (p .ma
 
 -- code 7 is no letter: the answer is 12, and row 1, column 1 is 1 as before
 kept : getD (granted (firstNo (multiplierQuestions start plain 7)) (letterOn gf32 plain 7 start) start .matrix) 0 0 ≡ 1
-unfolding start identity matrixOf valuesFrom firstNo granted every count eachOnce
+unfolding start identity rowOf columnOf matrixOf valuesFrom firstNo granted every count eachOnce
 kept = refl
 
 zero : getD (zeroPair .matrix) 0 0 ≡ 0

@@ -1,5 +1,4 @@
 -- The multiplier over a lent pair: its answer, and the pair that the caller has afterwards.
--- Assumes nothing.
 use Prim.Native.Nat.{ℕ}
 use mathlib.Core.Path.{_≡_}
 use mathlib.Core.List.{List}
@@ -9,7 +8,8 @@ use Rattle.action.specs.declared.Pair.{Pair}
 use Rattle.action.specs.Action.{letterOn}
 use Rattle.action.specs.Multiplier.{multiplierQuestions}
 
--- the number of the first question answered no; the pair with the letter multiplied in, or on a refusal the pair as it was lent
+-- the number of the first question answered no; the pair with the letter multiplied in, or on a refusal the pair as it
+-- was lent
 pub record Lends (p : Pair) (ts : List ℕ) (c : ℕ) (answer : ℕ) (after : Pair) : Type 0 where
   pub answer-is : answer ≡ firstNo (multiplierQuestions p ts c)
   pub pair-is : after ≡ granted (firstNo (multiplierQuestions p ts c)) (letterOn gf32 ts c p) p

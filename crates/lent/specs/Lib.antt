@@ -1,2 +1,2 @@
--- The definitions that the contracts of `lent` cite. Assumes nothing.
+-- The definitions that the contracts of `lent` cite.
 pub mod Lent

@@ -1,4 +1,5 @@
-// What one letter makes of a pair that is lent, by value: the pair that is to be stored back, on a refusal the one that came.
+// What one letter makes of a pair that is lent, by value: the pair that is to be stored back, on a refusal the one that
+// came.
 use action::Pair;
 ghost use Rattle.lent.specs.Lent.{Lends};
 

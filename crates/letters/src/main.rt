@@ -1,5 +1,5 @@
-// The letters of a word file on standard input, in plain lines: the part that holds the codes; each letter by its place and beside it by a reader
-// of words, until that says that none is left, and once more past the end; and the second letter through the reader's struct. Its run is
+// The letters of a word file on standard input, in plain lines: the part that holds the codes; the letter at each place
+// up to the first where none is left, and at the next one; and the second letter through a reader of words. Its run is
 // document 01's word of seven letters.
 use braid::Letter;
 use libc::STDIN_FILENO;
@@ -10,14 +10,13 @@ fn letter(found: Letter) {
     print::byte(found.code);
 }
 
-// The line of a place: its letter, and what a reader says after as many moves. Has the reader one left?
+// The line of a place: its letter. Is one left there?
 fn line(file: &[u8], place: usize) -> bool {
-    let read = reader::nth(file, place);
-    let left = read.left;
+    let found = braid::letter_at(file, place);
+    let left = found.left;
     print::text(b"place");
     print::number(place);
-    letter(braid::letter_at(file, place));
-    letter(read);
+    letter(found);
     print::text(b"\n");
     left
 }

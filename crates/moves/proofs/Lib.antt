@@ -1,12 +1,3 @@
-pub mod ExponentLaws
-pub mod Kept
-pub mod Parts
-pub mod MoveLaws
-pub mod MoveByMove
-pub mod ListClaim
-pub mod CodeRows
-pub mod CodeKinds
-pub mod CodeList
 pub mod CodeRewrite
 pub mod RewritingKeepsMeaning
 pub mod RewriterContract

@@ -1,20 +1,18 @@
--- Rewriters as functions from what they are handed to what they leave, and what the contract says of one that meets it: its answer is that of the
--- moves, and where no move is refused it leaves the file of the new word and reports its bytes. A rewriter is held to the contract on bytes alone.
--- Assumes nothing.
+-- Rewriters as functions from what they are handed to what they leave, and what the contract says of one that meets it:
+-- its answer is that of the moves, and where no move is refused it leaves the file of the new word and reports its
+-- bytes. A rewriter is held to the contract on bytes alone.
 use Prim.Native.Nat.{ℕ, _≤_}
-use mathlib.Core.Path.{_≡_, refl, _∙_}
+use mathlib.Core.Path.{_≡_, _∙_}
 use mathlib.Core.List.{List}
 use lib.ListN.{length, take}
-use Rattle.base.specs.Questions.{firstNo, granted}
-use Rattle.base.specs.Lists.{overlaid}
+use Rattle.base.specs.Questions.{firstNo}
 use Rattle.base.proofs.QuestionLaws.{granted-zero}
 use Rattle.braid.specs.Words.{codes, wordAnswer, wordFile}
 use Rattle.braid.proofs.RoundTrip.{wrote-file}
 use Rattle.verify.proofs.WrongVerdicts.{Bytes}
-use Rattle.moves.specs.Rewriting.{steps, moveQuestions, rewritten, listQuestions, rewriterQuestions}
+use Rattle.rewriting.specs.Rewriting.{steps, moveQuestions, rewritten, listQuestions, rewriterQuestions}
 use Rattle.moves.specs.Meaning.{Rewrote}
-use Rattle.moves.proofs.CodeRewrite.{rewriter-moves}
-use Rattle.moves.proofs.RewritingKeepsMeaning.{rewrote-whole}
+use Rattle.rewriting.proofs.RewriterAnswer.{past-list}
 
 -- what a rewriter leaves
 pub record Left : Type 0 where
@@ -43,24 +41,13 @@ Meets f =
     (word moves before : List ℕ) → Handed word moves before
     → Rewrote word moves before (f word moves before .after) (f word moves before .answer) (f word moves before .bytes)
 
--- the contract can be met: it names a value for each thing that is left
-pub right : Rewriter
-right word moves before =
-    let file : List ℕ = wordFile (rewritten word moves) in
-    let answer : ℕ = firstNo (rewriterQuestions (length before) word moves) in
-    record { answer = answer; bytes = granted answer (length file) 0; after = granted answer (overlaid file before) before }
-
-pub right-meets : Meets right
-unfolding right
-right-meets word moves before h = rewrote-whole word moves (record { answer-is = refl; bytes-is = refl; output-is = refl })
-
 -- the answer of the moves, one after another
 abbrev pub movesAnswer : List ℕ → List ℕ → ℕ
 movesAnswer word moves = firstNo (moveQuestions (steps moves) (codes word))
 
 module _ (f : Rewriter) (meets : Meets f) {word moves before : List ℕ} (h : Handed word moves before) where
   questions-are : firstNo (rewriterQuestions (length before) word moves) ≡ movesAnswer word moves
-  questions-are = rewriter-moves (length before) word moves (h .room) (h .word-accepted) (h .list-accepted)
+  questions-are = past-list (length before) word moves (h .room) (h .word-accepted) (h .list-accepted)
 
   -- the answer is that of the moves
   pub answer-of : f word moves before .answer ≡ movesAnswer word moves

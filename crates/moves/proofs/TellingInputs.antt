@@ -1,5 +1,4 @@
 -- Inputs that tell wrong rewriters from right ones, with the answer and the file that each must give.
--- Assumes nothing.
 use Prim.Native.Nat.{ℕ}
 use mathlib.Core.Path.{_≡_, refl}
 use mathlib.Core.List.{List, [], _∷_}
@@ -10,8 +9,8 @@ use Rattle.base.specs.Lists.{every, valuesFrom}
 use Rattle.base.specs.Digits.{value, digits, halves}
 use Rattle.braid.specs.Words.{codes, filler, wordAnswer, packed, wordFile}
 use Rattle.verify.proofs.WrongVerdicts.{Bytes}
-use Rattle.moves.specs.Kinds.{move}
-use Rattle.moves.specs.Rewriting.{moveQuestions, wordAfter, rewritten, listQuestions}
+use Rattle.rewriting.specs.Kinds.{move}
+use Rattle.rewriting.specs.Rewriting.{moveQuestions, wordAfter, rewritten, listQuestions}
 use Rattle.moves.proofs.RewriterContract.{Handed, movesAnswer}
 
 -- room for a word

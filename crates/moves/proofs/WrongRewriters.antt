@@ -1,5 +1,4 @@
 -- Wrong rewriters are shut out by the contract: each would do on some input what the contract does not allow there.
--- Assumes nothing.
 use Prim.Native.Nat.{ℕ, zero, suc, _+_, _*_, _-_, _≤_, _<_}
 use mathlib.Core.Path.{_≡_, refl, sym, ap, _∙_}
 use mathlib.Core.Bool.{true}
@@ -10,10 +9,10 @@ use lib.ListN.{length, take, drop, getD}
 use Rattle.base.specs.Questions.{firstNo}
 use Rattle.base.specs.Lists.{valuesFrom}
 use Rattle.base.specs.Digits.{value, digits, part, halves}
-use Rattle.braid.specs.Letters.{opposite}
+use Rattle.braid.specs.Letters.{inverse, neighbours}
 use Rattle.braid.specs.Words.{codes, packed, wordFile}
-use Rattle.moves.specs.Kinds.{neighbours, inserts, move}
-use Rattle.moves.specs.Rewriting.{Step, moveCount, stepAt, steps, moveQuestions, wordAfter, rewritten}
+use Rattle.rewriting.specs.Kinds.{inserts, move}
+use Rattle.rewriting.specs.Rewriting.{Step, moveCount, stepAt, steps, moveQuestions, wordAfter, rewritten}
 use Rattle.moves.proofs.RewriterContract.{Rewriter, written, Handed, Meets, movesAnswer, answer-of, file-of, bytes-of}
 use Rattle.moves.proofs.TellingInputs.{out, Telling, braid, braiding-moves, braid-tells, braid-file, mixed, mixed-tells, near, near-moves, near-tells, empty, one-insertion, one-tells, one-file, two-insertions, two-tell, two-file, full, removal-first, full-tells}
 
@@ -34,7 +33,7 @@ interleaved moves k (suc n) =
 
 -- an insertion that writes the inverse first
 abbrev pub inverseFirst : ℕ → ℕ → List ℕ → List ℕ
-inverseFirst c place w = take place w ++ (opposite c ∷ c ∷ drop place w)
+inverseFirst c place w = take place w ++ (inverse c ∷ c ∷ drop place w)
 
 -- ---- none of them meets the contract
 

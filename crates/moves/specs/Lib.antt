@@ -1,5 +1,1 @@
-pub mod Kinds
-pub mod Rewriting
-pub mod Exponent
 pub mod Meaning
-pub mod Leaving

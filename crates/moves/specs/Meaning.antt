@@ -1,6 +1,5 @@
--- What a rewriting keeps of a word's meaning: the single claim of demand 3, between the file of the word handed in and the file of the new word; and
--- what the rewriter gives and leaves, with that claim.
--- Assumes nothing.
+-- What a rewriting keeps of a word's meaning: the single claim of demand 3, between the file of the word handed in and
+-- the file of the new word; and what the rewriter gives and leaves, with that claim.
 use Prim.Native.Nat.{ℕ}
 use mathlib.Core.Path.{_≡_}
 use mathlib.Core.List.{List}
@@ -13,15 +12,16 @@ use Rattle.action.specs.Action.{wordOn}
 use Rattle.action.specs.Good.{TValues, GoodPair}
 use Rattle.key.specs.Keys.{keyAnswer}
 use Rattle.verify.specs.Verdict.{verdict}
-use Rattle.moves.specs.Rewriting.{rewritten, rewriterQuestions}
-use Rattle.moves.specs.Exponent.{exponentSum}
+use Rattle.rewriting.specs.Rewriting.{rewritten, rewriterQuestions}
+use Rattle.braid.specs.Exponent.{exponentSum}
 
 pub record SameMeaning (word new : List ℕ) : Type 0 where
   -- both are accepted words
   pub old-accepted : wordAnswer word ≡ 0
   pub new-accepted : wordAnswer new ≡ 0
-  -- the new word carries each pair to exactly the end to which the old word carries it, matrix and labels alike: over any binary field, of which
-  -- GF(32) is one; for any T-values other than zero, the first two not needing to be 1; for any 64 elements in the matrix and any strand order
+  -- the new word carries each pair to exactly the end to which the old word carries it, matrix and labels alike: over
+  -- any binary field, of which GF(32) is one; for any T-values other than zero, the first two not needing to be 1; for
+  -- any 64 elements in the matrix and any strand order
   pub carried : (F : Operations) → BinaryField F → (ts : List ℕ) → TValues F ts → (p : Pair) → GoodPair F p
       → wordOn F ts (codes new) p ≡ wordOn F ts (codes word) p
   -- under every accepted key and digest the verdict answers the two words alike, with 0 or 14
@@ -33,7 +33,9 @@ pub record SameMeaning (word new : List ℕ) : Type 0 where
 
 -- what the rewriter gives and leaves
 pub record Rewrote (word moves before after : List ℕ) (answer bytes : ℕ) : Type 0 where
-  -- as a writer of words: its answer and its bytes, and in the output the file of the new word; on a refusal the output as it was
+  -- as a writer of words: its answer and its bytes, and in the output the file of the new word; on a refusal the output
+  -- as it was
   pub wrote : Wrote (rewriterQuestions (length before) word moves) (wordFile (rewritten word moves)) before after answer bytes
-  -- an accepted move list: the file in the output's first bytes, as many as are reported, means what the word handed in means
+  -- an accepted move list: the file in the output's first bytes, as many as are reported, means what the word handed in
+  -- means
   pub keeps : answer ≡ 0 → SameMeaning word (take bytes after)

@@ -1,21 +1,19 @@
--- The codes of any file, accepted or not: how many there are, and the code at a place. And the file that a reader keeps: its codes are the
--- letters of the file handed in.
--- Assumes nothing.
-use Prim.Native.Nat.{ℕ, zero, suc, _+_, _-_, _*_, _/_, _≤_, _<_}
+-- The codes of any file, accepted or not: how many there are, and the letter at a place. And the file that a reader
+-- keeps: its codes are the letters of the file handed in.
+use Prim.Native.Nat.{ℕ, _+_, _-_, _*_, _≤_, _<_, min}
 use mathlib.Core.Path.{_≡_, refl, sym, ap, ap₂, _∙_}
 use mathlib.Core.Bool.{Bool, true, false}
 use mathlib.Core.List.{List, []}
-use native.Mathlib.Nat.{suc-ne-zero}
 use native.Mathlib.Omega.{arith}
 use borrow.Author.Tests.{lt-ltb, le-ltb}
 use lib.ListN.{length, take, drop, getD, length-drop, length-take, List·getD-eq-default}
-use lib.Seq.{length-take-le, getD-take, take-all}
+use Rattle.base.specs.Questions.{granted}
 use Rattle.base.specs.Digits.{value, halves}
-use Rattle.base.proofs.QuestionLaws.{granted-zero, granted-refused}
+use Rattle.base.proofs.QuestionLaws.{granted-zero, granted-refused, granted-ap}
 use Rattle.base.proofs.DigitLaws.{length-halves}
 use Rattle.braid.specs.Words.{stated, codes, wordAnswer, letters}
 use Rattle.braid.specs.declared.Letter.{Letter}
-use Rattle.braid.proofs.ReadLaws.{part-is, letters-accepted}
+use Rattle.braid.proofs.ReadLaws.{code-there}
 use Rattle.reader.specs.Reader.{opened, readAt, nextPlace}
 
 abbrev letter : Bool → ℕ → Letter
@@ -27,47 +25,17 @@ unfolding codes value
 codes-none = refl
 
 module _ (file : List ℕ) where
-  half-bytes : length (halves (drop 2 file)) ≡ 2 * (length file - 2)
-  half-bytes = length-halves (drop 2 file) ∙ ap (_*_ 2) (length-drop 2 file)
-
-  -- how many codes a file has, as the code counts them
-  pub count-short : length file < 2 → 0 ≡ length (codes file)
+  -- as many codes as the file states, or all its half bytes where they are fewer
+  pub count-is : length (codes file) ≡ min (stated file) (2 * (length file - 2))
   unfolding codes
-  count-short h =
-      let l : length (take (stated file) (halves (drop 2 file))) ≤ length (halves (drop 2 file)) =
-      omega (arith, length-take (stated file) (halves (drop 2 file))) in
-      omega (arith, half-bytes)
-
-  pub count-stated : (stated file + 1) / 2 ≤ length file - 2 → stated file ≡ length (codes file)
-  unfolding codes
-  count-stated h = sym (length-take-le (stated file) (halves (drop 2 file)) (omega (arith, half-bytes)))
-
-  pub count-all : length file - 2 < (stated file + 1) / 2 → 2 * (length file - 2) ≡ length (codes file)
-  unfolding codes
-  count-all h =
-      sym
-      (ap length (take-all (stated file) (halves (drop 2 file)) (omega (arith, half-bytes)))
-      ∙ half-bytes)
-
-  pub code-there : {at : ℕ} → at < length (codes file) → getD (halves (take (length file - 2) (drop 2 file))) at 0 ≡ getD (codes file) at 0
-  unfolding codes
-  code-there {at} h =
-      ap (λ (l : List ℕ). getD (halves l) at 0) (part-is file)
-      ∙ sym (getD-take (stated file) (halves (drop 2 file)) at 0 (omega (arith, length-take (stated file) (halves (drop 2 file)))))
-
-  -- a file with a code has its two length bytes
-  pub long : {at : ℕ} → at < length (codes file) → 2 ≤ length file
-  long h = go (length file) refl
-    where
-      go : (n : ℕ) → length file ≡ n → 2 ≤ length file
-      go zero e = absurd (let z = count-short (omega arith) in omega arith)
-      go (suc zero) e = absurd (let z = count-short (omega arith) in omega arith)
-      go (suc (suc n)) e = omega arith
+  count-is =
+      length-take (stated file) (halves (drop 2 file))
+      ∙ ap (λ (n : ℕ). min (stated file) n) (length-halves (drop 2 file) ∙ ap (_*_ 2) (length-drop 2 file))
 
   module _ {n : ℕ} (at : ℕ) (e : n ≡ length (codes file)) where
     -- the letter at a place, as the code reads it
     pub letter-there : at < n → letter true (getD (halves (take (length file - 2) (drop 2 file))) at 0) ≡ readAt file at
-    letter-there h = ap₂ letter (sym (lt-ltb at (length (codes file)) (omega arith))) (code-there (omega arith))
+    letter-there h = ap₂ letter (sym (lt-ltb at (length (codes file)) (omega arith))) (code-there file (omega arith))
 
     pub none-left : n ≤ at → letter false 0 ≡ readAt file at
     none-left h =
@@ -92,11 +60,5 @@ module _ (file : List ℕ) where
 
   -- its codes are the letters of the file handed in
   pub codes-opened : codes (opened file) ≡ letters file
-  unfolding codes letters
-  codes-opened = go (wordAnswer file) refl
-    where
-      go : (m : ℕ) → wordAnswer file ≡ m → codes (opened file) ≡ letters file
-      go zero e = ap codes (opened-accepted e) ∙ sym (letters-accepted file e)
-      go (suc m) e =
-          let h : wordAnswer file ≡ 0 → ⊥ = λ z. suc-ne-zero m (sym e ∙ z) in
-          ap codes (opened-refused h) ∙ codes-none ∙ sym (granted-refused (codes file) [] h)
+  unfolding opened letters
+  codes-opened = granted-ap codes (wordAnswer file) file [] ∙ ap (granted (wordAnswer file) (codes file)) codes-none

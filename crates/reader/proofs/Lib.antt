@@ -1,3 +1,4 @@
+pub mod Copies
 pub mod CodeLaws
 pub mod ReadsAll
 pub mod WrongPrograms

@@ -1,6 +1,5 @@
--- Wrong readers that the contracts of `open`, `next` and `moved_on` shut out: one with none left at its first letter, one that does not stay past
--- the last letter, and one that has a letter of a refused file.
--- Assumes nothing.
+-- Wrong readers that the contracts of `open`, `next` and `moved_on` shut out: one with none left at its first letter,
+-- one that does not stay past the last letter, and one that has a letter of a refused file.
 use Prim.Native.Nat.{ℕ, _<_}
 use mathlib.Core.Path.{_≡_, refl, sym, ap, ap₂, _∙_}
 use mathlib.Core.Bool.{true, false, false≢true, true≢false}
@@ -18,7 +17,7 @@ use Rattle.braid.specs.declared.Letter.{Letter}
 use Rattle.reader.specs.Reader.{opened, readAt, nextPlace}
 use Rattle.reader.specs.declared.WordReader.{WordReader}
 use Rattle.reader.proofs.CodeLaws.{codes-opened}
-use Rattle.reader.proofs.ReadsAll.{place-first, letter-reached}
+use Rattle.reader.proofs.ReadsAll.{letter-at}
 
 -- the word b1: 00 01 00
 abbrev one : List ℕ
@@ -39,7 +38,7 @@ no-letter = refl
 -- whether one is left at the first letter of a reader opened on a file
 left-at-first : (file : List ℕ) (r : WordReader) (t : Letter) → now (r .file) ≡ opened file → r .at ≡ 0 → t ≡ readAt (now (r .file)) (r .at)
     → t .left ≡ ltb 0 (length (letters file))
-left-at-first file r t e z s = letter-reached file 0 e (z ∙ place-first (now (r .file))) s .left-is
+left-at-first file r t e z s = letter-at file 0 e (omega arith) s .left-is
 
 -- a reader with none left at its first letter is refuted on the word b1, and on every word that has a letter
 pub none-left-at-first : (r : WordReader) (t : Letter) → now (r .file) ≡ opened one → r .at ≡ 0 → t ≡ readAt (now (r .file)) (r .at)

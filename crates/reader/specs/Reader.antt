@@ -1,6 +1,5 @@
--- A reader of words keeps a file and the next letter's place: the file it is opened on, the letter that stands next, the place after it, and
--- what is read by moving on as long as a letter is left.
--- Assumes nothing.
+-- A reader of words keeps a file and the next letter's place: the file it is opened on, the letter that stands next,
+-- the place after it, and what is read by moving on as long as a letter is left.
 use Prim.Native.Nat.{ℕ, zero, suc, _+_}
 use mathlib.Core.Path.{_≡_}
 use mathlib.Core.Bool.{cond}

@@ -1,6 +1,6 @@
-// A reader of words: it keeps the file and the next letter's place. Past the last letter it says that none is left, and stays.
-// The work is done by functions over a plain slice and a number; the functions over the reader only take it apart, call one of
-// them, and put it together again.
+// A reader of words: it keeps the file and the next letter's place. Past the last letter it says that none is left, and
+// stays. The work is done by functions over a plain slice and a number; the functions over the reader only take it
+// apart, call one of them, and put it together again.
 use braid::Letter;
 ghost use Prim.Native.Nat.{_≤_, _<_};
 ghost use mathlib.Core.Path.{_≡_};
@@ -19,7 +19,7 @@ fn number(file: &[u8]) -> usize
     requires { ⌜ 2 ≤ length (now file) ⌝ }
     ensures { λ r. ⌜ (r ≡ stated (now (file .entry))) × (r < 65536) ⌝ }
 {
-    file[0] as usize * 256 + file[1] as usize
+    base::two_bytes(file, 0)
 }
 
 // How many codes a file has: as many as it states, or all its half bytes where they are fewer.
@@ -72,7 +72,8 @@ fn next_place(file: &[u8], at: usize) -> usize
     if at < n { at + 1 } else { at }
 }
 
-// A reader at the first letter of a word file; on a refusal it has no letters. The answer's number is the word reader's.
+// A reader at the first letter of a word file; on a refusal it has no letters. The answer's number is the word
+// reader's.
 pub fn open<'a>(file: &'a [u8]) -> WordReader<'a>
     ensures { λ r. ⌜ (now (r .file) ≡ opened (now (file .entry))) × (r .at ≡ 0) ⌝ }
 {
@@ -102,23 +103,4 @@ pub fn second(file: &[u8]) -> Letter
     ensures { λ t. ⌜ LetterAt (now (file .entry)) 1 (t .left) (t .code) ⌝ }
 {
     next(moved_on(open(file)))
-}
-
-// The letter that stands k moves after the first one. A word has at most 10,000 letters, and past the last a reader stays, so more moves are not made.
-pub fn nth(file: &[u8], k: usize) -> Letter
-    ensures { λ t. ⌜ LetterAt (now (file .entry)) k (t .left) (t .code) ⌝ }
-{
-    let word = kept(file);
-    let moves = if k < braid::MAX_LETTERS {
-        k
-    } else {
-        braid::MAX_LETTERS
-    };
-    let mut at = 0;
-    let mut i = 0;
-    while i < moves {
-        at = next_place(word, at);
-        i += 1;
-    }
-    letter_of(word, at)
 }

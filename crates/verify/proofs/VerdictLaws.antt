@@ -1,4 +1,4 @@
--- The digest's braid as the verdict takes it from the encoder, and the comparison of the two matrices. Assumes nothing.
+-- The digest's braid as the verdict takes it from the encoder, and the comparison of the two matrices.
 use Prim.Native.Nat.{ℕ, _≤_, _<_}
 use mathlib.Core.Path.{_≡_, sym, ap, ap₂, _∙_}
 use mathlib.Core.List.{List}
@@ -6,14 +6,15 @@ use native.Mathlib.Omega.{arith}
 use borrow.Author.Tests.{le-leb, eq-eqb}
 use lib.ListN.{length, take, getD}
 use Rattle.base.specs.Questions.{firstNo}
-use Rattle.base.specs.Lists.{same}
+use Rattle.base.specs.Lists.{equal}
 use Rattle.base.proofs.QuestionLaws.{passed-answers, granted-zero}
 use Rattle.field.specs.Binary.{Operations}
 use Rattle.braid.specs.Words.{codes, letters, wordFile, wordAnswer, Wrote}
 use Rattle.braid.proofs.ReadLaws.{letters-accepted}
 use Rattle.braid.proofs.RoundTrip.{wrote-file, file-short}
 use Rattle.action.specs.declared.Pair.{Pair}
-use Rattle.action.specs.Action.{wordOn, start, matrixProduct}
+use Rattle.matrix.specs.Product.{matrixProduct}
+use Rattle.action.specs.Action.{wordOn, start}
 use Rattle.key.specs.declared.Key.{Key}
 use Rattle.digest.specs.Digest.{encoded, encoderQuestions}
 use Rattle.digest.proofs.Encoded.{encoded-short, encoded-accepted, encoded-read}
@@ -28,7 +29,7 @@ module _ (digest : List ℕ) (bytes-below : (k : ℕ) → getD digest k 0 < 256)
   pub braid-file : take bytes after ≡ wordFile (encoded digest)
   braid-file = wrote-file w asked
 
-  pub braid-bytes : bytes ≡ length (wordFile (encoded digest))
+  braid-bytes : bytes ≡ length (wordFile (encoded digest))
   braid-bytes = w .bytes-is ∙ granted-zero (length (wordFile (encoded digest))) 0 asked
 
   pub braid-short : bytes ≤ 5002
@@ -51,6 +52,6 @@ signed-is F key w reached e = ap (λ (p : Pair). p .matrix) e
 -- the comparison that the code makes is that of the two sides
 module _ (F : Operations) (key : Key) (w digest matrix first wanted : List ℕ) (m : matrix ≡ signed F key w)
     (f : first ≡ wordOn F (key .«t_values») (encoded digest) start .matrix) (x : wanted ≡ matrixProduct F first (key .second)) where
-  pub sides : same matrix wanted ≡ same (signed F key w) (target F key digest)
+  pub sides : equal matrix wanted ≡ equal (signed F key w) (target F key digest)
   unfolding target
-  sides = ap₂ same m (x ∙ ap (λ (l : List ℕ). matrixProduct F l (key .second)) f)
+  sides = ap₂ equal m (x ∙ ap (λ (l : List ℕ). matrixProduct F l (key .second)) f)

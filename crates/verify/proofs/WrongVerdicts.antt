@@ -1,14 +1,14 @@
--- Wrong verdicts are shut out by the definition: under the plain key and the digest of 32 zero bytes, 128 letters b7 get 0 and the empty word gets 14
--- (document 01's slips), so no verdict is always 14, and none is always 0. The zero digest's braid is those 128 letters, so both sides of the first
--- are one matrix; that this is not the identity, which the empty word leaves, is seen at one entry.
--- Assumes nothing.
+-- Wrong verdicts are shut out by the definition: under the plain key and the digest of 32 zero bytes, 128 letters b7
+-- get 0 and the empty word gets 14 (document 01's slips), so no verdict is always 14, and none is always 0. The zero
+-- digest's braid is those 128 letters, so both sides of the first are one matrix; that this is not the identity, which
+-- the empty word leaves, is seen at one entry.
 use Prim.Native.Nat.{ℕ}
 use mathlib.Core.Path.{_≡_, refl, sym, ap, ap₂, _∙_}
 use mathlib.Core.Bool.{true}
 use mathlib.Core.List.{List, [], _∷_, _++_}
 use native.Mathlib.Omega.{arith}
 use lib.Dec.{ltb}
-use lib.ListN.{length, getD, replicate}
+use lib.ListN.{replicate}
 use Rattle.base.specs.Questions.{firstNo}
 use Rattle.base.specs.Lists.{valuesFrom, every, count, eachOnce}
 use Rattle.base.specs.Digits.{value, digits, halves}
@@ -16,12 +16,14 @@ use Rattle.field.specs.Polynomial.{timesX, horner, times}
 use Rattle.field.specs.Gf32.{gf32}
 use Rattle.field.proofs.Fields.{gf32-field}
 use Rattle.braid.specs.Words.{codes, filler, wordAnswer}
-use Rattle.action.specs.Layout.{entry, matrixOf}
-use Rattle.action.specs.Action.{tValue, shareOf, rowAfter, swapped, letterOn, wordOn, identity, start, matrixProduct}
+use Rattle.matrix.specs.Layout.{place, rowOf, columnOf, entry, matrixOf}
+use Rattle.matrix.specs.Product.{identity, matrixProduct}
+use Rattle.braid.specs.Strands.{swapped}
+use Rattle.action.specs.Action.{tValue, shareOf, rowAfter, letterOn, wordOn, start}
 use Rattle.action.specs.Good.{GoodPair}
 use Rattle.action.proofs.GoodLaws.{tested-pair}
 use Rattle.action.proofs.WordLaws.{word-good}
-use Rattle.action.proofs.ProductLaws.{product-identity}
+use Rattle.matrix.proofs.ProductLaws.{identity-right}
 use Rattle.key.specs.Keys.{tValues, entries, fillerBits, labels, wholeMatrix, keyAnswer, keyOf}
 use Rattle.key.specs.declared.Key.{Key}
 use Rattle.digest.specs.Digest.{halfByteBraid, braidOf, encoded}
@@ -73,7 +75,7 @@ empty-accepted = refl
 
 -- what they hold
 key-is : keyOf plainKey ≡ record { «t_values» = plain; pair = start; second = identity }
-unfolding valuesFrom value digits matrixOf tValues entries labels wholeMatrix keyOf identity start
+unfolding valuesFrom value digits rowOf columnOf matrixOf tValues entries labels wholeMatrix keyOf identity start
 key-is = refl
 
 sevens-are : codes sevens ≡ sevenCodes
@@ -90,14 +92,15 @@ reached = wordOn gf32 plain sevenCodes start .matrix
 
 -- its entry in row 7 and column 7, where the identity has 1
 corner : entry reached 6 6 ≡ 9
-unfolding identity start entry matrixOf valuesFrom tValue shareOf rowAfter swapped letterOn wordOn times horner timesX
+unfolding identity start place rowOf columnOf entry matrixOf valuesFrom tValue shareOf rowAfter swapped letterOn wordOn times horner timesX
 corner = refl
 
 one-there : entry identity 6 6 ≡ 1
-unfolding identity entry matrixOf valuesFrom
+unfolding identity place rowOf columnOf entry matrixOf valuesFrom
 one-there = refl
 
--- both sides: the word's letters reach it from Pub(S), and the digest's reach it from the identity; times the identity it stays as it is
+-- both sides: the word's letters reach it from Pub(S), and the digest's reach it from the identity; times the identity
+-- it stays as it is
 sevens-signed : signed gf32 (keyOf plainKey) (codes sevens) ≡ reached
 unfolding signed
 sevens-signed = ap₂ (λ (k : Key) (w : List ℕ). wordOn gf32 (k .«t_values») w (k .pair) .matrix) key-is sevens-are
@@ -107,14 +110,14 @@ unfolding signed wordOn value halves codes start
 empty-signed = ap (λ (k : Key). k .pair .matrix) key-is
 
 good : GoodPair gf32 (wordOn gf32 plain sevenCodes start)
-unfolding every valuesFrom count eachOnce identity start matrixOf
+unfolding every valuesFrom count eachOnce identity start rowOf columnOf matrixOf
 good = word-good gf32-field plain sevenCodes start refl (tested-pair start refl refl refl refl)
 
 zero-target : target gf32 (keyOf plainKey) zeroDigest ≡ reached
 unfolding target
 zero-target =
     ap₂ (λ (k : Key) (w : List ℕ). matrixProduct gf32 (wordOn gf32 (k .«t_values») w start .matrix) (k .second)) key-is encoded-is
-    ∙ product-identity gf32-field reached (record { size = good .entries; below = good .entry-below })
+    ∙ identity-right gf32-field reached (record { size = good .entries; below = good .entry-below })
 
 pub sevens-0 : verdict plainKey zeroDigest sevens ≡ 0
 sevens-0 = equal-zero plainKey zeroDigest sevens key-accepted refl sevens-accepted (sevens-signed ∙ sym zero-target)

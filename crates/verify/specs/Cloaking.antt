@@ -1,5 +1,5 @@
--- Cloaking: a word cloaks for a list when the identity matrix with that list, multiplied by the word under the key's T-values, comes back
--- unchanged, list included. Assumes nothing.
+-- Cloaking: a word cloaks for a list when the identity matrix with that list, multiplied by the word under the key's
+-- T-values, comes back unchanged, list included.
 use Prim.Native.Nat.{ℕ}
 use mathlib.Core.Path.{_≡_}
 use mathlib.Core.Bool.{Bool, false, _&&_}
@@ -7,18 +7,18 @@ use mathlib.Core.List.{List, _∷_, _++_}
 use lib.Dec.{eqb}
 use lib.ListN.{length}
 use Rattle.base.specs.Questions.{Question, _else_, firstNo, granted}
-use Rattle.base.specs.Lists.{same}
+use Rattle.base.specs.Lists.{equal}
 use Rattle.field.specs.Binary.{Operations}
 use Rattle.field.specs.Gf32.{gf32}
 use Rattle.braid.specs.Words.{codes, wordQuestions}
 use Rattle.action.specs.declared.Pair.{Pair}
 use Rattle.action.specs.Action.{wordOn, identityWith}
-use Rattle.action.specs.Multiplier.{isOrder}
+use Rattle.braid.specs.Strands.{isOrder}
 use Rattle.key.specs.Keys.{keyQuestions, keyOf}
 
 -- matrix and list are the same
 unfoldable pub samePair : Pair → Pair → Bool
-samePair p q = same (p .matrix) (q .matrix) && same (p .labels) (q .labels)
+samePair p q = equal (p .matrix) (q .matrix) && equal (p .labels) (q .labels)
 
 -- over a field, the identity matrix with the list comes back from the word unchanged, list included
 unfoldable pub comesBack : Operations → List ℕ → List ℕ → List ℕ → Bool

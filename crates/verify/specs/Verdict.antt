@@ -1,13 +1,15 @@
--- The verdict: a slip whose key, digest and word pass their questions is accepted if and only if the matrix reached from Pub(S) by its word equals the
--- matrix reached from the identity by the encoded digest, times the matrix of Pub(S'), over GF(32). Lists are not compared. Assumes nothing.
+-- The verdict: a slip whose key, digest and word pass their questions is accepted if and only if the matrix reached
+-- from Pub(S) by its word equals the matrix reached from the identity by the encoded digest, times the matrix of
+-- Pub(S'), over GF(32). Lists are not compared.
 use Prim.Native.Nat.{ℕ}
 use mathlib.Core.List.{List, [], _∷_, _++_}
 use Rattle.base.specs.Questions.{Question, _else_, firstNo}
-use Rattle.base.specs.Lists.{same}
+use Rattle.base.specs.Lists.{equal}
 use Rattle.field.specs.Binary.{Operations}
 use Rattle.field.specs.Gf32.{gf32}
 use Rattle.braid.specs.Words.{codes, wordQuestions}
-use Rattle.action.specs.Action.{wordOn, start, matrixProduct}
+use Rattle.matrix.specs.Product.{matrixProduct}
+use Rattle.action.specs.Action.{wordOn, start}
 use Rattle.key.specs.Keys.{keyQuestions, keyOf}
 use Rattle.key.specs.declared.Key.{Key}
 use Rattle.digest.specs.Digest.{digestQuestions, encoded}
@@ -26,7 +28,7 @@ verdictQuestions key digest word =
     keyQuestions key
     ++ (digestQuestions digest
     ++ (wordQuestions word
-    ++ ((same (signed gf32 (keyOf key) (codes word)) (target gf32 (keyOf key) digest) else 14) ∷ [])))
+    ++ ((equal (signed gf32 (keyOf key) (codes word)) (target gf32 (keyOf key) digest) else 14) ∷ [])))
 
 unfoldable pub verdict : List ℕ → List ℕ → List ℕ → ℕ
 verdict key digest word = firstNo (verdictQuestions key digest word)

@@ -7,7 +7,7 @@ ghost use lib.Dec.{eqb};
 ghost use lib.ListN.{length};
 ghost use Rattle.field.specs.Gf32.{gf32};
 ghost use Rattle.braid.specs.Words.{codes, letters, wordAnswer};
-ghost use Rattle.action.specs.Multiplier.{isOrder};
+ghost use Rattle.braid.specs.Strands.{isOrder};
 ghost use Rattle.verify.specs.Cloaking.{comesBack, Cloaks};
 
 // An answer, and yes or no: no on a refusal.
@@ -52,10 +52,7 @@ fn comes_back(t_values: &[u8; 8], labels: &[u8], word: &[u8], n: usize) -> bool
     let start = Pair::start();
     let identity = start.matrix;
     let order = eight(labels);
-    let before = Pair {
-        matrix: identity,
-        labels: order,
-    };
+    let before = Pair::with(identity, order);
     let after = carried(before, t_values, word, n);
     let matrix = after.matrix;
     let list = after.labels;

@@ -5,7 +5,7 @@ use key::Key;
 ghost use mathlib.Core.Path.{_≡_};
 ghost use mathlib.Core.Bool.{cond};
 ghost use lib.ListN.{length};
-ghost use Rattle.base.specs.Lists.{same};
+ghost use Rattle.base.specs.Lists.{equal};
 ghost use Rattle.braid.specs.Words.{codes, letters, wordAnswer};
 ghost use Rattle.field.specs.Gf32.{gf32};
 ghost use Rattle.action.specs.Action.{wordOn, start};
@@ -30,7 +30,7 @@ fn digest_matrix(t_values: &[u8; 8], digest: &[u8]) -> [u8; 64]
 // The verdict under a key on a digest of 32 bytes and an accepted word of n letters: 0 or 14.
 fn judge(held: Key, digest: &[u8], word: &[u8], n: usize) -> u8
     requires { ⌜ (length (now digest) ≡ 32) × (wordAnswer (now word) ≡ 0) × (n ≡ length (letters (now word))) ⌝ }
-    ensures { λ r. ⌜ r ≡ cond (same (signed gf32 held (codes (now (word .entry)))) (target gf32 held (now (digest .entry)))) 0 14 ⌝ }
+    ensures { λ r. ⌜ r ≡ cond (equal (signed gf32 held (codes (now (word .entry)))) (target gf32 held (now (digest .entry)))) 0 14 ⌝ }
 {
     let t_values = held.t_values;
     let pair = held.pair;
@@ -38,7 +38,7 @@ fn judge(held: Key, digest: &[u8], word: &[u8], n: usize) -> u8
     let reached = carried(pair, &t_values, word, n);
     let matrix = reached.matrix;
     let first = digest_matrix(&t_values, digest);
-    let wanted = action::matrix_product(&first, &second);
+    let wanted = matrix::matrix_product(&first, &second);
     if base::equal(&matrix, &wanted) { 0 } else { 14 }
 }
 

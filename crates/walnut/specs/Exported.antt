@@ -1,5 +1,4 @@
 -- The key that walnut_read_key hands out, as its parts.
--- Assumes nothing.
 use Prim.Native.Nat.{ℕ}
 use mathlib.Core.List.{List}
 use Rattle.action.specs.declared.Pair.{Pair}

@@ -1,3 +1,2 @@
 -- Definitions of the exported interface.
--- Assumes nothing.
 pub mod Exported

@@ -1,25 +1,26 @@
-// The exported functions: thin, one for each operation of include/walnut.h, with the contract of the function that they pass on. The header states them in C.
-// Slices pass as a pointer and a length, fixed arrays as a pointer, structs by value in C's layout.
+// The exported functions: thin, one for each operation of include/walnut.h, with the contract of the function that they
+// pass on. The header states them in C. Slices pass as a pointer and a length, fixed arrays as a pointer, structs by
+// value in C's layout.
 ghost use mathlib.Core.Path.{_≡_};
-ghost use lib.ListN.{length};
 ghost use Rattle.field.specs.Gf32.{gf32, productQuestions, reciprocalQuestions, Gives};
-ghost use Rattle.braid.specs.Words.{codes, wordFile, writerQuestions, Read, Wrote};
-ghost use Rattle.braid.specs.Reduction.{reduced, reducerQuestions};
+ghost use Rattle.braid.specs.Words.{codes, Read, WroteWord};
 ghost use Rattle.action.specs.Action.{start};
 ghost use Rattle.lent.specs.Lent.{Lends};
-ghost use Rattle.key.specs.Keys.{fileEntries, ReadsKey, keyFile, keyWriterQuestions, WroteKey};
-ghost use Rattle.digest.specs.Digest.{encoded, encoderQuestions};
+ghost use Rattle.key.specs.Keys.{fileEntries, ReadsKey, WroteKey};
 ghost use Rattle.verify.specs.Verdict.{verdict};
 ghost use Rattle.verify.specs.Cloaking.{Cloaks};
 ghost use Rattle.moves.specs.Meaning.{Rewrote};
 ghost use Rattle.walnut.specs.Exported.{keyFrom};
+ghost use Rattle.braid.specs.Reduction.{WroteReduced};
+ghost use Rattle.digest.specs.Digest.{WroteEncoded};
 use action::Pair;
 use braid::Word;
 use braid::Written;
 use field::Element;
 use verify::Cloak;
 
-// What the key reader gives: its answer, then T-values, the pair Pub(S) and the matrix of Pub(S'), all zeros on a refusal.
+// What the key reader gives: its answer, then T-values, the pair Pub(S) and the matrix of Pub(S'), all zeros on a
+// refusal.
 #[repr(C)]
 pub struct KeyRead {
     pub answer: u8,
@@ -93,7 +94,7 @@ pub extern "C" fn walnut_write_key(
     second: &[u8; 57],
     out: &mut [u8],
 ) -> u8
-    ensures { λ r. ⌜ WroteKey (keyWriterQuestions (length (now (out .entry))) (now («t_values» .entry)) (now (labels .entry)) (now (first .entry)) (now (second .entry))) (keyFile (now («t_values» .entry)) (now (labels .entry)) (now (first .entry)) (now (second .entry))) (now (out .entry)) (now (out .exit)) r ⌝ }
+    ensures { λ r. ⌜ WroteKey (now («t_values» .entry)) (now (labels .entry)) (now (first .entry)) (now (second .entry)) (now (out .entry)) (now (out .exit)) r ⌝ }
 {
     key::write_key(t_values, labels, first, second, out)
 }
@@ -107,21 +108,21 @@ pub extern "C" fn walnut_read_word(file: &[u8]) -> Word
 
 #[no_mangle]
 pub extern "C" fn walnut_write_word(codes: &[u8], out: &mut [u8]) -> Written
-    ensures { λ r. ⌜ Wrote (writerQuestions (length (now (out .entry))) (now (codes .entry))) (wordFile (now (codes .entry))) (now (out .entry)) (now (out .exit)) (r .answer) (r .bytes) ⌝ }
+    ensures { λ r. ⌜ WroteWord (now (codes .entry)) (now (out .entry)) (now (out .exit)) (r .answer) (r .bytes) ⌝ }
 {
     braid::write_word(codes, out)
 }
 
 #[no_mangle]
 pub extern "C" fn walnut_encode_digest(digest: &[u8], out: &mut [u8]) -> Written
-    ensures { λ r. ⌜ Wrote (encoderQuestions (length (now (out .entry))) (now (digest .entry))) (wordFile (encoded (now (digest .entry)))) (now (out .entry)) (now (out .exit)) (r .answer) (r .bytes) ⌝ }
+    ensures { λ r. ⌜ WroteEncoded (now (digest .entry)) (now (out .entry)) (now (out .exit)) (r .answer) (r .bytes) ⌝ }
 {
     digest::encode(digest, out)
 }
 
 #[no_mangle]
 pub extern "C" fn walnut_free_reduce(word: &[u8], out: &mut [u8]) -> Written
-    ensures { λ r. ⌜ Wrote (reducerQuestions (length (now (out .entry))) (now (word .entry))) (wordFile (reduced (codes (now (word .entry))))) (now (out .entry)) (now (out .exit)) (r .answer) (r .bytes) ⌝ }
+    ensures { λ r. ⌜ WroteReduced (now (word .entry)) (now (out .entry)) (now (out .exit)) (r .answer) (r .bytes) ⌝ }
 {
     braid::free_reduce(word, out)
 }

@@ -1,5 +1,5 @@
--- `base::put` meets its contract. The loop's invariant: the first i bytes of the output are the input's, the others are as they were.
--- Assumes nothing.
+-- `base::put` meets its contract. The loop's invariant: the first i bytes of the output are the input's, the others are
+-- as they were.
 use Prim.Native.Nat.{ℕ, zero, suc, _-_, _≤_, min}
 use mathlib.Core.Path.{_≡_, refl, ap, _∙_}
 use mathlib.Core.List.{List, [], _∷_, _++_}

@@ -1,7 +1,7 @@
--- `desk_io::desk` is safe: the line lies within its text. Assumes nothing.
+-- `desk_io::desk` is safe: the line lies within its text.
 use borrow.Author.Needs.{needs}
 use Rattle.io.proofs.Counting.{counts}
-use Rattle.slip.proofs.DeskLaws.{line-within}
+use Rattle.desk_line.proofs.DeskLaws.{line-within}
 use Rattle.desk_io.proofs.desk.Statement.{statement}
 use Rattle.desk_io.proofs.desk.Tie as tie
 

@@ -1,5 +1,5 @@
--- `digest::append` meets its contract. The loop's invariant: after the first `at` codes stand the first j letters of the half byte's braid.
--- Assumes nothing.
+-- `digest::append` meets its contract. The loop's invariant: after the first `at` codes stand the first j letters of
+-- the half byte's braid.
 use Prim.Native.Nat.{ℕ, suc, _+_, _-_, _≤_, _<_}
 use mathlib.Core.Path.{_≡_, refl, sym, ap, _∙_}
 use mathlib.Core.List.{List, [], _∷_, _++_, append-assoc, append-nil}
@@ -35,18 +35,6 @@ loop-holds c = (omega arith, refl, rw add-zero (sym (append-nil _)))
 braid-letter-requires : tie.Need-braid-letter-requires Inv-loop μ-loop
 braid-letter-requires c κs = (c .before .before .before .before .pre .0, omega arith)
 
-add-codes : tie.Need-add-codes Inv-loop μ-loop
-add-codes c = omega arith
-
-slice-write-codes : tie.Need-slice-write-codes Inv-loop μ-loop
-slice-write-codes c = omega arith
-
-add-j : tie.Need-add-j Inv-loop μ-loop
-add-j c = omega arith
-
-loop-less : tie.Need-loop-less Inv-loop μ-loop
-loop-less c = omega arith
-
 loop-again : tie.Need-loop-again Inv-loop μ-loop
 loop-again c =
     let t = c .before .before in
@@ -58,9 +46,6 @@ loop-again c =
       ap (λ (x : ℕ). take (a .at + (l .j + 1)) (set (l .codes) (a .at + l .j) x)) e
           ∙ one-more (l .codes) (take (a .at) (a .codes .now)) (halfByteBraid (a .h)) (a .at) (l .j) (l .inv .2) (omega arith) (omega arith),
     )
-
-add-result : tie.Need-add-result Inv-loop μ-loop
-add-result c = omega arith
 
 same-length : tie.Need-same-length Inv-loop μ-loop
 same-length c = c .before .loop .inv .1
@@ -82,17 +67,5 @@ returns c =
 pub append-spec : {M : Type 1} → statement M
 append-spec =
     tie.close
-    (tie.spec
-    Inv-loop
-    μ-loop
-    braid-len-requires
-    loop-holds
-    braid-letter-requires
-    add-codes
-    slice-write-codes
-    add-j
-    loop-less
-    loop-again
-    add-result
-    same-length
-    returns)
+    (tie.spec Inv-loop μ-loop braid-len-requires loop-holds braid-letter-requires (λ c. omega arith) (λ c. omega arith) (λ c. omega arith)
+    (λ c. omega arith) loop-again (λ c. omega arith) same-length returns)

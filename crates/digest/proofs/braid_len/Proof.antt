@@ -1,27 +1,9 @@
--- `digest::braid_len` meets its contract, by the rule of lengths. Assumes nothing.
+-- `digest::braid_len` meets its contract, by the rule of lengths.
 use native.Mathlib.Omega.{arith}
 use Rattle.digest.proofs.HalfByte.{braid-length, braid-short}
 use borrow.Author.Needs.{needs}
 use Rattle.digest.proofs.braid_len.Statement.{statement}
 use Rattle.digest.proofs.braid_len.Tie as tie
-
-above-selected-requires : tie.Need-above-selected-requires
-above-selected-requires c κs = search needs
-
-cast-power : tie.Need-cast-power
-cast-power c = search needs
-
-add-power : tie.Need-add-power
-add-power c = search needs
-
-mul-result : tie.Need-mul-result
-mul-result c = search needs
-
-mul-result-2 : tie.Need-mul-result-2
-mul-result-2 c = search needs
-
-add-result : tie.Need-add-result
-add-result c = search needs
 
 returns : tie.Need-returns
 returns c =
@@ -33,11 +15,4 @@ returns c =
 pub braid-len-spec : {M : Type 1} → statement M
 braid-len-spec =
     tie.close
-    (tie.spec
-    above-selected-requires
-    cast-power
-    add-power
-    mul-result
-    mul-result-2
-    add-result
-    returns)
+    (tie.spec (λ c κs. search needs) (λ c. search needs) (λ c. search needs) (λ c. search needs) (λ c. search needs) (λ c. search needs) returns)

@@ -1,4 +1,5 @@
--- `digest::encode_into` meets its contract. The loop's invariant: the first n codes are the braid of the first k half bytes. Assumes nothing.
+-- `digest::encode_into` meets its contract. The loop's invariant: the first n codes are the braid of the first k half
+-- bytes.
 use Prim.Native.Nat.{ℕ, _+_, _*_, _-_, _≤_, _<_}
 use mathlib.Core.Path.{_≡_, refl, sym, ap, _∙_}
 use mathlib.Core.List.{List, _++_}
@@ -8,7 +9,7 @@ use lib.Seq.{take-all}
 use Rattle.base.specs.Digits.{halves}
 use Rattle.base.proofs.DigitLaws.{length-halves, halves-below}
 use Rattle.digest.specs.Digest.{halfByteBraid, braidOf, encoded}
-use Rattle.digest.proofs.Encoded.{braidOf-none, braidOf-more}
+use Rattle.digest.proofs.Encoded.{braidOf-more}
 use Rattle.digest.proofs.encode_into.Statement.{statement}
 use Rattle.digest.proofs.encode_into.Tie as tie
 
@@ -20,10 +21,8 @@ abbrev μ-loop : tie.MeasureT-loop
 μ-loop digest codes₀ n₀ k₀ codes n k = 64 - k
 
 loop-holds : tie.Need-loop-holds Inv-loop μ-loop
-loop-holds c = (omega arith, omega arith, refl, sym braidOf-none)
-
-half-requires : tie.Need-half-requires Inv-loop μ-loop
-half-requires c κs = tt
+unfolding braidOf
+loop-holds c = (omega arith, omega arith, refl, refl)
 
 append-requires : tie.Need-append-requires Inv-loop μ-loop
 append-requires c κs =
@@ -31,12 +30,6 @@ append-requires c κs =
     let b = t .before .before .before in
     let h : c .half .result < 16 = rw (c .half .ensures) (halves-below (b .before .args .digest .now) (λ i. b .shared-slice-known .given i .fits) _) in
     (h, omega arith)
-
-add-k : tie.Need-add-k Inv-loop μ-loop
-add-k c = omega arith
-
-loop-less : tie.Need-loop-less Inv-loop μ-loop
-loop-less c = omega arith
 
 loop-again : tie.Need-loop-again Inv-loop μ-loop
 loop-again c =
@@ -66,15 +59,4 @@ returns c =
 
 pub encode-into-spec : {M : Type 1} → statement M
 encode-into-spec =
-    tie.close
-    (tie.spec
-    Inv-loop
-    μ-loop
-    loop-holds
-    half-requires
-    append-requires
-    add-k
-    loop-less
-    loop-again
-    same-length
-    returns)
+    tie.close (tie.spec Inv-loop μ-loop loop-holds (λ c κs. tt) append-requires (λ c. omega arith) (λ c. omega arith) loop-again same-length returns)

@@ -1,5 +1,4 @@
 -- `field::reciprocal` meets its contract: the two questions, and then the table's entry a - 1.
--- Assumes nothing.
 use Prim.Native.Nat.{ℕ, _-_}
 use mathlib.Core.Path.{ap, _∙_}
 use mathlib.Core.Bool.{not}
@@ -28,15 +27,6 @@ returns-2 c =
     refused (reciprocalQuestions a) 3
     (passes 17 ((not (eqb a 0) else 4) ∷ []) (lt-ltb a 32 (c .before .if1 .left)) ∙ fails 4 [] (ap not (eq-eqb a 0 (c .if2 .taken))))
 
-reciprocal-table-requires : tie.Need-reciprocal-table-requires
-reciprocal-table-requires c κs = search needs
-
-sub-at : tie.Need-sub-at
-sub-at c = search needs
-
-array-read-t9 : tie.Need-array-read-t9
-array-read-t9 c = search needs
-
 returns-3 : tie.Need-returns-3
 returns-3 c =
     let a = c .before .before .before .args .a in
@@ -46,4 +36,4 @@ returns-3 c =
     (ap (λ (l : List ℕ). getD l (a - 1) 0) (c .reciprocal-table .ensures) ∙ reciprocal-at a (omega arith) h)
 
 pub reciprocal-spec : {M : Type 1} → statement M
-reciprocal-spec = tie.close (tie.spec returns returns-2 reciprocal-table-requires sub-at array-read-t9 returns-3)
+reciprocal-spec = tie.close (tie.spec returns returns-2 (λ c κs. search needs) (λ c. search needs) (λ c. search needs) returns-3)

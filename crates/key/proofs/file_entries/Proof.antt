@@ -1,11 +1,11 @@
--- `key::file_entries` meets its contract. The loop's invariant: the places before k hold the file's entries. Assumes nothing.
+-- `key::file_entries` meets its contract. The loop's invariant: the places before k hold the file's entries.
 use Prim.Native.Nat.{ℕ, _-_, _/_, _%_, _≤_, _<_}
 use mathlib.Core.Path.{_≡_, refl, ap₂, _∙_}
 use native.Mathlib.Omega.{arith}
 use borrow.Author.Needs.{needs}
 use lib.ListN.{length, getD, length-set}
-use Rattle.action.specs.Layout.{entry}
-use Rattle.action.proofs.FillLaws.{one-more}
+use Rattle.matrix.specs.Layout.{entry}
+use Rattle.base.proofs.ListLaws.{one-more}
 use Rattle.key.proofs.EntryLaws.{fileEntry, entries-put}
 use Rattle.key.proofs.file_entries.Statement.{statement}
 use Rattle.key.proofs.file_entries.Tie as tie
@@ -19,18 +19,6 @@ abbrev μ-loop : tie.MeasureT-loop
 loop-holds : tie.Need-loop-holds Inv-loop μ-loop
 loop-holds c = (omega arith, refl, λ j h. absurd (omega arith))
 
-entry-requires : tie.Need-entry-requires Inv-loop μ-loop
-entry-requires c κs = search needs
-
-array-write-entries : tie.Need-array-write-entries Inv-loop μ-loop
-array-write-entries c = omega arith
-
-add-k : tie.Need-add-k Inv-loop μ-loop
-add-k c = omega arith
-
-loop-less : tie.Need-loop-less Inv-loop μ-loop
-loop-less c = omega arith
-
 loop-again : tie.Need-loop-again Inv-loop μ-loop
 loop-again c =
     let l = c .before .before .loop in
@@ -41,12 +29,6 @@ loop-again c =
       length-set (l .entries) (l .k) _ ∙ l .inv .1,
       one-more (fileEntry m) (l .entries) (l .k) _ (omega arith) (l .inv .2) (c .entry .ensures ∙ ap₂ (entry m) row column),
     )
-
-entry-requires-2 : tie.Need-entry-requires-2 Inv-loop μ-loop
-entry-requires-2 c κs = search needs
-
-array-write-entries-2 : tie.Need-array-write-entries-2 Inv-loop μ-loop
-array-write-entries-2 c = omega arith
 
 returns : tie.Need-returns Inv-loop μ-loop
 returns c =
@@ -62,11 +44,11 @@ file-entries-spec =
     Inv-loop
     μ-loop
     loop-holds
-    entry-requires
-    array-write-entries
-    add-k
-    loop-less
+    (λ c κs. search needs)
+    (λ c. search needs)
+    (λ c. search needs)
+    (λ c. search needs)
     loop-again
-    entry-requires-2
-    array-write-entries-2
+    (λ c κs. search needs)
+    (λ c. search needs)
     returns)

@@ -1,4 +1,4 @@
--- `key::read_key` meets its contract: the answer, and the key or zeros. Assumes nothing.
+-- `key::read_key` meets its contract: the answer, and the key or zeros.
 use mathlib.Core.Path.{sym, _∙_}
 use Rattle.base.proofs.QuestionLaws.{granted-zero, granted-refused}
 use Rattle.key.specs.Keys.{keyOf, zeroKey}
@@ -6,12 +6,6 @@ use Rattle.key.proofs.KeyFacts.{accepted}
 use borrow.Author.Needs.{needs}
 use Rattle.key.proofs.read_key.Statement.{statement}
 use Rattle.key.proofs.read_key.Tie as tie
-
-answer-requires : tie.Need-answer-requires
-answer-requires c κs = search needs
-
-zero-key-requires : tie.Need-zero-key-requires
-zero-key-requires c κs = search needs
 
 returns : tie.Need-returns
 returns c =
@@ -38,4 +32,4 @@ returns-2 c =
 
 pub read-key-spec : {M : Type 1} → statement M
 read-key-spec =
-    tie.close (tie.spec answer-requires zero-key-requires returns key-of-requires returns-2)
+    tie.close (tie.spec (λ c κs. search needs) (λ c κs. search needs) returns key-of-requires returns-2)

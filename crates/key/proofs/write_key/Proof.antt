@@ -1,4 +1,4 @@
--- `key::write_key` meets its contract: on answer 0 the file in the first bytes, else the output as it was. Assumes nothing.
+-- `key::write_key` meets its contract: on answer 0 the file in the first bytes, else the output as it was.
 use Prim.Native.Nat.{ℕ, _≤_}
 use mathlib.Core.Path.{sym, ap, _∙_}
 use mathlib.Core.List.{List}
@@ -22,9 +22,6 @@ passed c =
     let a = c .before .before .before .args in
     writable (length (a .out .now)) (a .t-values .now) (a .labels .now) (a .first .now) (a .second .now) (sym (c .before .answer .ensures) ∙ c .if1 .left)
 
-answer-requires : tie.Need-answer-requires
-answer-requires c κs = search needs
-
 returns : tie.Need-returns
 returns c =
     let s = c .before .before .before in
@@ -36,15 +33,6 @@ returns c =
 
 file-requires : tie.Need-file-requires
 file-requires c κs = parts (passed c)
-
-slice-aggregate-put : tie.Need-slice-aggregate-put
-slice-aggregate-put c = search needs
-
-put-requires : tie.Need-put-requires
-put-requires c κs = search needs
-
-same-length : tie.Need-same-length
-same-length c = search needs
 
 returns-2 : tie.Need-returns-2
 returns-2 c =
@@ -70,10 +58,10 @@ pub write-key-spec : {M : Type 1} → statement M
 write-key-spec =
     tie.close
     (tie.spec
-    answer-requires
+    (λ c κs. search needs)
     returns
     file-requires
-    slice-aggregate-put
-    put-requires
-    same-length
+    (λ c. search needs)
+    (λ c κs. search needs)
+    (λ c. search needs)
     returns-2)

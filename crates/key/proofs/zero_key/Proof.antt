@@ -1,13 +1,13 @@
--- `key::zero_key` meets its contract. Assumes nothing.
-use mathlib.Core.Path.{refl}
-use Rattle.action.specs.Multiplier.{zeroPair}
+-- `key::zero_key` meets its contract.
+use borrow.Author.Needs.{needs}
+use lib.ListN.{replicate}
 use Rattle.key.specs.Keys.{zeroKey}
 use Rattle.key.proofs.zero_key.Statement.{statement}
 use Rattle.key.proofs.zero_key.Tie as tie
 
 returns : tie.Need-returns
-unfolding zeroKey zeroPair
-returns c = refl
+unfolding zeroKey
+returns c = λ j. record { «t_values» = replicate 8 0; pair = c .zeros .ensures j; second = replicate 64 0 }
 
 pub zero-key-spec : {M : Type 1} → statement M
-zero-key-spec = tie.close (tie.spec returns)
+zero-key-spec = tie.close (tie.spec (λ c κs. search needs) returns)

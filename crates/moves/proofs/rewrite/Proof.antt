@@ -1,43 +1,87 @@
--- `moves::rewrite` meets its contract: a refusal for the output, the word, the list and the moves, and the new word's file.
--- Assumes nothing.
-use Prim.Native.Nat.{_-_, _≤_}
+-- `moves::rewrite` meets its contract: a refusal for the output, the word, the list and the moves, and the new word's
+-- file.
+use Prim.Native.Nat.{ℕ, _≤_}
 use mathlib.Core.Path.{_≡_, sym, ap, _∙_}
+use mathlib.Core.List.{List, _++_}
 use native.Mathlib.Omega.{arith}
+use borrow.Author.Tests.{lt-leb}
 use lib.ListN.{length}
 use lib.Seq.{length-take-le}
 use Rattle.base.specs.Questions.{firstNo}
-use Rattle.braid.specs.Words.{codes, wordAnswer}
-use Rattle.braid.proofs.ReadLaws.{accepted-long}
+use Rattle.base.proofs.QuestionLaws.{fails, refused-there}
+use Rattle.braid.specs.Words.{codes, wordQuestions, wordAnswer}
+use Rattle.braid.proofs.ReadLaws.{accepted-word}
 use Rattle.braid.proofs.WriteLaws.{wrote-refused}
-use Rattle.moves.specs.Rewriting.{steps, listQuestions}
-use Rattle.moves.specs.Leaving.{moved, Leaves}
-use Rattle.moves.proofs.CodeList.{listed, leaves-as}
-use Rattle.moves.proofs.CodeRewrite.{rewriter-15, rewriter-word, rewriter-list, rewriter-answer, letters-few, bytes-fit, unpacked, rewrote}
+use Rattle.rewriting.specs.Rewriting.{steps, moveQuestions, listQuestions, rewriterQuestions}
+use Rattle.rewriting.specs.Leaving.{moved, Leaves}
+use Rattle.rewriting.proofs.CodeList.{listed, leaves-as}
+use Rattle.rewriting.proofs.RewriterAnswer.{afterWord, past-room, past-word}
+use Rattle.moves.specs.Meaning.{Rewrote}
+use Rattle.moves.proofs.CodeRewrite.{rewriter-answer, letters-few, bytes-fit, unpacked, rewrote}
 use Rattle.moves.proofs.RewritingKeepsMeaning.{rewrote-whole}
 use borrow.Author.Needs.{needs}
 use Rattle.moves.proofs.rewrite.Statement.{statement}
 use Rattle.moves.proofs.rewrite.Tie as tie
 
--- questions 9 to 13 are passed
-word-accepted : (c : tie.Else3) → wordAnswer (c .before .before .before .before .before .before .before .before .before .args .word .now) ≡ 0
-word-accepted c = sym (c .before .before .before .before .read-word .ensures .answer-is) ∙ c .before .before .if2 .left
+-- ---- the places
 
--- and 18 to 20
-list-accepted : (c : tie.Else3) → firstNo (listQuestions (c .before .before .before .before .before .before .before .before .before .args .moves .now)) ≡ 0
+abbrev at-1 : tie.Else1 → tie.Start
+at-1 c = c .before .before .before .before
+
+abbrev at-2 : tie.Else2 → tie.Start
+at-2 c = at-1 (c .before .before .before)
+
+abbrev at-3 : tie.Else3 → tie.Start
+at-3 c = at-2 (c .before .before)
+
+-- the questions are passed where the moves are made
+abbrev asked-3 : tie.After-all-moves → tie.Else3
+asked-3 c = c .before .before .before .before .before .before
+
+abbrev all-made : tie.Else4 → tie.After-all-moves
+all-made c = c .before .before .before
+
+module _ (s : tie.Start) where
+  abbrev word : List ℕ
+  word = s .args .word .now
+
+  abbrev moves : List ℕ
+  moves = s .args .moves .now
+
+  abbrev out : List ℕ
+  out = s .args .out .now
+
+  -- a refusal leaves the output as it was
+  refused : {n : ℕ} → firstNo (rewriterQuestions (length out) word moves) ≡ n → (n ≡ 0 → ⊥) → Rewrote word moves out out n 0
+  refused {n} e h = rewrote-whole word moves (wrote-refused _ _ out n e h)
+
+-- ---- what the questions passed tell
+
+word-accepted : (c : tie.Else2) → wordAnswer (word (at-2 c)) ≡ 0
+word-accepted c = sym (c .before .before .read-word .ensures .answer-is) ∙ c .if2 .left
+
+list-accepted : (c : tie.Else3) → firstNo (listQuestions (moves (at-3 c))) ≡ 0
 list-accepted c = sym (c .before .list-answer .ensures) ∙ c .if3 .left
 
+past-1 : (c : tie.Else1) → let s = at-1 c in
+    firstNo (rewriterQuestions (length (out s)) (word s) (moves s)) ≡ firstNo (wordQuestions (word s) ++ afterWord (word s) (moves s))
+past-1 c = let s = at-1 c in past-room (length (out s)) (word s) (moves s) (c .if1 .left)
+
+past-2 : (c : tie.Else2) → let s = at-2 c in
+    firstNo (rewriterQuestions (length (out s)) (word s) (moves s)) ≡ firstNo (afterWord (word s) (moves s))
+past-2 c = let s = at-2 c in past-word (length (out s)) (word s) (moves s) (c .before .before .before .if1 .left) (word-accepted c)
+
 -- the moves, on the word's codes
-made : (c : tie.After-all-moves)
-    → let a = c .before .before .before .before .before .before .before .before .before .before .before .before .before .before .before .args in
+made : (c : tie.After-all-moves) → let s = at-3 (asked-3 c) in
     let m = c .all-moves in
-    Leaves (moved (steps (a .moves .now)) (codes (a .word .now))) (m .last .0) (m .result .answer) (m .result .letters)
+    Leaves (moved (steps (moves s)) (codes (word s))) (m .last .0) (m .result .answer) (m .result .letters)
 made c =
-    let t = c .before .before .before .before .before .before in
-    let a = t .before .before .before .before .before .before .before .before .before .args in
+    let t = asked-3 c .before .before in
+    let s = at-2 t in
     let u = c .before .before .before .unpack in
     leaves-as
-    (ap (moved (steps (a .moves .now)))
-    (unpacked (a .word .now) (t .before .before .before .before .read-word .ensures) (word-accepted t) _ (u .last .1 .0) (u .ensures)))
+    (ap (moved (steps (moves s)))
+    (unpacked (word s) (t .before .before .read-word .ensures) (word-accepted t) _ (u .last .1 .0) (u .ensures)))
     (c .all-moves .ensures)
 
 -- the row has room for 10,000
@@ -46,121 +90,78 @@ few c =
     let m = c .all-moves in
     omega (arith, m .ensures .letters-in, m .kept .0, c .before .before .before .unpack .kept .1 .0)
 
+-- ---- the returns
+
 returns : tie.Need-returns
 returns c =
-    let a = c .before .before .before .before .args in
-    rewrote-whole (a .word .now) (a .moves .now)
-    (wrote-refused _ _ (a .out .now) 15 (rewriter-15 (length (a .out .now)) (a .word .now) (a .moves .now) (c .if1 .taken)) (omega arith))
-
-read-word-requires : tie.Need-read-word-requires
-read-word-requires c κs = search needs
+    let s = c .before .before .before .before in
+    refused s (fails 15 (wordQuestions (word s) ++ afterWord (word s) (moves s)) (lt-leb 5002 (length (out s)) (c .if1 .taken))) (omega arith)
 
 returns-2 : tie.Need-returns-2
+unfolding wordAnswer
 returns-2 c =
-    let a = c .before .before .before .before .before .before .before .args in
+    let t = c .before .before .before in
+    let s = at-1 t in
     let e = c .before .before .read-word .ensures .answer-is in
-    rewrote-whole (a .word .now) (a .moves .now)
-    (wrote-refused _ _ (a .out .now) _
-    (rewriter-word (length (a .out .now)) (a .word .now) (a .moves .now) (c .before .before .before .if1 .left) (λ z. c .if2 .taken (e ∙ z)) ∙ sym e)
-    (c .if2 .taken))
-
-list-answer-requires : tie.Need-list-answer-requires
-list-answer-requires c κs = search needs
+    refused s
+    (past-1 t ∙ refused-there (wordQuestions (word s)) (afterWord (word s) (moves s)) tt (λ z. c .if2 .taken (e ∙ z)) ∙ sym e)
+    (c .if2 .taken)
 
 returns-3 : tie.Need-returns-3
 returns-3 c =
-    let a = c .before .before .before .before .before .before .before .before .before .args in
+    let t = c .before .before in
+    let s = at-2 t in
     let e = c .before .list-answer .ensures in
-    rewrote-whole (a .word .now) (a .moves .now)
-    (wrote-refused _ _ (a .out .now) _
-    (rewriter-list (length (a .out .now)) (a .word .now) (a .moves .now) (c .before .before .before .before .before .if1 .left)
-    (sym (c .before .before .before .before .read-word .ensures .answer-is) ∙ c .before .before .if2 .left) (λ z. c .if3 .taken (e ∙ z)) ∙ sym e)
-    (c .if3 .taken))
+    refused s
+    (past-2 t ∙ refused-there (listQuestions (moves s)) (moveQuestions (steps (moves s)) (codes (word s))) tt (λ z. c .if3 .taken (e ∙ z)) ∙ sym e)
+    (c .if3 .taken)
 
-sub-unpack : tie.Need-sub-unpack
-sub-unpack c = accepted-long (c .before .before .before .before .before .before .before .before .before .args .word .now) (word-accepted c)
-
-part-unpack-start : tie.Need-part-unpack-start
-part-unpack-start c = accepted-long (c .before .before .before .before .before .before .before .before .before .args .word .now) (word-accepted c)
-
-part-unpack-end : tie.Need-part-unpack-end
-part-unpack-end c = search needs
-
-slice-aggregate-unpack : tie.Need-slice-aggregate-unpack
-slice-aggregate-unpack c = search needs
+long-enough : (c : tie.Else3) → 2 ≤ length (word (at-3 c))
+long-enough c = accepted-word (word (at-3 c)) (word-accepted (c .before .before)) .long
 
 unpack-requires : tie.Need-unpack-requires
 unpack-requires c κs =
-    let t = c .before .before in
-    let r = t .before .before .before .before .read-word .ensures in
-    let w = t .before .before .before .before .before .before .before .before .before .args .word .now in
-    bytes-fit w r (word-accepted t)
-
-slice-aggregate-all-moves : tie.Need-slice-aggregate-all-moves
-slice-aggregate-all-moves c = search needs
+    let t = c .before .before .before .before in
+    bytes-fit (word (at-2 t)) (t .before .before .read-word .ensures) (word-accepted t)
 
 all-moves-requires : tie.Need-all-moves-requires
 all-moves-requires c κs =
-    let t = c .before .before .before .before .before in
-    let a = t .before .before .before .before .before .before .before .before .before .args in (
-      letters-few (a .word .now) (t .before .before .before .before .read-word .ensures) (word-accepted t),
-      c .before .before .unpack .kept .1 .0,
-      listed (a .moves .now) (list-accepted t),
+    let e = c .before .before .before .before .before in
+    let t = e .before .before in
+    let s = at-2 t in (
+      record { short = letters-few (word s) (t .before .before .read-word .ensures) (word-accepted t); room = c .before .before .unpack .kept .1 .0 },
+      listed (moves s) (list-accepted e),
     )
 
 returns-4 : tie.Need-returns-4
 returns-4 c =
-    let t = c .before .before .before .before .before .before .before .before .before in
-    let a = t .before .before .before .before .before .before .before .before .before .args in
-    let l = made (c .before .before .before) in
-    rewrote-whole (a .word .now) (a .moves .now)
-    (wrote-refused _ _ (a .out .now) _
-    (rewriter-answer (a .word .now) (a .moves .now) (a .out .now) (t .before .before .before .before .before .if1 .left) (word-accepted t)
-    (list-accepted t)
-    ∙ sym (l .answer-is)) (c .if4 .taken))
-
-array-share-prefix-codes : tie.Need-array-share-prefix-codes
-array-share-prefix-codes c = search needs
+    let m = c .before .before .before in
+    let e = asked-3 m in
+    let t = e .before .before in
+    let s = at-2 t in
+    refused s
+    (rewriter-answer (word s) (moves s) (out s) (t .before .before .before .if1 .left) (word-accepted t) (list-accepted e) ∙ sym (made m .answer-is))
+    (c .if4 .taken)
 
 slice-aggregate-write-word : tie.Need-slice-aggregate-write-word
 slice-aggregate-write-word c =
-    let m = c .before .before .before .before .all-moves in
+    let m = all-made (c .before) .all-moves in
     sym (length-take-le (m .result .letters) (m .last .0) (m .ensures .letters-in))
-
-write-word-requires : tie.Need-write-word-requires
-write-word-requires c κs = search needs
-
-same-length : tie.Need-same-length
-same-length c = search needs
 
 returns-5 : tie.Need-returns-5
 returns-5 c =
-    let t = c .before .before .before .before .before .before .before .before .before .before .before .before .before .before in
-    let a = t .before .before .before .before .before .before .before .before .before .args in
-    let m = c .before .before .before .before .before .before .before .before in
-    rewrote-whole (a .word .now) (a .moves .now)
-    (rewrote (a .word .now) (a .moves .now) (a .out .now) (t .before .before .before .before .before .if1 .left) (word-accepted t) (list-accepted t)
-    (c .before .before .before .before .before .if4 .left) (few m) (made m) (c .before .before .write-word .ensures))
+    let d = c .before .before .before .before .before in
+    let m = all-made d in
+    let e = asked-3 m in
+    let t = e .before .before in
+    let s = at-2 t in
+    rewrote-whole (word s) (moves s)
+    (rewrote (word s) (moves s) (out s) (t .before .before .before .if1 .left) (word-accepted t) (list-accepted e) (d .if4 .left) (few m) (made m)
+    (c .before .before .write-word .ensures))
 
 pub rewrite-spec : {M : Type 1} → statement M
 rewrite-spec =
     tie.close
-    (tie.spec
-    returns
-    read-word-requires
-    returns-2
-    list-answer-requires
-    returns-3
-    sub-unpack
-    part-unpack-start
-    part-unpack-end
-    slice-aggregate-unpack
-    unpack-requires
-    slice-aggregate-all-moves
-    all-moves-requires
-    returns-4
-    array-share-prefix-codes
-    slice-aggregate-write-word
-    write-word-requires
-    same-length
-    returns-5)
+    (tie.spec returns (λ c κs. search needs) returns-2 (λ c κs. search needs) returns-3 long-enough long-enough (λ c. search needs) (λ c. search needs)
+    unpack-requires (λ c. search needs) all-moves-requires returns-4 (λ c. search needs) slice-aggregate-write-word (λ c κs. search needs)
+    (λ c. search needs) returns-5)

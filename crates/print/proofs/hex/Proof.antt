@@ -1,4 +1,4 @@
--- `print::hex` is safe and ends: the place stays within the bytes. Assumes nothing.
+-- `print::hex` is safe and ends: the place stays within the bytes.
 use Prim.Native.Nat.{_≤_, _-_}
 use lib.ListN.{length}
 use borrow.Author.Needs.{needs}

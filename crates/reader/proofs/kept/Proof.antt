@@ -1,21 +1,14 @@
 -- `reader::kept` meets its contract: the file itself on answer 0, its empty part on any other.
--- Assumes nothing.
 use mathlib.Core.Path.{sym, _∙_}
 use borrow.Author.Needs.{needs}
 use Rattle.reader.proofs.CodeLaws.{opened-accepted, opened-refused}
 use Rattle.reader.proofs.kept.Statement.{statement}
 use Rattle.reader.proofs.kept.Tie as tie
 
-read-word-requires : tie.Need-read-word-requires
-read-word-requires c κs = search needs
-
 returns : tie.Need-returns
 returns c =
     let a = c .before .before .before .before .args in
     sym (opened-accepted (a .file .now) (sym (c .before .before .read-word .ensures .answer-is) ∙ c .if1 .taken))
-
-slice-aggregate-result : tie.Need-slice-aggregate-result
-slice-aggregate-result c = search needs
 
 returns-2 : tie.Need-returns-2
 returns-2 c =
@@ -23,4 +16,4 @@ returns-2 c =
     sym (opened-refused (a .file .now) (λ e. c .before .if1 .left (c .before .before .before .read-word .ensures .answer-is ∙ e)))
 
 pub kept-spec : {M : Type 1} → statement M
-kept-spec = tie.close (tie.spec read-word-requires returns slice-aggregate-result returns-2)
+kept-spec = tie.close (tie.spec (λ c κs. search needs) returns (λ c. search needs) returns-2)

@@ -1,12 +1,10 @@
--- `reader::letter_of` meets its contract: below the number of codes the half byte at the place, and from there on none is left.
--- Assumes nothing.
+-- `reader::letter_of` meets its contract: below the number of codes the half byte at the place, and from there on none
+-- is left.
+use native.Mathlib.Omega.{arith}
 use borrow.Author.Needs.{needs}
-use Rattle.reader.proofs.CodeLaws.{long, letter-there, none-left}
+use Rattle.reader.proofs.CodeLaws.{count-is, letter-there, none-left}
 use Rattle.reader.proofs.letter_of.Statement.{statement}
 use Rattle.reader.proofs.letter_of.Tie as tie
-
-count-requires : tie.Need-count-requires
-count-requires c κs = search needs
 
 returns : tie.Need-returns
 returns c =
@@ -14,17 +12,7 @@ returns c =
     none-left (c .before .before .before .args .file .now) (c .before .before .before .args .at) (n .ensures .0) (c .if1 .taken)
 
 sub-part : tie.Need-sub-part
-sub-part c =
-    long (c .before .before .before .args .file .now) (rw (c .before .count .ensures .0) at (c .if1 .left))
-
-part-part-start : tie.Need-part-part-start
-part-part-start c = sub-part c
-
-part-part-end : tie.Need-part-part-end
-part-part-end c = search needs
-
-half-requires : tie.Need-half-requires
-half-requires c κs = search needs
+sub-part c = omega (arith, count-is (c .before .before .before .args .file .now), c .before .count .ensures .0)
 
 returns-2 : tie.Need-returns-2
 returns-2 c =
@@ -33,13 +21,4 @@ returns-2 c =
     rw (c .half .ensures) (letter-there (a .file .now) (a .at) (n .ensures .0) (c .before .before .if1 .left))
 
 pub letter-of-spec : {M : Type 1} → statement M
-letter-of-spec =
-    tie.close
-    (tie.spec
-    count-requires
-    returns
-    sub-part
-    part-part-start
-    part-part-end
-    half-requires
-    returns-2)
+letter-of-spec = tie.close (tie.spec (λ c κs. search needs) returns sub-part sub-part (λ c. search needs) (λ c κs. search needs) returns-2)

@@ -1,7 +1,7 @@
--- `walnut::walnut_multiply` meets its contract: a walk of its MIR, by hand. The borrow is opened, the pair is copied out, `step` is called on the copy,
--- the pair that it gives is stored back, and the borrow is closed at that pair. All that the walk knows of `step` is that it meets its contract,
--- and it names no field of the pair. Of the T-values' reference and of the letter nothing is had at exit.
--- Assumes nothing.
+-- `walnut::walnut_multiply` meets its contract: a walk of its MIR, by hand. The borrow is opened, the pair is copied
+-- out, `step` is called on the copy, the pair that it gives is stored back, and the borrow is closed at that pair. All
+-- that the walk knows of `step` is that it meets its contract, and it names no field of the pair. Of the T-values'
+-- reference and of the letter nothing is had at exit.
 use mathlib.Core.Path.{refl, ap, subst}
 use Prim.Native.Nat.{ℕ, _<_, _^_}
 use mathlib.Core.List.{[], _∷_, List}
@@ -141,7 +141,8 @@ module _ {M : Type 1} (𝓤 : URA M) (H : Heap 𝓤) (A : Atoms 𝓤) (W : Given
         move ! (13 ∷ []) $ fsplit ! $ fsplit3 ! $ drop ! $ move ! (15 ∷ []) $ split ! $ move ! (2 ∷ 3 ∷ 0 ∷ []) $
         opens ! tt T.the-row {h = h} b o (λ vs. spelt ! T.the-row (Is T.the-row) (shows 𝓤 H A T.the-row) (λ d. T′.lowered d ∷ []) (T′.lowers .val-is) fullShare h vs b o $
         move ! (1 ∷ []) $ peeks ! T.the-row (Is T.the-row) (shows 𝓤 H A T.the-row) h (T′.lowered h ∷ []) (λ was. move ! (1 ∷ 0 ∷ []) $
-        -- [the pair's cell; what it owns; the open borrow; obs; auth; the values' token; the other parameters'; _5; …; _4; …; _3; …; _2; …; _1; …; room for _0; …]
+        -- [the pair's cell; what it owns; the open borrow; obs; auth; the values' token; the other parameters'; _5; …;
+        -- _4; …; _3; …; _2; …; _1; …; room for _0; …]
         assigns ! (of-opd ! (load ! (from ! (hop ! (look ! 15 refl) (stop !))) (look-raw ! 0 refl))) (from ! (stop !)) (init ! 7 refl (typed h was)) $
         -- `step` is called on the copy
         move ! (6 ∷ []) $ owned ! T.the-row (Is T.the-row) (LL.makes T.the-type T′.the-plain 𝓤 H A) h _ was $ fjoin ! $
@@ -150,7 +151,8 @@ module _ {M : Type 1} (𝓤 : URA M) (H : Heap 𝓤) (A : Atoms 𝓤) (W : Given
         use1 W (later (some (λ (r : Stepped). ((‵ (flft κ′ q′) ⊛ ‵ ftrue) ⊛ ‵ (S.the-row .own r (u ∷ []))) ⊛ raw (ensured 𝓤 H A step.ended (step.clauses 𝓤 H A at-mem run) (κ′, tt) args tt r)))) (id⊢ 𝓤 _) $ await ! tt $ pick ! (λ r.
         split ! $ move ! (1 ∷ []) $ use1 W (raw (fact 𝓤 (Said r))) (said r) $ heard ! (Said r) (λ e. split ! $ move ! (1 ∷ []) $
         peeks ! S.the-row (Is S.the-row) (shows 𝓤 H A S.the-row) r (u ∷ []) (λ is.
-        -- [what the Stepped owns; the values' token; the pair's cell; what it owned; the open borrow; obs; auth; _5; …; _4; …; _3; …; _2; …; _1; …; room for _0; …]
+        -- [what the Stepped owns; the values' token; the pair's cell; what it owned; the open borrow; obs; auth; _5; …;
+        -- _4; …; _3; …; _2; …; _1; …; room for _0; …]
         land ! (from ! (stop !)) (init ! 9 refl (LL.lawful S.the-type S′.the-laws 𝓤 H A W .typed r _ is .0)) $
         rewrite ! 9 (λ (w : Val). ‵ (fat fullShare S′.mir l₄ 0 w)) (ap only (S′.lowers .val-is r (u ∷ []) is)) refl $
         -- its pair is stored back, and its number is the result
@@ -159,7 +161,8 @@ module _ {M : Type 1} (𝓤 : URA M) (H : Heap 𝓤) (A : Atoms 𝓤) (W : Given
         -- the borrow is closed at that pair
         move ! (3 ∷ []) $ drop ! $ owned ! T.the-row (Is T.the-row) (LL.makes T.the-type T′.the-plain 𝓤 H A) (r .pair) _ (pair-is r u is) $
         move ! (3 ∷ 0 ∷ 4 ∷ 5 ∷ 6 ∷ []) $ closes ! tt T.the-row (r .pair) (T′.lowered (r .pair) ∷ []) b o $
-        -- [obs; the borrow; its token; what the Stepped owns; the values' token; _5; …; _4; …; _3; …; _2; …; _1; …; _0; …]
+        -- [obs; the borrow; its token; what the Stepped owns; the values' token; _5; …; _4; …; _3; …; _2; …; _1; …; _0;
+        -- …]
         returns ! (look ! 15 refl) $ forget ! 5 refl $ forget ! 7 refl $ forget ! 9 refl $ forget ! 11 refl $ forget ! 13 refl $ forget ! 15 refl $
         move ! (15 ∷ 16 ∷ []) $ free1 ! $ move ! (13 ∷ 14 ∷ []) $ free1 ! $ move ! (11 ∷ 12 ∷ []) $ free1 ! $ move ! (9 ∷ 10 ∷ []) $ free1 ! $ move ! (7 ∷ 8 ∷ []) $ free1 ! $ move ! (5 ∷ 6 ∷ []) $ free1 ! $ free0 ! $
         keep ! (0 ∷ 1 ∷ 2 ∷ 4 ∷ []) $ by ! (exits r (answer-fits r u is) e)))))))))))))

@@ -1,13 +1,10 @@
--- `walnut::walnut_verify` meets its contract: it is that of the verdict. Assumes nothing.
+-- `walnut::walnut_verify` meets its contract: it is that of the verdict.
 use borrow.Author.Needs.{needs}
 use Rattle.walnut.proofs.walnut_verify.Statement.{statement}
 use Rattle.walnut.proofs.walnut_verify.Tie as tie
-
-verify-requires : tie.Need-verify-requires
-verify-requires c κs = search needs
 
 returns : tie.Need-returns
 returns c = c .verify .ensures
 
 pub walnut-verify-spec : {M : Type 1} → statement M
-walnut-verify-spec = tie.close (tie.spec verify-requires returns)
+walnut-verify-spec = tie.close (tie.spec (λ c κs. search needs) returns)

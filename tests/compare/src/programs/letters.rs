@@ -1,4 +1,5 @@
-//! The program `letters`: what it writes of a word file is what the reference reads there, by place and by its reader of words.
+//! The program `letters`: what it writes of a word file is what the reference reads there, each letter by its place and the second by its reader of
+//! words.
 
 use std::path::Path;
 
@@ -23,22 +24,17 @@ fn letter(code: Option<u8>) -> String {
     }
 }
 
-/// What the program must write. The reader of words goes on until none is left, and once more.
+/// What the program must write: every place up to the first where none is left, and the next one; and the second letter by the reader of words.
 fn expected(file: &[u8]) -> String {
     let codes: String = code_part(file).iter().map(|byte| format!(" {byte:02x}")).collect();
-    let (by_place, (_, mut reader)) = (letters(file), WordReader::open(file));
+    let by_place = letters(file);
     let mut text = format!("codes{codes}\n");
-    let mut none_left = 0;
-    for place in 0.. {
-        let read = reader.next_letter();
-        let found = by_place.get(place).copied();
-        text += &format!("place {place}{}{}\n", letter(found), letter(read));
-        none_left += usize::from(read.is_none());
-        if none_left == 2 {
-            break;
-        }
+    for place in 0..by_place.len() + 2 {
+        text += &format!("place {place}{}\n", letter(by_place.get(place).copied()));
     }
-    text + &format!("second{}\n", letter(by_place.get(1).copied()))
+    let (_, mut reader) = WordReader::open(file);
+    reader.next_letter();
+    text + &format!("second{}\n", letter(reader.next_letter()))
 }
 
 /// Runs the program on a word file.

@@ -1,15 +1,15 @@
--- `action::Pair::start` meets its contract: antt computes the definition. Assumes nothing.
-use mathlib.Core.Path.{refl}
+-- `action::Pair::start` meets its contract: antt computes the definition.
 use borrow.Author.Needs.{needs}
 use Rattle.base.specs.Lists.{valuesFrom}
-use Rattle.action.specs.Layout.{matrixOf}
-use Rattle.action.specs.Action.{identity, start}
+use Rattle.matrix.specs.Layout.{rowOf, columnOf, matrixOf}
+use Rattle.matrix.specs.Product.{identity}
+use Rattle.action.specs.Action.{start}
 use Rattle.action.proofs.Pair.start.Statement.{statement}
 use Rattle.action.proofs.Pair.start.Tie as tie
 
 returns : tie.Need-returns
-unfolding valuesFrom matrixOf identity start
-returns c = refl
+unfolding valuesFrom rowOf columnOf matrixOf identity start
+returns c = c .with .ensures
 
 pub start-spec : {M : Type 1} → statement M
 start-spec =
@@ -23,4 +23,5 @@ start-spec =
     (λ c. search needs)
     (λ c. search needs)
     (λ c. search needs)
+    (λ c κs. search needs)
     returns)

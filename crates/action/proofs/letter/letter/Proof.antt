@@ -1,22 +1,13 @@
--- `action::letter::letter` meets its contract: the rows and the labels after the letter. Assumes nothing.
-use Prim.Native.Nat.{ℕ}
-use mathlib.Core.Path.{_≡_, _∙_}
-use mathlib.Core.List.{List}
+-- `action::letter::letter` meets its contract: the rows and the labels after the letter.
+use mathlib.Core.Path.{ap₂, _∙_}
 use Rattle.action.specs.Action.{pairOf}
 use Rattle.action.proofs.CarryLaws.{column-below, letter-is}
 use borrow.Author.Needs.{needs}
 use Rattle.action.proofs.letter.letter.Statement.{statement}
 use Rattle.action.proofs.letter.letter.Tie as tie
 
--- two pairs with the same lists
-joined : {m m′ l l′ : List ℕ} → m ≡ m′ → l ≡ l′ → pairOf m l ≡ pairOf m′ l′
-joined p q = λ j. record { matrix = p j; labels = q j }
-
 taken-requires : tie.Need-taken-requires
 taken-requires c κs = column-below (c .before .args .code) (c .before .pre .1)
-
-cast-rows : tie.Need-cast-rows
-cast-rows c = search needs
 
 rows-requires : tie.Need-rows-requires
 rows-requires c κs =
@@ -32,9 +23,9 @@ returns : tie.Need-returns
 returns c =
     let b = c .before .before .before .before .before .before in
     let a = b .args in
-    joined (c .before .before .rows .ensures) (c .exchange .ensures)
+    ap₂ pairOf (c .before .before .rows .ensures) (c .exchange .ensures)
     ∙ letter-is (a .t-values .now) (a .reciprocals .now) (a .labels .now) (a .code) (b .pre .0 .reciprocals-are) (a .m .now) (b .pre .1)
     (c .before .before .before .before .taken .result) (c .before .before .before .before .taken .ensures)
 
 pub letter-spec : {M : Type 1} → statement M
-letter-spec = tie.close (tie.spec taken-requires cast-rows rows-requires exchange-requires returns)
+letter-spec = tie.close (tie.spec taken-requires (λ c. search needs) rows-requires exchange-requires returns)

@@ -1,5 +1,4 @@
 -- `action::letter::rows` meets its contract. The loop's invariant: the first r rows are changed.
--- Assumes nothing.
 use Prim.Native.Nat.{ℕ, _-_, _≤_}
 use mathlib.Core.Path.{_≡_, ap, _∙_}
 use native.Mathlib.Omega.{arith}
@@ -27,12 +26,6 @@ row-requires c κs =
     let pre = c .before .before .before .pre in
     (ap length (c .before .before .loop .inv .1) ∙ length-firstRows gf32 (shareBy gf32 (a .inverse) (a .k)) (a .g) (a .m .now) _, pre .1, omega arith, pre .2)
 
-add-r : tie.Need-add-r Inv-loop μ-loop
-add-r c = omega arith
-
-loop-less : tie.Need-loop-less Inv-loop μ-loop
-loop-less c = omega arith
-
 loop-again : tie.Need-loop-again Inv-loop μ-loop
 loop-again c =
     let l = c .before .before .before .loop in
@@ -52,4 +45,4 @@ returns c =
 
 pub rows-spec : {M : Type 1} → statement M
 rows-spec =
-    tie.close (tie.spec Inv-loop μ-loop loop-holds row-requires add-r loop-less loop-again returns)
+    tie.close (tie.spec Inv-loop μ-loop loop-holds row-requires (λ c. omega arith) (λ c. omega arith) loop-again returns)

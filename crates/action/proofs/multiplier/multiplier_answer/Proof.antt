@@ -1,78 +1,101 @@
--- `action::multiplier::multiplier_answer` meets its contract: the tests are judged in the questions' order. Assumes nothing.
-use borrow.Author.Tests.{not-true, not-false}
-use Rattle.action.proofs.MultiplierLaws.{Tested, answer-values, answer-entries, answer-4, answer-6, answer-12, answer-0}
+-- `action::multiplier::multiplier_answer` meets its contract: the tests are judged in the questions' order.
+use Prim.Native.Nat.{ℕ}
+use mathlib.Core.Path.{_≡_, sym, ap, ap₂, _∙_}
+use mathlib.Core.Bool.{Bool, _&&_}
+use mathlib.Core.List.{List}
 use borrow.Author.Needs.{needs}
+use borrow.Author.Tests.{not-true, not-false}
+use lib.ListN.{drop}
+use Rattle.base.specs.Questions.{Question, firstNo}
+use Rattle.base.proofs.QuestionLaws.{passes, fails}
+use Rattle.base.proofs.ListLaws.{and-both}
+use Rattle.action.specs.Multiplier.{elements, multiplierQuestions}
 use Rattle.action.proofs.multiplier.multiplier_answer.Statement.{statement}
 use Rattle.action.proofs.multiplier.multiplier_answer.Tie as tie
 
--- the results of the tests, once all are made
-tested : (b : tie.After-is-letter)
-    → Tested (b .before .before .before .before .before .before .before .before .before .before .before .args .pair) (b .before .before .before .before .before .before .before .before .before .before .before .args .t-values .now) (b .before .before .before .before .before .before .before .before .before .before .before .args .letter)
-    (b .before .before .before .before .before .before .before .all-elements .result) (b .before .before .before .before .before .all-elements2 .result) (b .before .before .before .all-nonzero .result) (b .before .is-order .result) (b .is-letter .result)
-tested b =
-    record {
-      values-are = b .before .before .before .before .before .before .before .all-elements .ensures;
-      entries-are = b .before .before .before .before .before .all-elements2 .ensures;
-      others-are = b .before .before .before .all-nonzero .ensures;
-      order-is = b .before .is-order .ensures;
-      letter-is = b .is-letter .ensures;
-    }
+-- the start, once all tests are made, and the questions from the k-th on
+abbrev start : tie.After-is-letter → tie.Start
+start t = t .before .before .before .before .before .before .before .before .before .before .before
 
-all-elements-requires : tie.Need-all-elements-requires
-all-elements-requires c κs = search needs
+abbrev left : tie.After-is-letter → ℕ → List Question
+left t k = let a = start t .args in drop k (multiplierQuestions (a .pair) (a .t-values .now) (a .letter))
 
-slice-aggregate-all-elements : tie.Need-slice-aggregate-all-elements
-slice-aggregate-all-elements c = search needs
+-- the tests of the first question
+values-are : (t : tie.After-is-letter) {b : Bool} → t .before .before .before .before .before .before .before .all-elements .result ≡ b
+    → elements (start t .args .t-values .now) ≡ b
+values-are t e = sym (t .before .before .before .before .before .before .before .all-elements .ensures) ∙ e
 
-all-elements-requires-2 : tie.Need-all-elements-requires-2
-all-elements-requires-2 c κs = search needs
+entries-are : (t : tie.After-is-letter) {b : Bool} → t .before .before .before .before .before .all-elements2 .result ≡ b
+    → elements (start t .args .pair .matrix) ≡ b
+entries-are t e = sym (t .before .before .before .before .before .all-elements2 .ensures) ∙ e
 
-all-nonzero-requires : tie.Need-all-nonzero-requires
-all-nonzero-requires c κs = search needs
+-- the tests, at each place
+abbrev at-3 : tie.Else2 → tie.After-is-letter
+at-3 c = c .before .before
 
-slice-aggregate-is-order : tie.Need-slice-aggregate-is-order
-slice-aggregate-is-order c = search needs
+abbrev at-4 : tie.Else3 → tie.After-is-letter
+at-4 c = at-3 (c .before)
 
-is-order-requires : tie.Need-is-order-requires
-is-order-requires c κs = search needs
+abbrev at-5 : tie.Else4 → tie.After-is-letter
+at-5 c = at-4 (c .before)
 
-is-letter-requires : tie.Need-is-letter-requires
-is-letter-requires c κs = search needs
+-- the first questions are passed
+past-1 : (c : tie.Else2) → firstNo (left (at-3 c) 0) ≡ firstNo (left (at-3 c) 1)
+past-1 c =
+    let t = at-3 c in
+    passes 17 (left t 1) (and-both (values-are t (not-false _ (c .before .if1 .left))) (entries-are t (not-false _ (c .if2 .left))))
+
+past-2 : (c : tie.Else3) → firstNo (left (at-4 c) 0) ≡ firstNo (left (at-4 c) 2)
+past-2 c =
+    let t = at-4 c in
+    past-1 (c .before) ∙ passes 4 (left t 2) (sym (t .before .before .before .all-nonzero .ensures) ∙ not-false _ (c .if3 .left))
+
+past-3 : (c : tie.Else4) → firstNo (left (at-5 c) 0) ≡ firstNo (left (at-5 c) 3)
+past-3 c =
+    let t = at-5 c in past-2 (c .before) ∙ passes 6 (left t 3) (sym (t .before .is-order .ensures) ∙ not-false _ (c .if4 .left))
 
 returns : tie.Need-returns
-returns c = answer-values (tested (c .before)) (not-true _ (c .if1 .taken))
+returns c =
+    let t = c .before in
+    sym (fails 17 (left t 1) (ap (λ (b : Bool). b && elements (start t .args .pair .matrix)) (values-are t (not-true _ (c .if1 .taken)))))
 
 returns-2 : tie.Need-returns-2
 returns-2 c =
-    answer-entries (tested (c .before .before)) (not-false _ (c .before .if1 .left)) (not-true _ (c .if2 .taken))
+    let t = c .before .before in
+    sym (fails 17 (left t 1) (ap₂ _&&_ (values-are t (not-false _ (c .before .if1 .left))) (entries-are t (not-true _ (c .if2 .taken)))))
 
 returns-3 : tie.Need-returns-3
 returns-3 c =
-    answer-4 (tested (c .before .before .before)) (not-false _ (c .before .before .if1 .left)) (not-false _ (c .before .if2 .left)) (not-true _ (c .if3 .taken))
+    let t = at-3 (c .before) in
+    sym (past-1 (c .before) ∙ fails 4 (left t 2) (sym (t .before .before .before .all-nonzero .ensures) ∙ not-true _ (c .if3 .taken)))
 
 returns-4 : tie.Need-returns-4
 returns-4 c =
-    answer-6 (tested (c .before .before .before .before)) (not-false _ (c .before .before .before .if1 .left)) (not-false _ (c .before .before .if2 .left)) (not-false _ (c .before .if3 .left)) (not-true _ (c .if4 .taken))
+    let t = at-4 (c .before) in
+    sym (past-2 (c .before) ∙ fails 6 (left t 3) (sym (t .before .is-order .ensures) ∙ not-true _ (c .if4 .taken)))
 
 returns-5 : tie.Need-returns-5
 returns-5 c =
-    answer-12 (tested (c .before .before .before .before .before)) (not-false _ (c .before .before .before .before .if1 .left)) (not-false _ (c .before .before .before .if2 .left)) (not-false _ (c .before .before .if3 .left)) (not-false _ (c .before .if4 .left)) (not-true _ (c .if5 .taken))
+    let t = at-5 (c .before) in
+    sym (past-3 (c .before) ∙ fails 12 (left t 4) (sym (t .is-letter .ensures) ∙ not-true _ (c .if5 .taken)))
 
 returns-6 : tie.Need-returns-6
+unfolding firstNo
 returns-6 c =
-    answer-0 (tested (c .before .before .before .before .before)) (not-false _ (c .before .before .before .before .if1 .left)) (not-false _ (c .before .before .before .if2 .left)) (not-false _ (c .before .before .if3 .left)) (not-false _ (c .before .if4 .left)) (not-false _ (c .if5 .left))
+    let t = at-5 (c .before) in
+    sym (past-3 (c .before) ∙ passes 12 (left t 4) (sym (t .is-letter .ensures) ∙ not-false _ (c .if5 .left)))
 
 pub multiplier-answer-spec : {M : Type 1} → statement M
 multiplier-answer-spec =
     tie.close
     (tie.spec
-    all-elements-requires
-    slice-aggregate-all-elements
-    all-elements-requires-2
-    all-nonzero-requires
-    slice-aggregate-is-order
-    is-order-requires
-    is-letter-requires
+    (λ c κs. search needs)
+    (λ c. search needs)
+    (λ c κs. search needs)
+    (λ c κs. search needs)
+    (λ c. search needs)
+    (λ c κs. search needs)
+    (λ c κs. search needs)
     returns
     returns-2
     returns-3

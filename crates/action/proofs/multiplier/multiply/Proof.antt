@@ -1,20 +1,14 @@
--- `action::multiplier::multiply` meets its contract. Assumes nothing.
+-- `action::multiplier::multiply` meets its contract.
 use mathlib.Core.Path.{sym, _∙_}
 use Rattle.action.proofs.MultiplierLaws.{refused, multiplied, granted-letter}
 use borrow.Author.Needs.{needs}
 use Rattle.action.proofs.multiplier.multiply.Statement.{statement}
 use Rattle.action.proofs.multiplier.multiply.Tie as tie
 
-multiplier-answer-requires : tie.Need-multiplier-answer-requires
-multiplier-answer-requires c κs = search needs
-
-zero-pair-requires : tie.Need-zero-pair-requires
-zero-pair-requires c κs = search needs
-
 returns : tie.Need-returns
 returns c =
     let a = c .before .before .before .args in
-    refused (a .pair) (a .t-values .now) (a .letter) (c .before .before .multiplier-answer .ensures) (c .before .if1 .taken) (c .zero-pair .ensures)
+    refused (a .pair) (a .t-values .now) (a .letter) (c .before .before .multiplier-answer .ensures) (c .before .if1 .taken) (c .zeros .ensures)
 
 one-letter-requires : tie.Need-one-letter-requires
 one-letter-requires c κs =
@@ -29,4 +23,4 @@ returns-2 c =
 pub multiply-spec : {M : Type 1} → statement M
 multiply-spec =
     tie.close
-    (tie.spec multiplier-answer-requires zero-pair-requires returns one-letter-requires returns-2)
+    (tie.spec (λ c κs. search needs) (λ c κs. search needs) returns one-letter-requires returns-2)

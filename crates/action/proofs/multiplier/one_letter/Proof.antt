@@ -1,4 +1,4 @@
--- `action::multiplier::one_letter` meets its contract: the packed word of one letter. Assumes nothing.
+-- `action::multiplier::one_letter` meets its contract: the packed word of one letter.
 use Prim.Native.Nat.{_*_}
 use mathlib.Core.Path.{_∙_}
 use mathlib.Core.List.{[], _∷_}
@@ -15,12 +15,6 @@ use Rattle.action.proofs.multiplier.one_letter.Tie as tie
 mul-t5 : tie.Need-mul-t5
 mul-t5 c = omega (arith, code-fits (c .args .letter) (c .pre))
 
-slice-aggregate-carry : tie.Need-slice-aggregate-carry
-slice-aggregate-carry c = search needs
-
-carry-requires : tie.Need-carry-requires
-carry-requires c κs = search needs
-
 returns : tie.Need-returns
 returns c =
     let s = c .before .before in
@@ -30,4 +24,4 @@ returns c =
     ∙ one-word (a .t-values .now) (a .letter) (a .pair)
 
 pub one-letter-spec : {M : Type 1} → statement M
-one-letter-spec = tie.close (tie.spec mul-t5 slice-aggregate-carry carry-requires returns)
+one-letter-spec = tie.close (tie.spec mul-t5 (λ c. search needs) (λ c κs. search needs) returns)

@@ -1,5 +1,5 @@
--- `action::word::carry` meets its contract: where a code is no letter the test fails and the pair stays; where each is one, they are multiplied.
--- Assumes nothing.
+-- `action::word::carry` meets its contract: where a code is no letter the test fails and the pair stays; where each is
+-- one, they are multiplied.
 use Prim.Native.Nat.{ℕ}
 use mathlib.Core.Path.{_≡_, sym, ap, _∙_}
 use mathlib.Core.Bool.{Bool}
@@ -27,25 +27,10 @@ sizes c =
     let fields = c .good .0 .1 .1 in
     (sym (length-map (c .args .pair .matrix) (λ v. v)) ∙ fields .0 .1 .0 .1, sym (length-map (c .args .pair .labels) (λ v. v)) ∙ fields .1 .0 .1 .0 .1)
 
-codes-in-requires : tie.Need-codes-in-requires
-codes-in-requires c κs = search needs
-
-all-letters-requires : tie.Need-all-letters-requires
-all-letters-requires c κs = search needs
-
 returns : tie.Need-returns
 returns c =
     let a = c .before .before .before .before .args in
     sym (codes-none gf32 (a .t-values .now) (take (a .n) (halves (a .part .now))) (a .pair) (tested (c .before) _ (not-true _ (c .if1 .taken))))
-
-table-requires : tie.Need-table-requires
-table-requires c κs = search needs
-
-by-label-requires : tie.Need-by-label-requires
-by-label-requires c κs = search needs
-
-reciprocals-by-label-requires : tie.Need-reciprocals-by-label-requires
-reciprocals-by-label-requires c κs = search needs
 
 letters-requires : tie.Need-letters-requires
 letters-requires c κs =
@@ -67,12 +52,14 @@ letters-requires c κs =
 
 returns-2 : tie.Need-returns-2
 returns-2 c =
-    let v = c .before .before .before .before .before .before .before .before .before .before in
+    let done = c .before in
+    let v = done .before .before .before .before .before .before .before .before .before .before in
     let passed = v .before .before .before in
     let test = passed .before in
     let a = test .before .before .before .args in
     let codes = take (a .n) (halves (a .part .now)) in
-    c .letters .ensures
+    c .with .ensures
+    ∙ done .letters .ensures
     ∙ ap (λ (w : List ℕ). wordOn gf32 (v .by-label .result) w (a .pair)) (test .before .codes-in .ensures .1)
     ∙ word-values gf32 (v .by-label .result) (a .t-values .now) (v .by-label .ensures) codes (a .pair)
     ∙ sym (codes-word gf32 (a .t-values .now) codes (a .pair) (tested test _ (not-false _ (passed .if1 .left))))
@@ -81,11 +68,12 @@ pub carry-spec : {M : Type 1} → statement M
 carry-spec =
     tie.close
     (tie.spec
-    codes-in-requires
-    all-letters-requires
+    (λ c κs. search needs)
+    (λ c κs. search needs)
     returns
-    table-requires
-    by-label-requires
-    reciprocals-by-label-requires
+    (λ c κs. search needs)
+    (λ c κs. search needs)
+    (λ c κs. search needs)
     letters-requires
+    (λ c κs. search needs)
     returns-2)

@@ -1,4 +1,4 @@
--- `action::word::codes_in` meets its contract. Assumes nothing.
+-- `action::word::codes_in` meets its contract.
 use Prim.Native.Nat.{_*_}
 use mathlib.Core.Path.{sym, _∙_}
 use native.Mathlib.Omega.{arith}
@@ -10,12 +10,6 @@ use borrow.Author.Needs.{needs}
 use Rattle.action.proofs.word.codes_in.Statement.{statement}
 use Rattle.action.proofs.word.codes_in.Tie as tie
 
-mul-all : tie.Need-mul-all
-mul-all c = search needs
-
-returns : tie.Need-returns
-returns c = search needs
-
 returns-2 : tie.Need-returns-2
 returns-2 c =
     let a = c .before .args in
@@ -23,4 +17,4 @@ returns-2 c =
     (omega arith, take-all (2 * length (a .part .now)) (halves (a .part .now)) (omega arith) ∙ sym (take-all (a .n) (halves (a .part .now)) (omega arith)))
 
 pub codes-in-spec : {M : Type 1} → statement M
-codes-in-spec = tie.close (tie.spec mul-all returns returns-2)
+codes-in-spec = tie.close (tie.spec (λ c. search needs) (λ c. search needs) returns-2)

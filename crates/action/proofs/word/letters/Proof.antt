@@ -1,5 +1,5 @@
--- `action::word::letters` meets its contract. The loop's invariant: the letters from i on, on the pair so far, do what all do on the first pair.
--- Assumes nothing.
+-- `action::word::letters` meets its contract. The loop's invariant: the letters from i on, on the pair so far, do what
+-- all do on the first pair.
 use Prim.Native.Nat.{ℕ, _-_, _≤_}
 use mathlib.Core.Path.{_≡_, refl, sym, ap, _∙_}
 use native.Mathlib.Omega.{arith}
@@ -25,20 +25,11 @@ abbrev μ-loop : tie.MeasureT-loop
 loop-holds : tie.Need-loop-holds Inv-loop μ-loop
 loop-holds c = (omega arith, c .before .pre .0, refl)
 
-half-requires : tie.Need-half-requires Inv-loop μ-loop
-half-requires c κs = search needs
-
 letter-requires : tie.Need-letter-requires Inv-loop μ-loop
 letter-requires c κs =
     let l = c .before .before .before .before .loop in
     let b = c .before .before .before .before .before .before in
     (l .inv .1, code-letter (b .args .part .now) (b .args .n) (b .pre .1) (l .i) (b .pre .2) (omega arith) (c .before .before .half .ensures))
-
-add-i : tie.Need-add-i Inv-loop μ-loop
-add-i c = omega arith
-
-loop-less : tie.Need-loop-less Inv-loop μ-loop
-loop-less c = omega arith
 
 loop-again : tie.Need-loop-again Inv-loop μ-loop
 loop-again c =
@@ -74,9 +65,9 @@ letters-spec =
     Inv-loop
     μ-loop
     loop-holds
-    half-requires
+    (λ c κs. search needs)
     letter-requires
-    add-i
-    loop-less
+    (λ c. omega arith)
+    (λ c. omega arith)
     loop-again
     returns)

@@ -1,6 +1,5 @@
--- `braid::read::all_letters` meets its contract: the first n half bytes are those of the first n / 2 bytes, or of all if there are fewer, and
--- one more where n is odd.
--- Assumes nothing.
+-- `braid::read::all_letters` meets its contract: the first n half bytes are those of the first n / 2 bytes, or of all
+-- if there are fewer, and one more where n is odd.
 use Prim.Native.Nat.{ℕ, _+_, _*_, _-_, _/_, _≤_}
 use mathlib.Core.Path.{_≡_, refl, sym, ap, ap₂, _∙_}
 use mathlib.Core.Bool.{Bool, _&&_}
@@ -41,15 +40,6 @@ returns c =
     c .before .whole-letters .ensures
     ∙ ap (every isLetter) (first (c .before .before) ∙ ap (λ (j : ℕ). take j (halves (a .part .now))) e)
 
-sub-half : tie.Need-sub-half
-sub-half c = search needs
-
-half-requires : tie.Need-half-requires
-half-requires c κs = search needs
-
-is-letter-requires : tie.Need-is-letter-requires
-is-letter-requires c κs = search needs
-
 returns-2 : tie.Need-returns-2
 returns-2 c =
     let w = c .before .before .before in
@@ -64,6 +54,4 @@ returns-2 c =
     ∙ ap (λ (j : ℕ). every isLetter (take j hs)) all
 
 pub all-letters-spec : {M : Type 1} → statement M
-all-letters-spec =
-    tie.close
-    (tie.spec whole-letters-requires returns sub-half half-requires is-letter-requires returns-2)
+all-letters-spec = tie.close (tie.spec whole-letters-requires returns (λ c. search needs) (λ c κs. search needs) (λ c κs. search needs) returns-2)

@@ -1,5 +1,4 @@
 -- `braid::read::both_letters` meets its contract: a half byte is no letter where its last three bits are ones.
--- Assumes nothing.
 use native.Mathlib.Omega.{arith}
 use Rattle.braid.proofs.LetterLaws.{byte-letters}
 use Rattle.braid.proofs.read.both_letters.Statement.{statement}

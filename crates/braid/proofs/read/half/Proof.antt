@@ -1,5 +1,5 @@
--- `braid::read::half` meets its contract: at an even place the high half of the byte, at an odd place the low half, past the end 0.
--- Assumes nothing.
+-- `braid::read::half` meets its contract: at an even place the high half of the byte, at an odd place the low half,
+-- past the end 0.
 use Prim.Native.Nat.{_≤_}
 use mathlib.Core.Path.{sym}
 use native.Mathlib.Omega.{arith}
@@ -16,16 +16,10 @@ returns c =
     let l : length (halves (a .bytes .now)) ≤ a .k = omega (arith, length-halves (a .bytes .now)) in
     sym (List·getD-eq-default (halves (a .bytes .now)) 0 l)
 
-shared-slice-read-result : tie.Need-shared-slice-read-result
-shared-slice-read-result c = search needs
-
 returns-2 : tie.Need-returns-2
 returns-2 c =
     let a = c .before .before .before .args in
     sym (half-even (a .bytes .now) (a .k) (omega arith))
-
-shared-slice-read-result-2 : tie.Need-shared-slice-read-result-2
-shared-slice-read-result-2 c = search needs
 
 returns-3 : tie.Need-returns-3
 returns-3 c =
@@ -33,6 +27,4 @@ returns-3 c =
     sym (half-odd (a .bytes .now) (a .k) (omega arith))
 
 pub half-spec : {M : Type 1} → statement M
-half-spec =
-    tie.close
-    (tie.spec returns shared-slice-read-result returns-2 shared-slice-read-result-2 returns-3)
+half-spec = tie.close (tie.spec returns (λ c. search needs) returns-2 (λ c. search needs) returns-3)

@@ -1,5 +1,4 @@
 -- `braid::read::is_filled` meets its contract: at most one half byte is left, and past the end stands 0.
--- Assumes nothing.
 use Prim.Native.Nat.{ℕ, _+_, _≤_}
 use mathlib.Core.Path.{refl, sym, ap, _∙_}
 use native.Mathlib.Omega.{arith}
@@ -12,9 +11,6 @@ use Rattle.base.proofs.DigitLaws.{length-halves}
 use Rattle.braid.proofs.read.is_filled.Statement.{statement}
 use Rattle.braid.proofs.read.is_filled.Tie as tie
 
-half-requires : tie.Need-half-requires
-half-requires c κs = search needs
-
 returns : tie.Need-returns
 returns c =
     let a = c .before .before .args in
@@ -23,4 +19,4 @@ returns c =
     ap (λ (h : ℕ). eqb h 0) (c .half .ensures) ∙ sym (every-last (λ h. eqb h 0) refl hs (a .n) l)
 
 pub is-filled-spec : {M : Type 1} → statement M
-is-filled-spec = tie.close (tie.spec half-requires returns)
+is-filled-spec = tie.close (tie.spec (λ c κs. search needs) returns)

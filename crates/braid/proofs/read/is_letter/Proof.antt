@@ -1,5 +1,4 @@
 -- `braid::read::is_letter` meets its contract, on each of its ways.
--- Assumes nothing.
 use borrow.Author.Tests.{le-leb, lt-leb}
 use Rattle.braid.proofs.read.is_letter.Statement.{statement}
 use Rattle.braid.proofs.read.is_letter.Tie as tie

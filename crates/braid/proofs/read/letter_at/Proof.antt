@@ -1,26 +1,14 @@
--- `braid::read::letter_at` meets its contract: below the number of letters the half byte at the place, and from there on none is left.
--- Assumes nothing.
+-- `braid::read::letter_at` meets its contract: below the number of letters the half byte at the place, and from there
+-- on none is left.
 use borrow.Author.Needs.{needs}
-use Rattle.braid.proofs.ReadLaws.{some-letter, accepted-long, letter-there, none-left}
+use Rattle.braid.proofs.ReadLaws.{some-letter, accepted-word, letter-there, none-left}
 use Rattle.braid.proofs.read.letter_at.Statement.{statement}
 use Rattle.braid.proofs.read.letter_at.Tie as tie
-
-read-word-requires : tie.Need-read-word-requires
-read-word-requires c κs = search needs
 
 sub-part : tie.Need-sub-part
 sub-part c =
     let a = c .before .before .before .before .args in
-    accepted-long (a .file .now) (some-letter (a .file .now) (a .place) (c .before .before .read-word .ensures) (c .if1 .taken))
-
-part-part-start : tie.Need-part-part-start
-part-part-start c = sub-part c
-
-part-part-end : tie.Need-part-part-end
-part-part-end c = search needs
-
-half-requires : tie.Need-half-requires
-half-requires c κs = search needs
+    accepted-word (a .file .now) (some-letter (a .file .now) (a .place) (c .before .before .read-word .ensures) (c .if1 .taken)) .long
 
 returns : tie.Need-returns
 returns c =
@@ -33,13 +21,4 @@ returns-2 c =
     none-left (a .file .now) (a .place) (c .before .before .read-word .ensures) (c .if1 .left)
 
 pub letter-at-spec : {M : Type 1} → statement M
-letter-at-spec =
-    tie.close
-    (tie.spec
-    read-word-requires
-    sub-part
-    part-part-start
-    part-part-end
-    half-requires
-    returns
-    returns-2)
+letter-at-spec = tie.close (tie.spec (λ c κs. search needs) sub-part sub-part (λ c. search needs) (λ c κs. search needs) returns returns-2)

@@ -1,24 +1,21 @@
--- `braid::read::read_word` meets its contract: no letters on a refusal, and the number that the file states where it is accepted.
--- Assumes nothing.
+-- `braid::read::read_word` meets its contract: no letters on a refusal, and the number that the file states where it is
+-- accepted.
 use mathlib.Core.Path.{sym, _∙_}
 use borrow.Author.Needs.{needs}
-use Rattle.braid.proofs.ReadLaws.{refused, accepted, accepted-long}
+use Rattle.braid.proofs.ReadLaws.{read-refused, read-accepted, accepted-word}
 use Rattle.braid.proofs.read.read_word.Statement.{statement}
 use Rattle.braid.proofs.read.read_word.Tie as tie
 
-word-answer-requires : tie.Need-word-answer-requires
-word-answer-requires c κs = search needs
-
 returns : tie.Need-returns
-returns c = refused (c .before .before .before .args .file .now) _ (sym (c .before .word-answer .ensures)) (c .if1 .taken)
+returns c = read-refused (c .before .before .before .args .file .now) _ (sym (c .before .word-answer .ensures)) (c .if1 .taken)
 
 number-requires : tie.Need-number-requires
-number-requires c κs = accepted-long (c .before .before .before .args .file .now) (sym (c .before .word-answer .ensures) ∙ c .if1 .left)
+number-requires c κs = accepted-word (c .before .before .before .args .file .now) (sym (c .before .word-answer .ensures) ∙ c .if1 .left) .long
 
 returns-2 : tie.Need-returns-2
 returns-2 c =
-    accepted (c .before .before .before .before .args .file .now) (sym (c .before .before .word-answer .ensures) ∙ c .before .if1 .left) _
+    read-accepted (c .before .before .before .before .args .file .now) (sym (c .before .before .word-answer .ensures) ∙ c .before .if1 .left) _
     (c .number .ensures)
 
 pub read-word-spec : {M : Type 1} → statement M
-read-word-spec = tie.close (tie.spec word-answer-requires returns number-requires returns-2)
+read-word-spec = tie.close (tie.spec (λ c κs. search needs) returns number-requires returns-2)

@@ -1,5 +1,5 @@
--- `braid::read::whole_letters` meets its contract. The loop's invariant: the flag tells whether every half byte of the first k bytes is a letter.
--- Assumes nothing.
+-- `braid::read::whole_letters` meets its contract. The loop's invariant: the flag tells whether every half byte of the
+-- first k bytes is a letter.
 use Prim.Native.Nat.{ℕ, _*_, _-_, _≤_}
 use mathlib.Core.Path.{_≡_, refl, sym, ap, ap₂, _∙_}
 use mathlib.Core.Bool.{Bool, _&&_}
@@ -22,18 +22,6 @@ loop-holds : tie.Need-loop-holds Inv-loop μ-loop
 unfolding every
 loop-holds c = (omega arith, refl)
 
-shared-slice-read-both-letters : tie.Need-shared-slice-read-both-letters Inv-loop μ-loop
-shared-slice-read-both-letters c = omega arith
-
-both-letters-requires : tie.Need-both-letters-requires Inv-loop μ-loop
-both-letters-requires c κs = tt
-
-add-k : tie.Need-add-k Inv-loop μ-loop
-add-k c = omega arith
-
-loop-less : tie.Need-loop-less Inv-loop μ-loop
-loop-less c = omega arith
-
 loop-again : tie.Need-loop-again Inv-loop μ-loop
 loop-again c =
     let l = c .before .before .before in
@@ -49,14 +37,4 @@ returns c =
 
 pub whole-letters-spec : {M : Type 1} → statement M
 whole-letters-spec =
-    tie.close
-    (tie.spec
-    Inv-loop
-    μ-loop
-    loop-holds
-    shared-slice-read-both-letters
-    both-letters-requires
-    add-k
-    loop-less
-    loop-again
-    returns)
+    tie.close (tie.spec Inv-loop μ-loop loop-holds (λ c. omega arith) (λ c κs. tt) (λ c. omega arith) (λ c. omega arith) loop-again returns)

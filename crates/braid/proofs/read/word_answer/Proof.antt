@@ -1,119 +1,98 @@
--- `braid::read::word_answer` meets its contract: one step of the questions for each test of the code.
--- Assumes nothing.
-use mathlib.Core.Path.{_≡_, sym, _∙_}
+-- `braid::read::word_answer` meets its contract: one question after another. `past-k`: the first k questions are
+-- passed, so the answer is that of the rest.
+use Prim.Native.Nat.{ℕ}
+use mathlib.Core.Path.{_≡_, sym, ap, _∙_}
 use mathlib.Core.Bool.{Bool}
+use mathlib.Core.List.{List}
 use native.Mathlib.Omega.{arith}
 use borrow.Author.Needs.{needs}
-use borrow.Author.Tests.{not-true, not-false}
+use borrow.Author.Tests.{le-leb, lt-leb, eq-eqb, ne-eqb, not-true, not-false}
 use lib.Dec.{eqb}
-use Rattle.base.specs.Questions.{firstNo}
+use lib.ListN.{length, drop}
+use Rattle.base.specs.Questions.{Question, firstNo}
 use Rattle.base.specs.Lists.{every}
+use Rattle.base.proofs.QuestionLaws.{passes, fails}
 use Rattle.braid.specs.Letters.{isLetter}
-use Rattle.braid.specs.Words.{codes, filler, wordAnswer}
-use Rattle.braid.proofs.ReadLaws.{left, yes-9, no-9, yes-10, no-10, yes-11, no-11, yes-12, no-12, yes-13, no-13, codes-test, filler-test}
+use Rattle.braid.specs.Words.{stated, needed, codes, filler, wordQuestions, wordAnswer}
+use Rattle.braid.proofs.ReadLaws.{codes-there, filler-there}
 use Rattle.braid.proofs.read.word_answer.Statement.{statement}
 use Rattle.braid.proofs.read.word_answer.Tie as tie
 
--- questions 9 to 11 are passed
-asked-11 : (c : tie.Else3)
-    → let f = c .before .before .before .before .before .args .file .now in wordAnswer f ≡ firstNo (left 3 f)
-asked-11 c =
-    let f = c .before .before .before .before .before .args .file .now in
-    yes-9 f (c .before .before .before .if1 .left) ∙ yes-10 f (omega arith) ∙ yes-11 f (omega arith)
+-- the file, and its questions from the k-th on, counted from 0
+abbrev file : tie.Start → List ℕ
+file s = s .args .file .now
+
+abbrev rest : ℕ → tie.Start → List Question
+rest k s = drop k (wordQuestions (file s))
+
+abbrev at-1 : tie.Else1 → tie.Start
+at-1 c = c .before .before
+
+abbrev at-2 : tie.Else2 → tie.Start
+at-2 c = at-1 (c .before .before)
+
+abbrev at-3 : tie.Else3 → tie.Start
+at-3 c = at-2 (c .before)
+
+abbrev at-filled : tie.After-is-filled → tie.Start
+at-filled c = at-3 (c .before .before .before)
 
 -- what the two tests of the half bytes tell of the file
-lettered : (c : tie.After-is-filled) (b : Bool) → c .before .all-letters .result ≡ b
-    → every isLetter (codes (c .before .before .before .before .before .before .before .before .args .file .now)) ≡ b
-lettered c b =
+lettered : (c : tie.After-is-filled) (b : Bool) → c .before .all-letters .result ≡ b → every isLetter (codes (file (at-filled c))) ≡ b
+lettered c b e =
     let n = c .before .before .before .before .before .number in
-    codes-test (c .before .before .before .before .before .before .before .before .args .file .now) (n .result) (n .ensures)
-    (c .before .all-letters .ensures)
+    ap (every isLetter) (sym (codes-there (file (at-filled c)) (n .ensures))) ∙ sym (c .before .all-letters .ensures) ∙ e
 
-filled : (c : tie.After-is-filled) (b : Bool) → c .is-filled .result ≡ b
-    → every (λ h. eqb h 0) (filler (c .before .before .before .before .before .before .before .before .args .file .now)) ≡ b
-filled c b =
+filled : (c : tie.After-is-filled) (b : Bool) → c .is-filled .result ≡ b → every (λ h. eqb h 0) (filler (file (at-filled c))) ≡ b
+filled c b e =
     let n = c .before .before .before .before .before .number in
-    filler-test (c .before .before .before .before .before .before .before .before .args .file .now) (n .result) (n .ensures)
-    (c .is-filled .ensures)
+    ap (every (λ h. eqb h 0)) (sym (filler-there (file (at-filled c)) (n .ensures))) ∙ sym (c .is-filled .ensures) ∙ e
 
--- question 12 is passed too
-asked-12 : (c : tie.Else4)
-    → let f = c .before .before .before .before .before .before .before .before .before .args .file .now in wordAnswer f ≡ firstNo (left 4 f)
-asked-12 c =
-    let f = c .before .before .before .before .before .before .before .before .before .args .file .now in
-    asked-11 (c .before .before .before .before) ∙ yes-12 f (lettered (c .before) _ (not-false _ (c .if4 .left)))
+past-1 : (c : tie.Else1) → wordAnswer (file (at-1 c)) ≡ firstNo (rest 1 (at-1 c))
+unfolding wordAnswer
+past-1 c = passes 9 (rest 1 (at-1 c)) (le-leb 2 (length (file (at-1 c))) (c .if1 .left))
+
+past-2 : (c : tie.Else2) → wordAnswer (file (at-2 c)) ≡ firstNo (rest 2 (at-2 c))
+past-2 c = past-1 (c .before .before) ∙ passes 10 (rest 2 (at-2 c)) (le-leb (stated (file (at-2 c))) 10000 (omega arith))
+
+past-3 : (c : tie.Else3) → wordAnswer (file (at-3 c)) ≡ firstNo (rest 3 (at-3 c))
+past-3 c =
+    past-2 (c .before)
+    ∙ passes 11 (rest 3 (at-3 c)) (eq-eqb (length (file (at-3 c))) (needed (stated (file (at-3 c)))) (omega arith))
+
+past-4 : (c : tie.Else4) → wordAnswer (file (at-filled (c .before))) ≡ firstNo (rest 4 (at-filled (c .before)))
+past-4 c = past-3 (c .before .before .before .before) ∙ passes 12 (rest 4 (at-filled (c .before))) (lettered (c .before) _ (not-false _ (c .if4 .left)))
 
 returns : tie.Need-returns
-returns c = sym (no-9 (c .before .before .args .file .now) (c .if1 .taken))
-
-number-requires : tie.Need-number-requires
-number-requires c κs = search needs
+unfolding wordAnswer
+returns c = let s = c .before .before in sym (fails 9 (rest 1 s) (lt-leb 2 (length (file s)) (c .if1 .taken)))
 
 returns-2 : tie.Need-returns-2
 returns-2 c =
-    let f = c .before .before .before .before .args .file .now in
-    sym (yes-9 f (c .before .before .if1 .left) ∙ no-10 f (omega arith))
-
-add-if3 : tie.Need-add-if3
-add-if3 c = search needs
-
-add-if3-2 : tie.Need-add-if3-2
-add-if3-2 c = search needs
+    let s = at-1 (c .before .before) in
+    sym (past-1 (c .before .before) ∙ fails 10 (rest 2 s) (lt-leb (stated (file s)) 10000 (omega arith)))
 
 returns-3 : tie.Need-returns-3
 returns-3 c =
-    let f = c .before .before .before .before .before .args .file .now in
+    let s = at-2 (c .before) in
     let n = c .before .before .number in
-    sym
-    (yes-9 f (c .before .before .before .if1 .left)
-    ∙ yes-10 f (omega arith)
-    ∙ no-11 f (λ e. c .if3 .taken (rw (n .ensures) e)))
-
-sub-part : tie.Need-sub-part
-sub-part c = search needs
-
-part-part-start : tie.Need-part-part-start
-part-part-start c = search needs
-
-part-part-end : tie.Need-part-part-end
-part-part-end c = search needs
-
-all-letters-requires : tie.Need-all-letters-requires
-all-letters-requires c κs = search needs
-
-is-filled-requires : tie.Need-is-filled-requires
-is-filled-requires c κs = search needs
+    sym (past-2 (c .before) ∙ fails 11 (rest 3 s) (ne-eqb (length (file s)) (needed (stated (file s))) (λ e. c .if3 .taken (rw (n .ensures) e))))
 
 returns-4 : tie.Need-returns-4
 returns-4 c =
-    let f = c .before .before .before .before .before .before .before .before .before .args .file .now in
-    sym (asked-11 (c .before .before .before .before) ∙ no-12 f (lettered (c .before) _ (not-true _ (c .if4 .taken))))
+    sym
+    (past-3 (c .before .before .before .before)
+    ∙ fails 12 (rest 4 (at-filled (c .before))) (lettered (c .before) _ (not-true _ (c .if4 .taken))))
 
 returns-5 : tie.Need-returns-5
-returns-5 c =
-    let f = c .before .before .before .before .before .before .before .before .before .before .args .file .now in
-    sym (asked-12 (c .before) ∙ no-13 f (filled (c .before .before) _ (not-true _ (c .if5 .taken))))
+returns-5 c = sym (past-4 (c .before) ∙ fails 13 (rest 5 (at-filled (c .before .before))) (filled (c .before .before) _ (not-true _ (c .if5 .taken))))
 
 returns-6 : tie.Need-returns-6
-returns-6 c =
-    let f = c .before .before .before .before .before .before .before .before .before .before .args .file .now in
-    sym (asked-12 (c .before) ∙ yes-13 f (filled (c .before .before) _ (not-false _ (c .if5 .left))))
+unfolding firstNo
+returns-6 c = sym (past-4 (c .before) ∙ passes 13 (rest 5 (at-filled (c .before .before))) (filled (c .before .before) _ (not-false _ (c .if5 .left))))
 
 pub word-answer-spec : {M : Type 1} → statement M
 word-answer-spec =
     tie.close
-    (tie.spec
-    returns
-    number-requires
-    returns-2
-    add-if3
-    add-if3-2
-    returns-3
-    sub-part
-    part-part-start
-    part-part-end
-    all-letters-requires
-    is-filled-requires
-    returns-4
-    returns-5
-    returns-6)
+    (tie.spec returns (λ c κs. search needs) returns-2 (λ c. search needs) (λ c. search needs) returns-3 (λ c. search needs) (λ c. search needs)
+    (λ c. search needs) (λ c κs. search needs) (λ c κs. search needs) returns-4 returns-5 returns-6)

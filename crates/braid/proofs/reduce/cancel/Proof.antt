@@ -1,5 +1,5 @@
--- `braid::reduce::cancel` meets its contract. The loop's invariant: the stack's first elements are the freely reduced word of the letters that
--- have come. Assumes nothing.
+-- `braid::reduce::cancel` meets its contract. The loop's invariant: the stack's first elements are the freely reduced
+-- word of the letters that have come.
 use Prim.Native.Nat.{ℕ, _-_, _≤_}
 use mathlib.Core.Path.{_≡_, refl, sym, ap, ap₂, _∙_}
 use mathlib.Core.List.{List, [], _∷_, _++_}
@@ -27,9 +27,6 @@ loop-holds : tie.Need-loop-holds Inv-loop μ-loop
 unfolding reduced
 loop-holds c = (omega arith, omega arith, refl, refl)
 
-half-requires : tie.Need-half-requires Inv-loop μ-loop
-half-requires c κs = tt
-
 push-requires : tie.Need-push-requires Inv-loop μ-loop
 push-requires c κs =
     let l = c .before .before .before .loop in
@@ -37,12 +34,6 @@ push-requires c κs =
     let w = take (a .args .n) (halves (a .args .part .now)) in
     let letters = every-take isLetter (l .k) w (a .pre .2) in
     (omega arith, rw (l .inv .3) (reduced-irreducible (take (l .k) w)), rw (l .inv .3) (reduced-lettered (take (l .k) w) letters))
-
-add-k : tie.Need-add-k Inv-loop μ-loop
-add-k c = omega arith
-
-loop-less : tie.Need-loop-less Inv-loop μ-loop
-loop-less c = omega arith
 
 loop-again : tie.Need-loop-again Inv-loop μ-loop
 loop-again c =
@@ -73,15 +64,4 @@ returns c =
 
 pub cancel-spec : {M : Type 1} → statement M
 cancel-spec =
-    tie.close
-    (tie.spec
-    Inv-loop
-    μ-loop
-    loop-holds
-    half-requires
-    push-requires
-    add-k
-    loop-less
-    loop-again
-    same-length
-    returns)
+    tie.close (tie.spec Inv-loop μ-loop loop-holds (λ c κs. tt) push-requires (λ c. omega arith) (λ c. omega arith) loop-again same-length returns)

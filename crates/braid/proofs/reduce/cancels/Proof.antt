@@ -1,4 +1,4 @@
--- `braid::reduce::cancels` meets its contract: there is a last letter, and the letter is its inverse. Assumes nothing.
+-- `braid::reduce::cancels` meets its contract: there is a last letter, and the letter is its inverse.
 use Prim.Native.Nat.{_<_, _-_}
 use mathlib.Core.Path.{sym, ap, _∙_}
 use mathlib.Core.Bool.{Bool, _&&_}
@@ -7,30 +7,21 @@ use borrow.Author.Needs.{needs}
 use borrow.Author.Tests.{lt-ltb, le-ltb}
 use lib.Dec.{eqb}
 use lib.ListN.{getD}
-use Rattle.braid.specs.Letters.{opposite}
+use Rattle.braid.specs.Letters.{inverse}
 use Rattle.braid.proofs.reduce.cancels.Statement.{statement}
 use Rattle.braid.proofs.reduce.cancels.Tie as tie
 
 returns : tie.Need-returns
 returns c =
     let a = c .before .before .args in
-    ap (λ (b : Bool). b && eqb (a .c) (opposite (getD (a .stack .now) (a .n - 1) 0))) (sym (le-ltb 0 (a .n) (omega arith)))
-
-sub-last : tie.Need-sub-last
-sub-last c = search needs
-
-shared-slice-read-last : tie.Need-shared-slice-read-last
-shared-slice-read-last c = search needs
-
-inverse-requires : tie.Need-inverse-requires
-inverse-requires c κs = search needs
+    ap (λ (b : Bool). b && eqb (a .c) (inverse (getD (a .stack .now) (a .n - 1) 0))) (sym (le-ltb 0 (a .n) (omega arith)))
 
 returns-2 : tie.Need-returns-2
 returns-2 c =
     let a = c .before .before .before .before .args in
     let some : 0 < a .n = omega arith in
     ap (eqb (a .c)) (c .inverse .ensures)
-    ∙ ap (λ (b : Bool). b && eqb (a .c) (opposite (getD (a .stack .now) (a .n - 1) 0))) (sym (lt-ltb 0 (a .n) some))
+    ∙ ap (λ (b : Bool). b && eqb (a .c) (inverse (getD (a .stack .now) (a .n - 1) 0))) (sym (lt-ltb 0 (a .n) some))
 
 pub cancels-spec : {M : Type 1} → statement M
-cancels-spec = tie.close (tie.spec returns sub-last shared-slice-read-last inverse-requires returns-2)
+cancels-spec = tie.close (tie.spec returns (λ c. search needs) (λ c. search needs) (λ c κs. search needs) returns-2)

@@ -1,5 +1,5 @@
--- `braid::reduce::push` meets its contract: a letter that is the last one's inverse takes it away, any other is stored behind it.
--- Assumes nothing.
+-- `braid::reduce::push` meets its contract: a letter that is the last one's inverse takes it away, any other is stored
+-- behind it.
 use mathlib.Core.Path.{sym, _∙_}
 use native.Mathlib.Omega.{arith}
 use borrow.Author.Needs.{needs}
@@ -7,32 +7,17 @@ use Rattle.braid.proofs.StackLaws.{meets-some, push-cancels, push-stays
 use Rattle.braid.proofs.reduce.push.Statement.{statement}
 use Rattle.braid.proofs.reduce.push.Tie as tie
 
-cancels-requires : tie.Need-cancels-requires
-cancels-requires c κs = search needs
-
 sub-result : tie.Need-sub-result
 sub-result c =
     let b = c .before .before .before .before in
     let a = b .args in
     meets-some (a .stack .now) (a .n) (a .c) (b .pre .0) (b .pre .1) (sym (c .before .cancels .ensures) ∙ c .if1 .taken)
 
-same-length : tie.Need-same-length
-same-length c = search needs
-
 returns : tie.Need-returns
 returns c =
     let b = c .before .before .before .before in
     let a = b .args in
     (omega arith, push-cancels (a .stack .now) (a .n) (a .c) (b .pre .0) (b .pre .1) (b .pre .2) (sym (c .before .cancels .ensures) ∙ c .if1 .taken))
-
-slice-write-stack : tie.Need-slice-write-stack
-slice-write-stack c = search needs
-
-add-result : tie.Need-add-result
-add-result c = search needs
-
-same-length-2 : tie.Need-same-length-2
-same-length-2 c = search needs
 
 returns-2 : tie.Need-returns-2
 returns-2 c =
@@ -43,12 +28,4 @@ returns-2 c =
 pub push-spec : {M : Type 1} → statement M
 push-spec =
     tie.close
-    (tie.spec
-    cancels-requires
-    sub-result
-    same-length
-    returns
-    slice-write-stack
-    add-result
-    same-length-2
-    returns-2)
+    (tie.spec (λ c κs. search needs) sub-result (λ c. search needs) returns (λ c. search needs) (λ c. search needs) (λ c. search needs) returns-2)

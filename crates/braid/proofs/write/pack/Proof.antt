@@ -1,5 +1,5 @@
--- `braid::write::pack` meets its contract. The loop's invariant: the first k bytes of the output are those of the packed codes, the others are as
--- they were. Assumes nothing.
+-- `braid::write::pack` meets its contract. The loop's invariant: the first k bytes of the output are those of the
+-- packed codes, the others are as they were.
 use Prim.Native.Nat.{ℕ, _+_, _-_, _*_, _/_, _≤_}
 use mathlib.Core.Path.{_≡_, refl, sym, ap, ap₂, _∙_}
 use mathlib.Core.List.{List, _++_}
@@ -25,12 +25,6 @@ abbrev μ-loop : tie.MeasureT-loop
 loop-holds : tie.Need-loop-holds Inv-loop μ-loop
 loop-holds c = (refl, omega arith, refl, refl)
 
-mul-out : tie.Need-mul-out Inv-loop μ-loop
-mul-out c = omega arith
-
-shared-slice-read-out : tie.Need-shared-slice-read-out Inv-loop μ-loop
-shared-slice-read-out c = omega arith
-
 mul-out-2 : tie.Need-mul-out-2 Inv-loop μ-loop
 mul-out-2 c =
     let l = c .before .before .loop in
@@ -38,30 +32,12 @@ mul-out-2 c =
     let below = letters-below (s .args .codes .now) (s .pre .0) in
     omega (arith, below (2 * l .k), below (2 * l .k + 1))
 
-mul-out-3 : tie.Need-mul-out-3 Inv-loop μ-loop
-mul-out-3 c = omega arith
-
-add-out : tie.Need-add-out Inv-loop μ-loop
-add-out c = omega arith
-
-shared-slice-read-out-2 : tie.Need-shared-slice-read-out-2 Inv-loop μ-loop
-shared-slice-read-out-2 c = omega arith
-
 add-out-2 : tie.Need-add-out-2 Inv-loop μ-loop
 add-out-2 c =
     let l = c .before .before .before .loop in
     let s = c .before .before .before .before in
     let below = letters-below (s .args .codes .now) (s .pre .0) in
     omega (arith, below (2 * l .k), below (2 * l .k + 1))
-
-slice-write-out : tie.Need-slice-write-out Inv-loop μ-loop
-slice-write-out c = omega arith
-
-add-k : tie.Need-add-k Inv-loop μ-loop
-add-k c = omega arith
-
-loop-less : tie.Need-loop-less Inv-loop μ-loop
-loop-less c = omega arith
 
 loop-again : tie.Need-loop-again Inv-loop μ-loop
 loop-again c =
@@ -93,20 +69,5 @@ returns c =
 pub pack-spec : {M : Type 1} → statement M
 pack-spec =
     tie.close
-    (tie.spec
-    Inv-loop
-    μ-loop
-    loop-holds
-    mul-out
-    shared-slice-read-out
-    mul-out-2
-    mul-out-3
-    add-out
-    shared-slice-read-out-2
-    add-out-2
-    slice-write-out
-    add-k
-    loop-less
-    loop-again
-    same-length
-    returns)
+    (tie.spec Inv-loop μ-loop loop-holds (λ c. omega arith) (λ c. omega arith) mul-out-2 (λ c. omega arith) (λ c. omega arith) (λ c. omega arith)
+    add-out-2 (λ c. omega arith) (λ c. omega arith) (λ c. omega arith) loop-again same-length returns)

@@ -1,5 +1,5 @@
--- `braid::write::write_file` meets its contract: the number of letters, the codes two by two, and a last odd one by itself.
--- Assumes nothing.
+-- `braid::write::write_file` meets its contract: the number of letters, the codes two by two, and a last odd one by
+-- itself.
 use Prim.Native.Nat.{_-_}
 use mathlib.Core.Path.{_≡_, refl, ap, _∙_}
 use mathlib.Core.Logic.{⊎-elim}
@@ -18,15 +18,6 @@ use Rattle.braid.proofs.write.write_file.Tie as tie
 abbrev start : tie.After-slice-known2 → tie.Start
 start c = c .before .before .before .before .before .before
 
-cast-out : tie.Need-cast-out
-cast-out c = search needs
-
-slice-write-out : tie.Need-slice-write-out
-slice-write-out c = search needs
-
-cast-out-2 : tie.Need-cast-out-2
-cast-out-2 c = search needs
-
 slice-write-out-2 : tie.Need-slice-write-out-2
 slice-write-out-2 c = simp length-set (omega arith)
 
@@ -36,9 +27,6 @@ sub-pack c = simp length-set (omega arith)
 part-pack-start : tie.Need-part-pack-start
 part-pack-start c = simp length-set (omega arith)
 
-part-pack-end : tie.Need-part-pack-end
-part-pack-end c = search needs
-
 pack-requires : tie.Need-pack-requires
 pack-requires c κs =
     let s = c .before .before .before in
@@ -46,31 +34,16 @@ pack-requires c κs =
     let l = length-numbered (s .args .codes .now) (s .args .out .now) in
     (s .pre .1, omega (arith, l, length-take (length file - 2) (drop 2 file), length-drop 2 file))
 
-sub-out : tie.Need-sub-out
-sub-out c = search needs
-
-shared-slice-read-out : tie.Need-shared-slice-read-out
-shared-slice-read-out c = search needs
-
 mul-out : tie.Need-mul-out
 mul-out c =
     let s = start (c .before .before) in
     omega (arith, letters-below (s .args .codes .now) (s .pre .1) (length (s .args .codes .now) - 1))
-
-add-out : tie.Need-add-out
-add-out c = search needs
 
 slice-write-out-3 : tie.Need-slice-write-out-3
 slice-write-out-3 c =
     let p = c .before .before .before .before .pack in
     let s = start (c .before .before) in
     omega (arith, length-paired (s .args .codes .now) (s .args .out .now) (s .pre .0) (s .pre .2) (p .last .1 .0) (p .ensures))
-
-add-result : tie.Need-add-result
-add-result c = search needs
-
-add-result-2 : tie.Need-add-result-2
-add-result-2 c = search needs
 
 -- the output holds the file
 written : (c : tie.Joined1) → c .if1 .out ≡ overlaid (wordFile (start (c .before) .args .codes .now)) (start (c .before) .args .out .now)
@@ -93,21 +66,5 @@ returns c = (refl, written c)
 pub write-file-spec : {M : Type 1} → statement M
 write-file-spec =
     tie.close
-    (tie.spec
-    cast-out
-    slice-write-out
-    cast-out-2
-    slice-write-out-2
-    sub-pack
-    part-pack-start
-    part-pack-end
-    pack-requires
-    sub-out
-    shared-slice-read-out
-    mul-out
-    add-out
-    slice-write-out-3
-    add-result
-    add-result-2
-    same-length
-    returns)
+    (tie.spec (λ c. search needs) (λ c. search needs) (λ c. search needs) slice-write-out-2 sub-pack part-pack-start (λ c. search needs) pack-requires
+    (λ c. search needs) (λ c. search needs) mul-out (λ c. search needs) slice-write-out-3 (λ c. search needs) (λ c. search needs) same-length returns)

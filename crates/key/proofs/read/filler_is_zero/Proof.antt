@@ -1,4 +1,4 @@
--- `key::read::filler_is_zero` meets its contract: each matrix's filler is in its last byte. Assumes nothing.
+-- `key::read::filler_is_zero` meets its contract: each matrix's filler is in its last byte.
 use borrow.Author.Tests.{eq-eqb, ne-eqb}
 use native.Mathlib.Omega.{arith}
 use Prim.Native.Nat.{_%_}
@@ -9,12 +9,6 @@ use Rattle.key.proofs.MatrixLaws.{filler-at}
 use borrow.Author.Needs.{needs}
 use Rattle.key.proofs.read.filler_is_zero.Statement.{statement}
 use Rattle.key.proofs.read.filler_is_zero.Tie as tie
-
-shared-slice-read-if1 : tie.Need-shared-slice-read-if1
-shared-slice-read-if1 c = search needs
-
-shared-slice-read-result : tie.Need-shared-slice-read-result
-shared-slice-read-result c = search needs
 
 returns : tie.Need-returns
 returns c =
@@ -32,4 +26,4 @@ returns-2 c =
 
 pub filler-is-zero-spec : {M : Type 1} → statement M
 filler-is-zero-spec =
-    tie.close (tie.spec shared-slice-read-if1 shared-slice-read-result returns returns-2)
+    tie.close (tie.spec (λ c. search needs) (λ c. search needs) returns returns-2)

@@ -1,4 +1,4 @@
--- `key::read::starts_with_ones` meets its contract. Assumes nothing.
+-- `key::read::starts_with_ones` meets its contract.
 use borrow.Author.Tests.{eq-eqb, ne-eqb}
 use lib.Dec.{eqb}
 use lib.ListN.{getD}
@@ -6,12 +6,6 @@ use Rattle.key.proofs.BothTests.{second-decides, first-decides}
 use borrow.Author.Needs.{needs}
 use Rattle.key.proofs.read.starts_with_ones.Statement.{statement}
 use Rattle.key.proofs.read.starts_with_ones.Tie as tie
-
-element-copy-out-if1 : tie.Need-element-copy-out-if1
-element-copy-out-if1 c = search needs
-
-element-copy-out-result : tie.Need-element-copy-out-result
-element-copy-out-result c = search needs
 
 returns : tie.Need-returns
 returns c =
@@ -25,4 +19,4 @@ returns-2 c =
 
 pub starts-with-ones-spec : {M : Type 1} → statement M
 starts-with-ones-spec =
-    tie.close (tie.spec element-copy-out-if1 element-copy-out-result returns returns-2)
+    tie.close (tie.spec (λ c. search needs) (λ c. search needs) returns returns-2)

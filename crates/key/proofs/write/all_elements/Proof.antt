@@ -1,4 +1,4 @@
--- `key::write::all_elements` meets its contract. Assumes nothing.
+-- `key::write::all_elements` meets its contract.
 use mathlib.Core.Path.{_≡_, sym, _∙_}
 use mathlib.Core.Bool.{true}
 use borrow.Author.Tests.{not-true, not-false}
@@ -11,24 +11,15 @@ use Rattle.key.proofs.write.all_elements.Tie as tie
 first-passed : (c : tie.Else1) → elements (c .before .before .before .args .ts .now) ≡ true
 first-passed c = sym (c .before .all-elements .ensures) ∙ not-false _ (c .if1 .left)
 
-all-elements-requires : tie.Need-all-elements-requires
-all-elements-requires c κs = search needs
-
 returns : tie.Need-returns
 returns c =
     let a = c .before .before .before .args in
     first-fails (elements (a .first .now)) (elements (a .second .now)) (sym (c .before .all-elements .ensures) ∙ not-true _ (c .if1 .taken))
 
-all-elements-requires-2 : tie.Need-all-elements-requires-2
-all-elements-requires-2 c κs = search needs
-
 returns-2 : tie.Need-returns-2
 returns-2 c =
     let a = c .before .before .before .before .before .before .args in
     second-fails (elements (a .second .now)) (first-passed (c .before .before .before)) (sym (c .before .all-elements2 .ensures) ∙ not-true _ (c .if2 .taken))
-
-all-elements-requires-3 : tie.Need-all-elements-requires-3
-all-elements-requires-3 c κs = search needs
 
 returns-3 : tie.Need-returns-3
 returns-3 c =
@@ -41,9 +32,9 @@ pub all-elements-spec : {M : Type 1} → statement M
 all-elements-spec =
     tie.close
     (tie.spec
-    all-elements-requires
+    (λ c κs. search needs)
     returns
-    all-elements-requires-2
+    (λ c κs. search needs)
     returns-2
-    all-elements-requires-3
+    (λ c κs. search needs)
     returns-3)

@@ -1,4 +1,4 @@
--- `key::write::fill` meets its contract: each part in its place, one after another. Assumes nothing.
+-- `key::write::fill` meets its contract: each part in its place, one after another.
 use Prim.Native.Nat.{ℕ}
 use mathlib.Core.Path.{sym, ap, _∙_}
 use mathlib.Core.List.{List, [], _∷_, _++_}
@@ -7,7 +7,7 @@ use lib.ListN.{set, length-set}
 use Rattle.base.specs.Digits.{value, digits}
 use Rattle.base.proofs.DigitLaws.{length-digits}
 use Rattle.key.specs.Keys.{packedMatrix, keyFile}
-use Rattle.key.proofs.Packing.{length-part}
+use Rattle.base.proofs.PackLaws.{length-part}
 use Rattle.key.proofs.MatrixLaws.{packed-size}
 use Rattle.key.proofs.FileLaws.{placed, Laid, laid-first, laid-more, laid-all}
 use borrow.Author.Needs.{needs}
@@ -88,62 +88,17 @@ laid-5 c =
     let second = start-5 c .args .second .now in
     laid-more 47 36 (packedMatrix second) (laid-4 (c .before .before .before .before)) (c .before .before .put-matrix2 .ensures) (packed-size second) (omega arith)
 
-slice-write-out : tie.Need-slice-write-out
-slice-write-out c = search needs
-
-slice-write-out-2 : tie.Need-slice-write-out-2
-slice-write-out-2 c = search needs
-
-slice-write-out-3 : tie.Need-slice-write-out-3
-slice-write-out-3 c = search needs
-
-sub-regroup : tie.Need-sub-regroup
-sub-regroup c = search needs
-
-part-regroup-start : tie.Need-part-regroup-start
-part-regroup-start c = search needs
-
 part-regroup-end : tie.Need-part-regroup-end
 part-regroup-end c = simp length-set (omega arith)
-
-regroup-requires : tie.Need-regroup-requires
-regroup-requires c κs = search needs
-
-sub-put-matrix : tie.Need-sub-put-matrix
-sub-put-matrix c = search needs
-
-part-put-matrix-start : tie.Need-part-put-matrix-start
-part-put-matrix-start c = search needs
 
 part-put-matrix-end : tie.Need-part-put-matrix-end
 part-put-matrix-end c = omega (arith, laid-2 c .size)
 
-put-matrix-requires : tie.Need-put-matrix-requires
-put-matrix-requires c κs = search needs
-
-sub-regroup-2 : tie.Need-sub-regroup-2
-sub-regroup-2 c = search needs
-
-part-regroup-start-2 : tie.Need-part-regroup-start-2
-part-regroup-start-2 c = search needs
-
 part-regroup-end-2 : tie.Need-part-regroup-end-2
 part-regroup-end-2 c = omega (arith, laid-3 c .size)
 
-regroup-requires-2 : tie.Need-regroup-requires-2
-regroup-requires-2 c κs = search needs
-
-sub-put-matrix-2 : tie.Need-sub-put-matrix-2
-sub-put-matrix-2 c = search needs
-
-part-put-matrix-start-2 : tie.Need-part-put-matrix-start-2
-part-put-matrix-start-2 c = search needs
-
 part-put-matrix-end-2 : tie.Need-part-put-matrix-end-2
 part-put-matrix-end-2 c = omega (arith, laid-4 c .size)
-
-put-matrix-requires-2 : tie.Need-put-matrix-requires-2
-put-matrix-requires-2 c κs = search needs
 
 same-length : tie.Need-same-length
 same-length c = laid-5 c .size ∙ sym (start-5 c .pre .2)
@@ -159,24 +114,24 @@ pub fill-spec : {M : Type 1} → statement M
 fill-spec =
     tie.close
     (tie.spec
-    slice-write-out
-    slice-write-out-2
-    slice-write-out-3
-    sub-regroup
-    part-regroup-start
+    (λ c. search needs)
+    (λ c. search needs)
+    (λ c. search needs)
+    (λ c. search needs)
+    (λ c. search needs)
     part-regroup-end
-    regroup-requires
-    sub-put-matrix
-    part-put-matrix-start
+    (λ c κs. search needs)
+    (λ c. search needs)
+    (λ c. search needs)
     part-put-matrix-end
-    put-matrix-requires
-    sub-regroup-2
-    part-regroup-start-2
+    (λ c κs. search needs)
+    (λ c. search needs)
+    (λ c. search needs)
     part-regroup-end-2
-    regroup-requires-2
-    sub-put-matrix-2
-    part-put-matrix-start-2
+    (λ c κs. search needs)
+    (λ c. search needs)
+    (λ c. search needs)
     part-put-matrix-end-2
-    put-matrix-requires-2
+    (λ c κs. search needs)
     same-length
     returns)

@@ -1,4 +1,4 @@
--- `key::write::put_matrix` meets its contract: seven groups of digits, and the last entry with the filler. Assumes nothing.
+-- `key::write::put_matrix` meets its contract: seven groups of digits, and the last entry with the filler.
 use mathlib.Core.Path.{refl, sym}
 use native.Mathlib.Omega.{arith}
 use lib.Seq.{length-take-le}
@@ -11,36 +11,25 @@ use Rattle.key.proofs.write.put_matrix.Tie as tie
 slice-aggregate-regroup : tie.Need-slice-aggregate-regroup
 slice-aggregate-regroup c = sym (length-take-le 56 (c .before .before .before .args .entries .now) (omega arith))
 
-slice-relend-prefix-regroup : tie.Need-slice-relend-prefix-regroup
-slice-relend-prefix-regroup c = search needs
-
 slice-aggregate-regroup-2 : tie.Need-slice-aggregate-regroup-2
 slice-aggregate-regroup-2 c = sym (length-take-le 35 (c .before .before .before .before .args .dst .now) (omega arith))
 
 regroup-requires : tie.Need-regroup-requires
 regroup-requires c κs =
     let s = c .before .before .before .before in
-    let a = s .args in (
-      take-below 56 (a .entries .now) (s .pre .0),
-      length-take-le 56 (a .entries .now) (omega arith),
-      length-take-le 35 (a .dst .now) (omega arith),
-      omega arith,
-      refl,
-      omega arith,
-      omega arith,
-    )
-
-shared-slice-read-dst : tie.Need-shared-slice-read-dst
-shared-slice-read-dst c = search needs
+    let a = s .args in
+    record {
+      below = take-below 56 (a .entries .now) (s .pre .0);
+      source = length-take-le 56 (a .entries .now) (omega arith);
+      output = length-take-le 35 (a .dst .now) (omega arith);
+      fits = omega arith;
+      as-many = refl;
+      positive = omega arith;
+      a-byte = omega arith;
+    }
 
 mul-dst : tie.Need-mul-dst
 mul-dst c = omega (arith, c .before .before .before .before .before .before .before .before .pre .0 56)
-
-slice-write-dst : tie.Need-slice-write-dst
-slice-write-dst c = search needs
-
-same-length : tie.Need-same-length
-same-length c = search needs
 
 returns : tie.Need-returns
 returns c =
@@ -54,11 +43,11 @@ put-matrix-spec =
     tie.close
     (tie.spec
     slice-aggregate-regroup
-    slice-relend-prefix-regroup
+    (λ c. search needs)
     slice-aggregate-regroup-2
     regroup-requires
-    shared-slice-read-dst
+    (λ c. search needs)
     mul-dst
-    slice-write-dst
-    same-length
+    (λ c. search needs)
+    (λ c. search needs)
     returns)

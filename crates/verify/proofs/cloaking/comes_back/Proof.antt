@@ -1,68 +1,43 @@
--- `verify::comes_back` meets its contract: the two comparisons are those of the pair that comes back. Assumes nothing.
-use mathlib.Core.Path.{sym, _∙_}
+-- `verify::comes_back` meets its contract: the two comparisons are those of the pair that comes back.
+use mathlib.Core.Path.{_≡_, sym, ap, _∙_}
+use mathlib.Core.Bool.{Bool, _&&_}
 use borrow.Author.Tests.{not-true, not-false}
+use Rattle.base.specs.Lists.{equal}
 use Rattle.field.specs.Gf32.{gf32}
 use Rattle.braid.specs.Words.{codes}
-use Rattle.verify.proofs.CloakLaws.{not-back, back}
+use Rattle.action.specs.Action.{wordOn}
+use Rattle.verify.specs.Cloaking.{comesBack}
+use Rattle.verify.proofs.CloakLaws.{back}
 use borrow.Author.Needs.{needs}
 use Rattle.verify.proofs.cloaking.comes_back.Statement.{statement}
 use Rattle.verify.proofs.cloaking.comes_back.Tie as tie
 
-start-requires : tie.Need-start-requires
-start-requires c κs = search needs
+-- the pair that came back, compared as the code does it
+module _ (e : tie.After-equal) where
+  abbrev k : tie.After-carried
+  k = e .before .before .before .before .before
 
-eight-requires : tie.Need-eight-requires
-eight-requires c κs = search needs
+  abbrev t : tie.After-start
+  t = k .before .before .before .before
 
-carried-requires : tie.Need-carried-requires
-carried-requires c κs = search needs
-
-slice-aggregate-equal : tie.Need-slice-aggregate-equal
-slice-aggregate-equal c = search needs
-
-slice-aggregate-equal-2 : tie.Need-slice-aggregate-equal-2
-slice-aggregate-equal-2 c = search needs
-
-equal-requires : tie.Need-equal-requires
-equal-requires c κs = search needs
+  comes : {b : Bool} → e .equal .result ≡ b → let a = t .before .before .before .args in
+      comesBack gf32 (a .t-values .now) (a .labels .now) (codes (a .word .now))
+      ≡ (b && equal (k .carried .result .labels) (a .labels .now))
+  comes h =
+      let a = t .before .before .before .args in
+      back gf32 (a .t-values .now) (a .labels .now) (codes (a .word .now)) (k .before .before .eight .result) (t .start .result) (k .carried .result)
+      (t .start .ensures) (k .before .before .eight .ensures)
+      (k .carried .ensures ∙ ap (wordOn gf32 (a .t-values .now) (codes (a .word .now))) (k .before .with .ensures)) (sym h ∙ e .equal .ensures)
 
 returns : tie.Need-returns
-returns c =
-    let e = c .before in
-    let k = e .before .before .before .before .before in
-    let g = k .before in
-    let t = g .before .before in
-    let a = t .before .before .before .args in
-    not-back gf32 (a .t-values .now) (a .labels .now) (codes (a .word .now)) (g .eight .result) (t .start .result) (k .carried .result) (t .start .ensures) (g .eight .ensures)
-    (k .carried .ensures) (sym (e .equal .ensures) ∙ not-true _ (c .if1 .taken))
-
-slice-aggregate-equal-3 : tie.Need-slice-aggregate-equal-3
-slice-aggregate-equal-3 c = search needs
-
-equal-requires-2 : tie.Need-equal-requires-2
-equal-requires-2 c κs = search needs
+returns c = sym (comes (c .before) (not-true _ (c .if1 .taken)))
 
 returns-2 : tie.Need-returns-2
 returns-2 c =
-    let e = c .before .before .before in
-    let k = e .before .before .before .before .before in
-    let g = k .before in
-    let t = g .before .before in
-    let a = t .before .before .before .args in
-    back gf32 (a .t-values .now) (a .labels .now) (codes (a .word .now)) (g .eight .result) (t .start .result) (k .carried .result) (t .start .ensures) (g .eight .ensures)
-    (k .carried .ensures) (sym (e .equal .ensures) ∙ not-false _ (c .before .before .if1 .left)) (c .equal2 .ensures)
+    c .equal2 .ensures ∙ sym (comes (c .before .before .before) (not-false _ (c .before .before .if1 .left)))
 
 pub comes-back-spec : {M : Type 1} → statement M
 comes-back-spec =
     tie.close
-    (tie.spec
-    start-requires
-    eight-requires
-    carried-requires
-    slice-aggregate-equal
-    slice-aggregate-equal-2
-    equal-requires
-    returns
-    slice-aggregate-equal-3
-    equal-requires-2
-    returns-2)
+    (tie.spec (λ c κs. search needs) (λ c κs. search needs) (λ c κs. search needs) (λ c κs. search needs) (λ c. search needs) (λ c. search needs) (λ c κs. search needs)
+    returns (λ c. search needs) (λ c κs. search needs) returns-2)

@@ -1,4 +1,5 @@
--- `verify::digest_matrix` meets its contract: the encoder's file is an accepted word with the digest's braid as its codes. Assumes nothing.
+-- `verify::digest_matrix` meets its contract: the encoder's file is an accepted word with the digest's braid as its
+-- codes.
 use Prim.Native.Nat.{ℕ, _≤_, _<_}
 use mathlib.Core.Path.{_≡_, sym, ap, ap₂, _∙_}
 use mathlib.Core.List.{List}
@@ -32,12 +33,6 @@ module _ (e : tie.After-encode) where
   file-codes : codes (take (e .encode .result .bytes) (e .encode .last .1 .0)) ≡ encoded digest
   file-codes = braid-codes digest known (e .before .before .before .pre) (e .encode .ensures) (omega arith)
 
-slice-aggregate-encode : tie.Need-slice-aggregate-encode
-slice-aggregate-encode c = search needs
-
-encode-requires : tie.Need-encode-requires
-encode-requires c κs = search needs
-
 array-share-prefix-file : tie.Need-array-share-prefix-file
 array-share-prefix-file c =
     let e = c .before in
@@ -47,12 +42,6 @@ slice-aggregate-word : tie.Need-slice-aggregate-word
 slice-aggregate-word c =
     let e = c .before .before in
     sym (length-take-le (e .encode .result .bytes) (e .encode .last .1 .0) (omega (arith, file-fits e, e .encode .kept .1 .0)))
-
-read-word-requires : tie.Need-read-word-requires
-read-word-requires c κs = search needs
-
-start-requires : tie.Need-start-requires
-start-requires c κs = search needs
 
 carried-requires : tie.Need-carried-requires
 carried-requires c κs =
@@ -71,12 +60,5 @@ returns c =
 pub digest-matrix-spec : {M : Type 1} → statement M
 digest-matrix-spec =
     tie.close
-    (tie.spec
-    slice-aggregate-encode
-    encode-requires
-    array-share-prefix-file
-    slice-aggregate-word
-    read-word-requires
-    start-requires
-    carried-requires
-    returns)
+    (tie.spec (λ c. search needs) (λ c κs. search needs) array-share-prefix-file slice-aggregate-word (λ c κs. search needs) (λ c κs. search needs)
+    carried-requires returns)

@@ -1,0 +1,85 @@
+-- Laws of the labels: what stands where after two neighbouring labels changed places, and the braid relations of such
+-- exchanges: twice is nothing, far ones commute, three in a row of neighbours go either way round.
+use Prim.Native.Nat.{ℕ, zero, suc, _+_, _<_, _≤_}
+use mathlib.Core.Path.{_≡_, refl, ap, _∙_}
+use mathlib.Core.List.{List, [], _∷_}
+use native.Mathlib.Omega.{arith}
+use native.Mathlib.Numerals.{add-one}
+use native.Mathlib.Decide.{ℕ-discrete}
+use lib.ListN.{length, getD, set, length-set}
+use lib.Seq.{getD-set-same, getD-set-other}
+use Rattle.braid.specs.Strands.{swapped}
+
+pub length-swapped : (g : ℕ) (l : List ℕ) → length (swapped g l) ≡ length l
+unfolding swapped
+length-swapped g l = simp length-set
+
+-- what stands at the first place, at the second, and at any other
+pub swapped-first : (g : ℕ) (l : List ℕ) → g + 1 < length l → getD (swapped g l) g 0 ≡ getD l (g + 1) 0
+unfolding swapped
+swapped-first g l h =
+    getD-set-other (set l g (getD l (g + 1) 0)) (g + 1) g (getD l g 0) 0 (omega arith)
+    ∙ getD-set-same l g (getD l (g + 1) 0) 0 (omega arith)
+
+pub swapped-second : (g : ℕ) (l : List ℕ) → g + 1 < length l → getD (swapped g l) (g + 1) 0 ≡ getD l g 0
+unfolding swapped
+swapped-second g l h =
+    getD-set-same (set l g (getD l (g + 1) 0)) (g + 1) (getD l g 0) 0 (omega (arith, length-set l g (getD l (g + 1) 0)))
+
+pub swapped-other : (g : ℕ) (l : List ℕ) (k : ℕ) → (k ≡ g → ⊥) → (k ≡ g + 1 → ⊥) → getD (swapped g l) k 0 ≡ getD l k 0
+unfolding swapped
+swapped-other g l k n m =
+    getD-set-other (set l g (getD l (g + 1) 0)) (g + 1) k (getD l g 0) 0 m ∙ getD-set-other l g k (getD l (g + 1) 0) 0 n
+
+-- a bound on all labels stays
+pub swapped-below : {n : ℕ} (g : ℕ) (l : List ℕ) → g + 1 < length l → ((k : ℕ) → getD l k 0 < n) → (k : ℕ) → getD (swapped g l) k 0 < n
+swapped-below {n} g l h below k = go (ℕ-discrete k g) (ℕ-discrete k (g + 1))
+  where
+    go : Dec (k ≡ g) → Dec (k ≡ g + 1) → getD (swapped g l) k 0 < n
+    go (yes e) d = rw e (omega (arith, swapped-first g l h, below (g + 1)))
+    go (no a) (yes e) = rw e (omega (arith, swapped-second g l h, below g))
+    go (no a) (no b) = omega (arith, swapped-other g l k a b, below k)
+
+-- the exchange by the places before it
+swapped-suc : (g a : ℕ) (l : List ℕ) → swapped (suc g) (a ∷ l) ≡ a ∷ swapped g l
+unfolding swapped
+swapped-suc g a l = simp add-one
+
+swapped-zero : (a b : ℕ) (l : List ℕ) → swapped 0 (a ∷ b ∷ l) ≡ b ∷ a ∷ l
+unfolding swapped
+swapped-zero a b l = refl
+
+swapped-one : (a b c : ℕ) (l : List ℕ) → swapped 1 (a ∷ b ∷ c ∷ l) ≡ a ∷ c ∷ b ∷ l
+unfolding swapped
+swapped-one a b c l = refl
+
+-- twice is nothing
+pub swapped-twice : (g : ℕ) (l : List ℕ) → g + 1 < length l → swapped g (swapped g l) ≡ l
+swapped-twice g [] h = absurd (omega arith)
+swapped-twice zero (a ∷ []) h = absurd (omega arith)
+swapped-twice zero (a ∷ b ∷ l) h = simp swapped-zero
+swapped-twice (suc g) (a ∷ l) h = simp swapped-suc (ap (λ (t : List ℕ). a ∷ t) (swapped-twice g l (omega arith)))
+
+-- far ones commute
+pub swapped-far : (g k : ℕ) (l : List ℕ) → g + 2 ≤ k → k + 1 < length l → swapped k (swapped g l) ≡ swapped g (swapped k l)
+swapped-far g k [] f h = absurd (omega arith)
+swapped-far zero zero (a ∷ l) f h = absurd (omega arith)
+swapped-far zero (suc zero) (a ∷ l) f h = absurd (omega arith)
+swapped-far zero (suc (suc k)) (a ∷ []) f h = absurd (omega arith)
+swapped-far zero (suc (suc k)) (a ∷ b ∷ l) f h = simp (swapped-suc, swapped-zero)
+swapped-far (suc g) zero (a ∷ l) f h = absurd (omega arith)
+swapped-far (suc g) (suc k) (a ∷ l) f h =
+    simp swapped-suc (ap (λ (t : List ℕ). a ∷ t) (swapped-far g k l (omega arith) (omega arith)))
+
+-- three in a row, either way round
+pub swapped-braid : (g : ℕ) (l : List ℕ) → g + 2 < length l
+    → swapped g (swapped (g + 1) (swapped g l)) ≡ swapped (g + 1) (swapped g (swapped (g + 1) l))
+swapped-braid g l h = simp add-one (go g l h)
+  where
+    go : (g : ℕ) (l : List ℕ) → g + 2 < length l
+        → swapped g (swapped (suc g) (swapped g l)) ≡ swapped (suc g) (swapped g (swapped (suc g) l))
+    go g [] h = absurd (omega arith)
+    go zero (a ∷ []) h = absurd (omega arith)
+    go zero (a ∷ b ∷ []) h = absurd (omega arith)
+    go zero (a ∷ b ∷ c ∷ l) h = simp (swapped-one, swapped-zero)
+    go (suc g) (a ∷ l) h = simp swapped-suc (ap (λ (t : List ℕ). a ∷ t) (go g l (omega arith)))

@@ -1,0 +1,92 @@
+-- A part of an input that may end before it, and the line of an answer with one, two or three digits.
+use Prim.Native.Nat.{ℕ, _+_, _-_, _/_, _%_, _≤_, _<_, min}
+use native.Mathlib.Nat.{min-eq-left, min-eq-right, div-one}
+use native.Mathlib.Decide.{decLe}
+use native.Mathlib.Omega.{arith}
+use mathlib.Core.Path.{_≡_, sym, ap, subst, _∙_}
+use mathlib.Core.Bool.{Bool, true, false, _&&_}
+use mathlib.Core.List.{List, [], _∷_, _++_}
+use borrow.Author.Tests.{lt-ltb, le-ltb}
+use lib.ListN.{length, take, drop, replicate, length-append, length-take, length-drop, drop-of-length-le}
+use lib.Seq.{take-all, take-length, drop-length}
+use Rattle.base.specs.Digits.{digits, part}
+use Rattle.base.specs.Lists.{overlaid}
+use Rattle.verify.specs.Verdict.{verdict}
+use Rattle.desk_line.specs.Desk.{deskVerdict, answerLine, answerWord, decimal, places, filesLine, Tells}
+use Rattle.desk_line.specs.declared.Got.{Got}
+
+take-least : (n : ℕ) (xs : List ℕ) → take (min n (length xs)) xs ≡ take n xs
+take-least n xs = go (decLe n (length xs))
+  where
+    go : Dec (n ≤ length xs) → take (min n (length xs)) xs ≡ take n xs
+    go (yes h) = rw (min-eq-left h)
+    go (no h) =
+        let l : length xs ≤ n = omega arith in
+        rw (min-eq-right l, take-length, take-all n xs l)
+
+drop-least : (n : ℕ) (xs : List ℕ) → drop (min n (length xs)) xs ≡ drop n xs
+drop-least n xs = go (decLe n (length xs))
+  where
+    go : Dec (n ≤ length xs) → drop (min n (length xs)) xs ≡ drop n xs
+    go (yes h) = rw (min-eq-left h)
+    go (no h) =
+        let l : length xs ≤ n = omega arith in
+        rw (min-eq-right l, drop-length) (sym (drop-of-length-le xs l))
+
+-- an input cut at both ends, as far as it goes
+module _ (at most start n : ℕ) (xs : List ℕ) (s : start ≡ min at (length xs)) (e : n ≡ min most (length (take (length xs - start) (drop start xs)))) where
+  rest : take (length xs - start) (drop start xs) ≡ drop at xs
+  rest = take-all (length xs - start) (drop start xs) (rw length-drop (omega arith)) ∙ ap (λ (k : ℕ). drop k xs) s ∙ drop-least at xs
+
+  pub cut : take n (take (length xs - start) (drop start xs)) ≡ part at most xs
+  cut = rw (e, rest) (take-least most (drop at xs))
+
+  pub cut-length : n ≡ length (take n (take (length xs - start) (drop start xs)))
+  cut-length = rw length-take (omega arith)
+
+pub judged-parts : {k d w : List ℕ} (input : List ℕ) → k ≡ part 0 83 input → d ≡ part 83 32 input → w ≡ part 115 5003 input
+    → verdict k d w ≡ deskVerdict input
+unfolding deskVerdict
+judged-parts input p q r = λ i. verdict (p i) (q i) (r i)
+
+pub told : {written : List ℕ} {bytes : ℕ} {text : List ℕ} (l : List ℕ) → written ≡ l → bytes ≡ length l → text ≡ overlaid l (replicate 11 0)
+    → Tells written bytes text
+told l e b t = record { bytes-are = b ∙ sym (ap length e); text-is = t ∙ sym (ap (λ (x : List ℕ). overlaid x (replicate 11 0)) e) }
+
+-- the line on one input
+pub input-told : {read : List ℕ} {n bytes : ℕ} {text : List ℕ} (m : ℕ) (input : List ℕ) → read ≡ take m input → n ≡ deskVerdict read
+    → Tells (answerLine n) bytes text → Tells (answerLine (deskVerdict (take m input))) bytes text
+input-told m input r e t = rw (sym (e ∙ ap deskVerdict r)) t
+
+-- the line on three files, where all could be read and where one could not
+module _ (k d w : Got) (key digest word : List ℕ) where
+  pub files-read : {read : Bool} {a b c : List ℕ} {n bytes : ℕ} {text : List ℕ} → read ≡ k .read && d .read && w .read → read ≡ true
+      → a ≡ take (k .bytes) key → b ≡ take (d .bytes) digest → c ≡ take (w .bytes) word → n ≡ verdict a b c
+      → Tells (answerLine n) bytes text → Tells (filesLine k d w key digest word) bytes text
+  unfolding filesLine
+  files-read {bytes = bytes} {text = text} e t ke de we v s =
+      rw (sym e ∙ t) (subst (λ (n : ℕ). Tells (answerLine n) bytes text) (v ∙ (λ i. verdict (ke i) (de i) (we i))) s)
+
+  pub files-not-read : {read : Bool} {bytes : ℕ} {text : List ℕ} → read ≡ k .read && d .read && w .read → read ≡ false
+      → bytes ≡ 0 → text ≡ replicate 11 0 → Tells (filesLine k d w key digest word) bytes text
+  unfolding filesLine overlaid
+  files-not-read e t b x = told [] (rw (sym e ∙ t)) b x
+
+-- the bytes counted lie within the text
+pub line-within : {written : List ℕ} {bytes : ℕ} {text : List ℕ} → Tells written bytes text → bytes ≤ length text
+unfolding overlaid
+line-within t = rw (t .bytes-are, t .text-is) (simp length-append (omega arith))
+
+pub one-digit : (n : ℕ) → n < 10 → answerLine n ≡ answerWord ++ ((48 + n % 10) ∷ 10 ∷ [])
+unfolding answerLine decimal places digits
+one-digit n h = simp (lt-ltb n 10 h, div-one)
+
+pub two-digits : (n : ℕ) → 10 ≤ n → n < 100
+    → answerLine n ≡ answerWord ++ ((48 + n / 10 % 10) ∷ (48 + n % 10) ∷ 10 ∷ [])
+unfolding answerLine decimal places digits
+two-digits n h l = simp (le-ltb n 10 h, lt-ltb n 100 l, div-one)
+
+pub three-digits : (n : ℕ) → 100 ≤ n
+    → answerLine n ≡ answerWord ++ ((48 + n / 100 % 10) ∷ (48 + n / 10 % 10) ∷ (48 + n % 10) ∷ 10 ∷ [])
+unfolding answerLine decimal places digits
+three-digits n h = let g : 10 ≤ n = omega arith in simp (le-ltb n 10 g, le-ltb n 100 h, div-one)

@@ -1,0 +1,55 @@
+-- The desk: a slip whose key, digest and signature lie end to end in one input, or in three files; the line that tells
+-- the answer; and how large a buffer has to be.
+use Prim.Native.Nat.{ℕ, _+_}
+use mathlib.Core.Path.{_≡_}
+use mathlib.Core.Bool.{cond, _&&_}
+use mathlib.Core.List.{List, [], _∷_, _++_, map}
+use lib.Dec.{ltb}
+use lib.ListN.{length, take, replicate}
+use Rattle.base.specs.Digits.{digits, part}
+use Rattle.base.specs.Lists.{overlaid}
+use Rattle.verify.specs.Verdict.{verdict}
+use Rattle.desk_line.specs.declared.Got.{Got}
+
+-- the verdict on the first 83 bytes as key, the next 32 as digest and up to 5,003 after them as signature; each may be
+-- cut short
+unfoldable pub deskVerdict : List ℕ → ℕ
+deskVerdict input = verdict (part 0 83 input) (part 83 32 input) (part 115 5003 input)
+
+-- how many decimal digits a number below 1,000 has
+unfoldable pub places : ℕ → ℕ
+places n = cond (ltb n 10) 1 (cond (ltb n 100) 2 3)
+
+-- a number below 1,000 as text, in decimal: '0' is 48
+unfoldable pub decimal : ℕ → List ℕ
+decimal n = map (λ d. 48 + d) (digits 10 (places n) n)
+
+-- "answer "
+abbrev pub answerWord : List ℕ
+answerWord = 97 ∷ 110 ∷ 115 ∷ 119 ∷ 101 ∷ 114 ∷ 32 ∷ []
+
+-- "answer ", the decimal number, a line end
+unfoldable pub answerLine : ℕ → List ℕ
+answerLine n = answerWord ++ (decimal n ++ (10 ∷ []))
+
+-- what is written on three files, of each of which the buffer's first bytes were read: the line of the verdict on them,
+-- and nothing unless all three could be read
+unfoldable pub filesLine : Got → Got → Got → List ℕ → List ℕ → List ℕ → List ℕ
+filesLine k d w key digest word =
+    cond (k .read && d .read && w .read)
+    (answerLine (verdict (take (k .bytes) key) (take (d .bytes) digest) (take (w .bytes) word)))
+    []
+
+-- the first bytes of a text of 11 are what is to be written, and zeros follow
+pub record Tells (written : List ℕ) (bytes : ℕ) (text : List ℕ) : Type 0 where
+  pub bytes-are : bytes ≡ length written
+  pub text-is : text ≡ overlaid written (replicate 11 0)
+
+-- n bytes are enough to read of an input of any length: they are judged as all of it is
+abbrev pub EnoughOfInput : ℕ → Type 0
+EnoughOfInput n = (input : List ℕ) → deskVerdict (take n input) ≡ deskVerdict input
+
+-- k bytes of a key, d of a digest and w of a signature are enough to read of three files of any length
+abbrev pub EnoughOfFiles : ℕ → ℕ → ℕ → Type 0
+EnoughOfFiles k d w =
+    (key digest word : List ℕ) → verdict (take k key) (take d digest) (take w word) ≡ verdict key digest word

@@ -1,0 +1,144 @@
+// A slip as it comes to the desk, end to end or in three files, and the line that tells the answer. What is read lies
+// in arrays whose sizes are given here, so that a buffer of another size does not fit.
+ghost use Prim.Native.Nat.{min};
+ghost use mathlib.Core.Path.{_≡_};
+ghost use mathlib.Core.Bool.{_&&_};
+ghost use mathlib.Core.List.{[], _∷_, _++_};
+ghost use lib.ListN.{length, take, replicate};
+ghost use Rattle.base.specs.Digits.{part as partOf};
+ghost use Rattle.desk_line.specs.Desk.{deskVerdict, answerWord, answerLine, filesLine, Tells, EnoughOfInput, EnoughOfFiles};
+
+// The bytes of a key and of a digest, and the most that a signature has.
+const KEY: usize = 83;
+
+const DIGEST: usize = 32;
+
+const WORD: usize = 5002;
+
+// The bytes to read of each file: one more than it may hold, so that a longer file is told from a full one.
+pub const KEY_ROOM: usize = KEY + 1;
+
+pub const DIGEST_ROOM: usize = DIGEST + 1;
+
+pub const WORD_ROOM: usize = WORD + 1;
+
+// The bytes to read of a slip that lies end to end.
+pub const INPUT_ROOM: usize = KEY + DIGEST + WORD_ROOM;
+
+fn least(a: usize, b: usize) -> usize
+    ensures { λ r. ⌜ r ≡ min a b ⌝ }
+{
+    if a < b { a } else { b }
+}
+
+// Up to `most` bytes from a place on: fewer, or none, where the input ends before.
+fn part(input: &[u8], at: usize, most: usize) -> &[u8]
+    ensures { λ r. ⌜ now r ≡ partOf at most (now (input .entry)) ⌝ }
+{
+    let start = least(at, input.len());
+    let rest = &input[start..];
+    let n = least(most, rest.len());
+    &rest[..n]
+}
+
+// The verdict on a slip whose key, digest and signature lie end to end; each may be cut short.
+fn judged(input: &[u8]) -> u8
+    ensures { λ r. ⌜ r ≡ deskVerdict (now (input .entry)) ⌝ }
+{
+    let key = part(input, 0, KEY);
+    let digest = part(input, KEY, DIGEST);
+    let word = part(input, KEY + DIGEST, WORD_ROOM);
+    verify::verify(key, digest, word)
+}
+
+// A line of text: the first `bytes` bytes; zeros after it.
+pub struct Line {
+    pub text: [u8; 11],
+    pub bytes: usize,
+}
+
+// "answer " and four bytes more.
+fn spelled(a: u8, b: u8, c: u8, d: u8, bytes: usize) -> Line
+    ensures { λ r. ⌜ (r .bytes ≡ bytes) × (r .text ≡ answerWord ++ (a ∷ b ∷ c ∷ d ∷ [])) ⌝ }
+{
+    Line {
+        text: [b'a', b'n', b's', b'w', b'e', b'r', b' ', a, b, c, d],
+        bytes,
+    }
+}
+
+// "answer ", the decimal number, a line end.
+fn answer_line(answer: u8) -> Line
+    ensures { λ r. ⌜ Tells (answerLine answer) (r .bytes) (r .text) ⌝ }
+{
+    let ones = 48 + answer % 10;
+    if answer < 10 {
+        return spelled(ones, b'\n', 0, 0, 9);
+    }
+    let tens = 48 + answer / 10 % 10;
+    if answer < 100 {
+        return spelled(tens, ones, b'\n', 0, 10);
+    }
+    let hundreds = 48 + answer / 100 % 10;
+    spelled(hundreds, tens, ones, b'\n', 11)
+}
+
+// The line on a slip that lies end to end, of which the first `n` bytes of the buffer were read.
+pub fn input_line(input: &[u8; INPUT_ROOM], n: usize) -> Line
+    ensures { λ r. ⌜ Tells (answerLine (deskVerdict (take n (now (input .entry))))) (r .bytes) (r .text) ⌝ }
+    ensures { λ _. ⌜ EnoughOfInput (length (now (input .entry))) ⌝ }
+{
+    answer_line(judged(part(input, 0, n)))
+}
+
+// What reading a file gave: could it be read, and how many bytes of its buffer.
+pub struct Got {
+    pub read: bool,
+    pub bytes: usize,
+}
+
+// No line.
+fn nothing() -> Line
+    ensures { λ r. ⌜ (r .bytes ≡ 0) × (r .text ≡ replicate 11 0) ⌝ }
+{
+    Line {
+        text: [0; 11],
+        bytes: 0,
+    }
+}
+
+fn both(a: bool, b: bool) -> bool
+    ensures { λ r. ⌜ r ≡ a && b ⌝ }
+{
+    a && b
+}
+
+fn all_read(k: Got, d: Got, w: Got) -> bool
+    ensures { λ r. ⌜ r ≡ k .read && d .read && w .read ⌝ }
+{
+    both(both(k.read, d.read), w.read)
+}
+
+// The line on a slip in three files, each judged by its own bytes; none where one of them could not be read.
+pub fn files_line(
+    key: &[u8; KEY_ROOM],
+    digest: &[u8; DIGEST_ROOM],
+    word: &[u8; WORD_ROOM],
+    k: Got,
+    d: Got,
+    w: Got,
+) -> Line
+    ensures { λ r. ⌜ Tells (filesLine k d w (now (key .entry)) (now (digest .entry)) (now (word .entry))) (r .bytes) (r .text) ⌝ }
+    ensures { λ _. ⌜ EnoughOfFiles (length (now (key .entry))) (length (now (digest .entry))) (length (now (word .entry))) ⌝ }
+{
+    let k_n = k.bytes;
+    let d_n = d.bytes;
+    let w_n = w.bytes;
+    let k_read = part(key, 0, k_n);
+    let d_read = part(digest, 0, d_n);
+    let w_read = part(word, 0, w_n);
+    if !all_read(k, d, w) {
+        return nothing();
+    }
+    answer_line(verify::verify(k_read, d_read, w_read))
+}

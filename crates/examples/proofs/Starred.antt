@@ -1,0 +1,81 @@
+-- The starred slips of document 01 hold of the definitions, jointly. What each must give is typed from the paper.
+use Prim.Native.Nat.{ℕ, _%_}
+use mathlib.Core.Path.{_≡_, refl}
+use mathlib.Core.Bool.{true, false, cond, _||_}
+use mathlib.Core.List.{List, [], _∷_}
+use lib.Dec.{eqb}
+use Rattle.base.specs.Lists.{valuesFrom, values, every, count, equal, eachOnce}
+use Rattle.base.specs.Questions.{firstNo, granted}
+use Rattle.base.specs.Digits.{value, digits, halves}
+use Rattle.field.specs.Polynomial.{timesX, horner, times, first, reciprocalOf}
+use Rattle.field.specs.Gf32.{gf32}
+use Rattle.braid.specs.Words.{wordFile, packed, codes, filler}
+use Rattle.matrix.specs.Layout.{place, rowOf, columnOf, entry, matrixOf}
+use Rattle.matrix.specs.Product.{identity}
+use Rattle.braid.specs.Strands.{swapped}
+use Rattle.action.specs.Action.{wordOn, letterOn, shareOf, tValue, rowAfter, start}
+use Rattle.key.specs.Keys.{keyFile, keyOf, tValues, packedMatrix, entries, fillerBits, labels, wholeMatrix}
+use Rattle.digest.specs.Digest.{halfByteBraid}
+use Rattle.rewriting.specs.Kinds.{move}
+use Rattle.rewriting.specs.Rewriting.{moveQuestions, wordAfter, rewritten, rewriterQuestions}
+use Rattle.verify.specs.Cloaking.{comesBack, samePair, Cloaks}
+
+-- T-values 1 1 2 3 4 5 6 7
+abbrev pub plainTs : List ℕ
+plainTs = 1 ∷ 1 ∷ 2 ∷ 3 ∷ 4 ∷ 5 ∷ 6 ∷ 7 ∷ []
+
+abbrev pub plainOrder : List ℕ
+plainOrder = 0 ∷ 1 ∷ 2 ∷ 3 ∷ 4 ∷ 5 ∷ 6 ∷ 7 ∷ []
+
+-- the plain key: these, with both matrices the identity. A key holds 57 entries of a matrix: rows 1 to 7, then the last
+-- entry of row 8
+abbrev pub identityEntries : List ℕ
+identityEntries = values (λ k. cond (eqb (k % 9) 0 || eqb k 56) 1 0) 57
+
+abbrev pub plainKey : List ℕ
+plainKey = keyFile plainTs plainOrder identityEntries identityEntries
+
+-- three entries of row 3 after a word from the starting pair, in columns 2, 3 and 4
+abbrev pub row3 : List ℕ → List ℕ
+row3 w =
+    let m : List ℕ = wordOn gf32 plainTs w start .matrix in
+    entry m 2 1 ∷ entry m 2 2 ∷ entry m 2 3 ∷ []
+
+-- a move list is accepted on a word, with an output of 5,002 bytes, and this is the new word's file
+pub record Rewrites (word moves new : List ℕ) : Type 0 where
+  pub accepted : firstNo (rewriterQuestions 5002 word moves) ≡ 0
+  pub file : wordFile (rewritten word moves) ≡ new
+
+pub record StarredSlips : Type 0 where
+  pub product-16-2 : gf32 .mul 16 2 ≡ 5
+  pub product-31-31 : gf32 .mul 31 31 ≡ 18
+  pub reciprocal-3 : gf32 .inv 3 ≡ 28
+  pub packed-word : wordFile (0 ∷ 9 ∷ 2 ∷ 3 ∷ 12 ∷ 5 ∷ 14 ∷ []) ≡ 0x00 ∷ 0x07 ∷ 0x09 ∷ 0x23 ∷ 0xC5 ∷ 0xE0 ∷ []
+  pub permuted : wordOn gf32 plainTs (10 ∷ 5 ∷ 3 ∷ 8 ∷ 1 ∷ []) start .labels ≡ 1 ∷ 3 ∷ 0 ∷ 4 ∷ 2 ∷ 6 ∷ 5 ∷ 7 ∷ []
+  pub letter-b3 : row3 (2 ∷ []) ≡ 2 ∷ 2 ∷ 1 ∷ []
+  pub letter-b3-inverse : row3 (10 ∷ []) ≡ 1 ∷ 28 ∷ 28 ∷ []
+  pub letter-b3-b3 : row3 (2 ∷ 2 ∷ []) ≡ 4 ∷ 6 ∷ 3 ∷ []
+  pub b1-b1-cloaks : Cloaks plainKey plainOrder (0x00 ∷ 0x02 ∷ 0x00 ∷ []) 0 true
+  pub b3-b3-does-not : Cloaks plainKey plainOrder (0x00 ∷ 0x02 ∷ 0x22 ∷ []) 0 false
+  pub kind-3 : Rewrites (0x00 ∷ 0x03 ∷ 0x01 ∷ 0x00 ∷ []) (0x00 ∷ 0x01 ∷ 0x00 ∷ 0x00 ∷ 0x03 ∷ []) (0x00 ∷ 0x03 ∷ 0x10 ∷ 0x10 ∷ [])
+  pub kind-1 : Rewrites (0x00 ∷ 0x02 ∷ 0x08 ∷ []) (0x00 ∷ 0x01 ∷ 0x00 ∷ 0x00 ∷ 0x01 ∷ []) (0x00 ∷ 0x00 ∷ [])
+  pub half-byte-6 : halfByteBraid 6 ≡ 6 ∷ 5 ∷ 4 ∷ 3 ∷ 2 ∷ 2 ∷ 2 ∷ 2 ∷ 0xB ∷ 0xC ∷ 0xD ∷ 0xE ∷ []
+
+pub starred : StarredSlips
+unfolding valuesFrom every count equal eachOnce firstNo granted value digits halves timesX horner times first reciprocalOf wordFile packed codes place rowOf columnOf entry matrixOf wordOn letterOn shareOf tValue rowAfter swapped start identity halfByteBraid comesBack samePair keyFile keyOf tValues packedMatrix entries fillerBits labels wholeMatrix filler move moveQuestions wordAfter
+starred =
+    record {
+      product-16-2 = refl;
+      product-31-31 = refl;
+      reciprocal-3 = refl;
+      packed-word = refl;
+      permuted = refl;
+      letter-b3 = refl;
+      letter-b3-inverse = refl;
+      letter-b3-b3 = refl;
+      b1-b1-cloaks = record { answer-is = refl; yes-is = refl };
+      b3-b3-does-not = record { answer-is = refl; yes-is = refl };
+      kind-3 = record { accepted = refl; file = refl };
+      kind-1 = record { accepted = refl; file = refl };
+      half-byte-6 = refl;
+    }

@@ -1,0 +1,4 @@
+pub mod LayoutLaws
+pub mod StoreLaws
+pub mod SumLaws
+pub mod ProductLaws

@@ -1,0 +1,31 @@
+-- The layout of an 8 by 8 matrix in one list of 64 numbers: the only file of definitions that knows which entry is
+-- where. Rows and columns count from 0 here.
+use Prim.Native.Nat.{ℕ, _+_, _*_, _/_, _%_, _<_}
+use mathlib.Core.Path.{_≡_}
+use mathlib.Core.List.{List}
+use lib.ListN.{length, getD}
+use Rattle.base.specs.Lists.{values}
+
+-- the place of the entry in row r and column c: row by row
+unfoldable pub place : ℕ → ℕ → ℕ
+place r c = 8 * r + c
+
+-- the row and the column of the entry at a place
+unfoldable pub rowOf : ℕ → ℕ
+rowOf k = k / 8
+
+unfoldable pub columnOf : ℕ → ℕ
+columnOf k = k % 8
+
+-- the entry in row r and column c
+unfoldable pub entry : List ℕ → ℕ → ℕ → ℕ
+entry m r c = getD m (place r c) 0
+
+-- the matrix whose entry in row r and column c is f r c
+unfoldable pub matrixOf : (ℕ → ℕ → ℕ) → List ℕ
+matrixOf f = values (λ k. f (rowOf k) (columnOf k)) 64
+
+-- 64 numbers below n
+pub record Matrix (n : ℕ) (m : List ℕ) : Type 0 where
+  pub size : length m ≡ 64
+  pub below : (k : ℕ) → getD m k 0 < n

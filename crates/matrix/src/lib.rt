@@ -1,0 +1,42 @@
+// 8 by 8 matrices over GF(32), each in one array of 64 numbers.
+ghost use mathlib.Core.Path.{_≡_};
+ghost use Prim.Native.Nat.{_%_, _<_};
+ghost use Rattle.matrix.specs.Layout.{place, rowOf, columnOf, entry};
+
+mod product; // product.rt: the product of two matrices
+
+pub use product::matrix_product;
+
+// The rows, and the columns.
+pub const SIZE: usize = 8;
+
+// Where the entry in a row and a column stands. Rows and columns count from 0. Nothing else in the code knows the
+// layout.
+pub fn place(row: usize, column: usize) -> usize
+    requires { ⌜ (row < 8) × (column < 8) ⌝ }
+    ensures { λ r. ⌜ (r ≡ place row column) × (r < 64) ⌝ }
+{
+    8 * row + column
+}
+
+// The row and the column of the entry at a place.
+pub(crate) fn row_of(at: usize) -> usize
+    requires { ⌜ at < 64 ⌝ }
+    ensures { λ r. ⌜ (r ≡ rowOf at) × (r < 8) ⌝ }
+{
+    at / 8
+}
+
+pub(crate) fn column_of(at: usize) -> usize
+    requires { ⌜ at < 64 ⌝ }
+    ensures { λ r. ⌜ (r ≡ columnOf at) × (r < 8) ⌝ }
+{
+    at % 8
+}
+
+// The entry in a row and a column, each counted by its remainder by 8, so that any two numbers name an entry.
+pub fn entry(m: &[u8; 64], row: usize, column: usize) -> u8
+    ensures { λ r. ⌜ r ≡ entry (now (m .entry)) (row % 8) (column % 8) ⌝ }
+{
+    m[place(row % 8, column % 8)]
+}

@@ -1,0 +1,9 @@
+pub mod Kept
+pub mod Parts
+pub mod MoveLaws
+pub mod MoveByMove
+pub mod ListClaim
+pub mod RewriterAnswer
+pub mod CodeRows
+pub mod CodeKinds
+pub mod CodeList
