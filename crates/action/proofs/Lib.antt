@@ -10,3 +10,5 @@ pub mod CarryLaws
 pub mod FillLaws
 pub mod MultiplierLaws
 pub mod WrongPrograms
+pub mod LinearLaws
+pub mod InvertibleWords

@@ -2,3 +2,5 @@ pub mod LayoutLaws
 pub mod StoreLaws
 pub mod SumLaws
 pub mod ProductLaws
+pub mod EliminationLaws
+pub mod Invertible
