@@ -108,6 +108,30 @@ static void unpack_matrix(const uint8_t *bytes, uint8_t *matrix)
     matrix[63] = bytes[35] >> 3;
 }
 
+/* Elimination, column by column. */
+static bool is_invertible(const uint8_t *matrix)
+{
+    uint8_t rows[64];
+    memcpy(rows, matrix, 64);
+    for (unsigned c = 0; c < 8; c++) {
+        uint8_t *own = rows + 8 * c, *pivot = own, held[8];
+        while (pivot < rows + 64 && pivot[c] == 0)
+            pivot += 8;
+        if (pivot == rows + 64)
+            return false;
+        memcpy(held, pivot, 8);
+        memcpy(pivot, own, 8);
+        memcpy(own, held, 8);
+        const uint8_t *scale = products + 32 * reciprocals[held[c]];
+        for (uint8_t *row = own + 8; row < rows + 64; row += 8) {
+            const uint8_t *factor = products + 32 * scale[row[c]];
+            for (unsigned i = c; i < 8; i++)
+                row[i] ^= factor[held[i]];
+        }
+    }
+    return true;
+}
+
 static uint8_t read_key(const uint8_t *file, size_t n, key *k)
 {
     if (n != 83)
@@ -128,7 +152,7 @@ static uint8_t read_key(const uint8_t *file, size_t n, key *k)
         return 7;
     unpack_matrix(file + 8, k->first.matrix);
     unpack_matrix(file + 47, k->second);
-    return 0;
+    return is_invertible(k->first.matrix) && is_invertible(k->second) ? 0 : 26;
 }
 
 static uint8_t read_word(const uint8_t *file, size_t n, size_t *letters)

@@ -32,6 +32,7 @@
  *   23  the letters at a move's place have not the kind's shape
  *   24  an insertion would leave more than 10,000 letters
  *   25  the list handed in is not 8 bytes, 0 to 7 each once
+ *   26  a matrix of the key has no inverse
  * (answers.txt: end)
  */
 #ifndef WALNUT_H
@@ -82,14 +83,14 @@ walnut_pair walnut_start(void);
 /* Multiplies a letter, given by its code, into the lent pair. Answers: 17, 4, 6, 12, 0. Changes *pair on 0 alone. */
 uint8_t walnut_multiply(walnut_pair *pair, const uint8_t t_values[8], uint8_t letter);
 
-/* Reads a key file. Answers: 1, 2, 3, 4, 5, 6, 7, 0. Changes nothing. */
+/* Reads a key file. Answers: 1, 2, 3, 4, 5, 6, 7, 26, 0. Changes nothing. */
 walnut_key walnut_read_key(const uint8_t *file, size_t len);
 
 /* The 57 entries that a key file has of a matrix: rows 1 to 7 whole, then the last entry of row 8. It has no answer. Changes the 57. */
 void walnut_file_entries(const uint8_t matrix[64], uint8_t entries[57]);
 
 /* Writes a key file from T-values, labels and the 57 entries of each matrix, as walnut_file_entries has them.
-   Answers: 16, 17, 4, 5, 6, 0. Changes the first 83 bytes of out on 0 alone. */
+   Answers: 16, 17, 4, 5, 6, 26, 0. Changes the first 83 bytes of out on 0 alone. */
 uint8_t walnut_write_key(const uint8_t t_values[8], const uint8_t labels[8],
                          const uint8_t first[57], const uint8_t second[57], uint8_t *out, size_t len);
 
@@ -109,11 +110,11 @@ walnut_written walnut_free_reduce(const uint8_t *word, size_t n, uint8_t *out, s
    20, then move by move 21, 22, 23, 24, or 0. Changes the reported bytes of out on 0 alone. */
 walnut_written walnut_rewrite(const uint8_t *word, size_t n, const uint8_t *moves, size_t m, uint8_t *out, size_t len);
 
-/* The verdict: is the word a signature of the digest under the key? Answers: 1 to 14, 0 for yes. Changes nothing. */
+/* The verdict: is the word a signature of the digest under the key? Answers: 1 to 7, 26, 8 to 14, 0 for yes. Changes nothing. */
 uint8_t walnut_verify(const uint8_t *key, size_t kn, const uint8_t *digest, size_t dn, const uint8_t *word, size_t wn);
 
 /* Does the word cloak for the list under the key's T-values: does it bring the identity matrix with that list back unchanged?
-   Answers: 1 to 7, 25, 9, 10, 11, 12, 13, 0. Changes nothing. */
+   Answers: 1 to 7, 26, 25, 9, 10, 11, 12, 13, 0. Changes nothing. */
 walnut_cloak walnut_cloaks(const uint8_t *key, size_t kn, const uint8_t *labels, size_t ln, const uint8_t *word, size_t wn);
 
 #ifdef __cplusplus

@@ -110,6 +110,23 @@ fn is_order(labels: &[u8]) -> bool {
     (0..8).all(|label| labels.contains(&label))
 }
 
+/// Elimination, column by column.
+fn is_invertible(mut matrix: Matrix) -> bool {
+    for column in 0..8 {
+        let Some(pivot) = (column..8).find(|row| matrix[*row][column] != 0) else { return false };
+        matrix.swap(column, pivot);
+        let pivot = matrix[column];
+        let scale = &PRODUCTS[usize::from(reciprocal(pivot[column]))];
+        for row in &mut matrix[column + 1..] {
+            let factor = &PRODUCTS[usize::from(scale[usize::from(row[column])])];
+            for place in column..8 {
+                row[place] ^= factor[usize::from(pivot[place])];
+            }
+        }
+    }
+    true
+}
+
 fn read_key(file: &[u8]) -> Result<Key, u8> {
     if file.len() != 83 {
         return Err(1);
@@ -134,7 +151,11 @@ fn read_key(file: &[u8]) -> Result<Key, u8> {
     if (file[43] | file[82]) & 7 != 0 {
         return Err(7);
     }
-    Ok(Key { t_values, pair: Pair { matrix: matrix(&file[8..44]), labels }, second: matrix(&file[47..]) })
+    let (first, second) = (matrix(&file[8..44]), matrix(&file[47..]));
+    if !is_invertible(first) || !is_invertible(second) {
+        return Err(26);
+    }
+    Ok(Key { t_values, pair: Pair { matrix: first, labels }, second })
 }
 
 /// The half bytes of a row of bytes.

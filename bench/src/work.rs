@@ -1,7 +1,9 @@
 //! What is timed: the same inputs for the library, for plain Rust and for plain C.
 
+use reference::pair::carried;
 use reference::rewrite::Move;
-use reference::testkit::{move_list, Random, Slip};
+use reference::start;
+use reference::testkit::{accepted_slip, move_list, Random, Slip};
 use reference::word::word_file;
 use walnut::{Refusal, WORD_BYTES};
 
@@ -100,10 +102,17 @@ impl Work {
     }
 }
 
+/// A slip of this word that the verdict accepts, under a key as keys are made: Pub(S) is where a long word carries the
+/// starting pair, so that its matrix has an inverse and few zeros.
+fn accepted(random: &mut Random, codes: &[u8]) -> Slip {
+    let (t_values, private, digest) = (random.key_t_values(), random.word(TYPICAL), random.digest());
+    accepted_slip(&t_values, &carried(&start(), &t_values, &private), &digest, codes)
+}
+
 /// A slip of so many letters that the verdict accepts.
 fn slip(random: &mut Random, letters: usize) -> Work {
-    let (digest, codes) = (random.digest(), random.word(letters));
-    Work::Verdict(random.accepted_slip(&digest, &codes))
+    let codes = random.word(letters);
+    Work::Verdict(accepted(random, &codes))
 }
 
 /// A word of 10,000 letters that cloaks: 5,000 letters, and the way back.
@@ -111,8 +120,7 @@ fn cloaking(random: &mut Random) -> Work {
     let there = random.word(LONGEST / 2);
     let back = there.iter().rev().map(|code| code ^ 8);
     let codes: Vec<u8> = there.iter().copied().chain(back).collect();
-    let digest = random.digest();
-    Work::Cloaking { key: random.accepted_slip(&digest, &[]).key, word: word_file(&codes) }
+    Work::Cloaking { key: accepted(random, &[]).key, word: word_file(&codes) }
 }
 
 /// 4,096 moves of all kinds, each possible on the word that the last one left.

@@ -76,6 +76,9 @@ int main(void)
     if (held.answer != 0 || write_key(held.t_values, &held.pair, held.second, back) != 0)
         return 1;
     printf("that key, read and written back, is the same: %s\n", memcmp(back, file, sizeof file) == 0 ? "yes" : "no");
+    walnut_pair blank = start;
+    memset(blank.matrix, 0, sizeof blank.matrix);
+    printf("a key with both matrices zero: answer %u\n", write_key(t_values, &blank, blank.matrix, back));
 
     const uint8_t three[4] = {0x00, 0x03, 0x01, 0x00}, turn[5] = {0, 1, 0, 0, 3};
     written = walnut_rewrite(three, sizeof three, turn, sizeof turn, out, sizeof out);

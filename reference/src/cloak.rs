@@ -24,8 +24,8 @@ fn leaves_unchanged(t_values: &TValues, labels: Labels, codes: &[u8]) -> bool {
     carried(&pair, t_values, codes) == pair
 }
 
-/// Does the word cloak for the list under the key's T-values? Answers: the key's 1 to 7, then 25, then the
-/// word's 9 to 13.
+/// Does the word cloak for the list under the key's T-values? Answers: the key's 1 to 7 and 26, then 25, then
+/// the word's 9 to 13.
 pub fn cloaks(key: &[u8], labels: &[u8], word: &[u8]) -> Cloak {
     let answer = first_refusal(&[key_answer(key), list_answer(labels), word_answer(word)]);
     let list = Labels::try_from(labels).ok().filter(|_| answer == 0);

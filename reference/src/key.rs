@@ -1,4 +1,4 @@
-//! Key files (document 01, "Files"; source 000, sections 10 and 10.1).
+//! Key files (document 01, "Files"; document 02, section 1; source 000, sections 10 and 10.1).
 //!
 //! 83 bytes, that is 664 bits: N, q, eight T-values, the matrix of Pub(S), its list, the matrix of Pub(S').
 //! A matrix is 57 entries of five bits and three bits of filler.
@@ -7,7 +7,7 @@ use std::ops::Range;
 
 use crate::bits;
 use crate::field::is_element;
-use crate::matrix::{at, Matrix};
+use crate::matrix::{at, is_invertible, Matrix};
 use crate::pair::{Labels, Pair, TValues};
 use crate::questions::{first_no, is_each_label_once, Question};
 use crate::STRANDS;
@@ -64,18 +64,28 @@ fn labels(file: &[u8]) -> Vec<u8> {
     numbers(file, LABELS, LABEL_BITS)
 }
 
-/// The whole matrix in a part of a file of 83 bytes: the entries of row 8 that the file leaves out are 0.
-fn matrix(file: &[u8], part: Range<usize>) -> Matrix {
-    let entries = numbers(file, part, ELEMENT_BITS);
-    let (rows, last) = entries.split_at(PACKED_ENTRIES - 1);
+/// The places of the entries that a file holds, in its order.
+fn entry_places() -> impl Iterator<Item = usize> {
+    let rows = (1..STRANDS).flat_map(|row| (1..=STRANDS).map(move |column| at(row, column)));
+    rows.chain([at(STRANDS, STRANDS)])
+}
+
+/// The whole matrix with these entries: those of row 8 that a file leaves out are 0.
+pub fn key_matrix(entries: &[u8]) -> Matrix {
     let mut matrix = [0; 64];
-    matrix[..rows.len()].copy_from_slice(rows);
-    matrix[at(8, 8)] = last[0];
+    for (place, entry) in entry_places().zip(entries) {
+        matrix[place] = *entry;
+    }
     matrix
 }
 
+/// The whole matrix in a part of a file of 83 bytes.
+fn matrix(file: &[u8], part: Range<usize>) -> Matrix {
+    key_matrix(&numbers(file, part, ELEMENT_BITS))
+}
+
 /// The questions of a key file.
-const QUESTIONS: [Question<[u8]>; 7] = [
+const QUESTIONS: [Question<[u8]>; 8] = [
     (1, |file| file.len() == KEY_BYTES),
     (2, |file| number(file, N) == 8),
     (3, |file| number(file, Q) == 32),
@@ -83,9 +93,10 @@ const QUESTIONS: [Question<[u8]>; 7] = [
     (5, |file| t_values(file)[..2] == [1, 1]),
     (6, |file| is_each_label_once(&labels(file))),
     (7, |file| number(file, FIRST_FILLER) == 0 && number(file, SECOND_FILLER) == 0),
+    (26, |file| is_invertible(&matrix(file, FIRST)) && is_invertible(&matrix(file, SECOND))),
 ];
 
-/// The answer to a key file's questions: 1 to 7, or 0.
+/// The answer to a key file's questions: 1 to 7, 26, or 0.
 pub fn key_answer(file: &[u8]) -> u8 {
     first_no(&QUESTIONS, file)
 }
@@ -97,7 +108,7 @@ fn eight(numbers: &[u8]) -> [u8; STRANDS] {
     array
 }
 
-/// Reads a key. Answers: 1 to 7.
+/// Reads a key. Answers: 1 to 7, 26.
 pub fn read_key(file: &[u8]) -> Key {
     match key_answer(file) {
         0 => Key {
@@ -112,10 +123,9 @@ pub fn read_key(file: &[u8]) -> Key {
 
 /// The entries that a key file has of a matrix: rows 1 to 7 whole, then the last entry of row 8.
 pub fn file_entries(matrix: &Matrix) -> Entries {
-    let rows = (1..STRANDS).flat_map(|row| (1..=STRANDS).map(move |column| (row, column)));
     let mut entries = [0; PACKED_ENTRIES];
-    for (entry, (row, column)) in entries.iter_mut().zip(rows.chain([(STRANDS, STRANDS)])) {
-        *entry = matrix[at(row, column)];
+    for (entry, place) in entries.iter_mut().zip(entry_places()) {
+        *entry = matrix[place];
     }
     entries
 }
@@ -130,7 +140,7 @@ struct Parts {
 }
 
 /// The questions of the key writer.
-const WRITER_QUESTIONS: [Question<Parts>; 5] = [
+const WRITER_QUESTIONS: [Question<Parts>; 6] = [
     (16, |parts| parts.room >= KEY_BYTES),
     (17, |parts| {
         let entries = parts.first.iter().chain(&parts.second);
@@ -139,6 +149,7 @@ const WRITER_QUESTIONS: [Question<Parts>; 5] = [
     (4, |parts| !parts.t_values.contains(&0)),
     (5, |parts| parts.t_values[..2] == [1, 1]),
     (6, |parts| is_each_label_once(&parts.labels)),
+    (26, |parts| [parts.first, parts.second].iter().all(|entries| is_invertible(&key_matrix(entries)))),
 ];
 
 /// Appends numbers of so many bits each.
@@ -166,7 +177,7 @@ fn key_file(parts: &Parts) -> Vec<u8> {
     bits::to_bytes(&bits)
 }
 
-/// Writes a key into the output's first 83 bytes. Answers: 16, 17, 4, 5, 6.
+/// Writes a key into the output's first 83 bytes. Answers: 16, 17, 4, 5, 6, 26.
 pub fn write_key(
     t_values: &TValues,
     labels: &Labels,

@@ -1,10 +1,12 @@
 //! A second, independent road to the operations of document 01 ("Loan-slip signatures: braid words, keys and
-//! moves"), to run beside another implementation.
+//! moves") and of document 02's first section, to run beside another implementation.
 //!
 //! It is written for plainness, not speed, and takes another way wherever there is one:
 //!
 //! - the field multiplies the two bit strings as polynomials and divides by x^5 + x^2 + 1, without tables;
 //!   a reciprocal is found by Euclid's algorithm on polynomials ([`field`]);
+//! - whether a matrix has an inverse is asked of its determinant, worked out by expansion, without elimination
+//!   ([`matrix`]);
 //! - a letter acts on a pair as a whole coloured Burau matrix, by the general matrix product ([`pair`]);
 //! - files are packed and unpacked over an explicit string of bits ([`bits`]);
 //! - free reduction removes the first cancelling neighbours, again and again ([`reduce`]);
@@ -18,8 +20,8 @@
 //!
 //! The functions that mirror the exported interface are gathered here; each layer's own definitions stand in
 //! its module. The [`verdict`], the rewriter, [`cloak`] and [`reduce`] stand above [`pair`], [`key`],
-//! [`digest`] and [`word`]. What tests need besides, such as slips that the verdict accepts and move lists
-//! that the rewriter accepts, is in [`testkit`].
+//! [`digest`] and [`word`]. What tests need besides, such as matrices of a chosen rank, slips that the verdict
+//! accepts and move lists that the rewriter accepts, is in [`testkit`].
 
 pub mod bits;
 pub mod cloak;

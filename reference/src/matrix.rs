@@ -32,3 +32,24 @@ pub fn matrix_product(left: &Matrix, right: &Matrix) -> Matrix {
     }
     result
 }
+
+/// The determinant, by expansion: the first rows, on as many columns, have the sum over these columns of the last of
+/// those rows' entry there times the determinant of the rows before it on the other columns; signs change nothing.
+/// A set of columns is a number whose bits are the columns, and all sets are worked out, smaller ones first.
+pub fn determinant(matrix: &Matrix) -> u8 {
+    let mut minors = [0; 1 << STRANDS];
+    minors[0] = 1;
+    for columns in 1_usize..1 << STRANDS {
+        let row = columns.count_ones() as usize;
+        minors[columns] = (1..=STRANDS)
+            .map(|column| (column, columns & !(1 << (column - 1))))
+            .filter(|(_, others)| *others != columns)
+            .fold(0, |sum, (column, others)| sum ^ times(matrix[at(row, column)], minors[others]));
+    }
+    minors[(1 << STRANDS) - 1]
+}
+
+/// Can the matrix be inverted? (Question 26.) Over a field that is so exactly where its determinant is not 0.
+pub fn is_invertible(matrix: &Matrix) -> bool {
+    determinant(matrix) != 0
+}

@@ -1,10 +1,13 @@
-//! What tests need: a small generator of numbers and of what they are made of ([`Random`]), slips that the
-//! verdict accepts ([`slips`]), and move lists that the rewriter accepts ([`walks`]).
+//! What tests need: a small generator of numbers and of what they are made of ([`Random`]), matrices with an inverse
+//! and without one ([`matrices`]), slips that the verdict accepts ([`slips`]), and move lists that the rewriter accepts
+//! ([`walks`]).
 
+pub mod matrices;
 pub mod random;
 pub mod slips;
 pub mod walks;
 
+pub use matrices::inverse_matrix;
 pub use random::Random;
-pub use slips::{accepted_slip, inverse_matrix, Slip};
+pub use slips::{accepted_slip, Slip};
 pub use walks::{exponent_sum, move_list, Walk};

@@ -26,7 +26,7 @@ fn equality_answer(key: &[u8], digest: &[u8], word: &[u8]) -> u8 {
     first_no(&[(14, |matrices: &[Matrix; 2]| matrices[0] == matrices[1])], &matrices)
 }
 
-/// The verdict on a slip. Answers: the key's 1 to 7, the digest's 8, the word's 9 to 13, then 14.
+/// The verdict on a slip. Answers: the key's 1 to 7 and 26, the digest's 8, the word's 9 to 13, then 14.
 pub fn verify(key: &[u8], digest: &[u8], word: &[u8]) -> u8 {
     match first_refusal(&[key_answer(key), digest_answer(digest), word_answer(word)]) {
         0 => equality_answer(key, digest, word),

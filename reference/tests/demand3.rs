@@ -5,13 +5,12 @@ mod common;
 
 use common::{output, Random};
 use reference::letter::{codes_of, letters_of};
-use reference::matrix::identity;
 use reference::pair::carried;
 use reference::rewrite::{move_answer, moves, Move, MOST_MOVES};
-use reference::testkit::slips::has_key_shape;
+use reference::testkit::matrices::has_key_shape;
 use reference::testkit::{accepted_slip, exponent_sum, inverse_matrix, move_list, Slip};
 use reference::word::word_file;
-use reference::{free_reduce, letters, matrix_product, read_key, read_word, rewrite, verify};
+use reference::{free_reduce, letters, read_key, read_word, rewrite, verify};
 
 const ROUNDS: usize = 300;
 
@@ -108,23 +107,6 @@ fn accepted(random: &mut Random, codes: &[u8]) -> Slip {
 }
 
 // ---- The means of these tests ----
-
-#[test]
-fn inverse_matrices() {
-    let mut random = Random::seeded(35);
-    let mut found = 0;
-    for _ in 0..ROUNDS {
-        let matrix = random.elements();
-        let Some(inverse) = inverse_matrix(&matrix) else { continue };
-        found += 1;
-        assert_eq!(matrix_product(&matrix, &inverse), identity());
-        assert_eq!(matrix_product(&inverse, &matrix), identity());
-    }
-    assert!(found > ROUNDS / 2);
-    assert_eq!(inverse_matrix(&identity()), Some(identity()));
-    assert_eq!(inverse_matrix(&[0; 64]), None);
-    assert_eq!(inverse_matrix(&[7; 64]), None);
-}
 
 /// Letters keep the shape of a key's matrix, so that the solved one fits the file, and has an inverse if that of
 /// Pub(S) has; the slip is accepted, and with another digest it is not.

@@ -3,14 +3,15 @@
 
 mod common;
 
-use common::{hex, key_with_t_values, Random, PLAIN_LIST};
+use common::{hex, key_with_matrices, plain_key, Random, PLAIN_LIST, PLAIN_T_VALUES};
 use reference::digest::digest_braid;
 use reference::matrix::{at, identity};
 use reference::pair::carried;
 use reference::reduce::{cancels, freely_reduced};
+use reference::testkit::inverse_matrix;
 use reference::{
     cloaks, encode_digest, file_entries, free_reduce, letters, matrix_product, multiply, product, read_key,
-    read_word, reciprocal, write_key, write_word, Pair, WordReader,
+    read_word, reciprocal, write_key, write_word, Matrix, Pair, WordReader,
 };
 
 const ROUNDS: usize = 200;
@@ -321,24 +322,29 @@ fn cancelling_letters() {
 
 // ---- Keys ----
 
+/// 26 if one of the matrices has no inverse, by elimination; 0 otherwise.
+fn inverse_answer(matrices: [Matrix; 2]) -> u8 {
+    if matrices.iter().all(|matrix| inverse_matrix(matrix).is_some()) {
+        0
+    } else {
+        26
+    }
+}
+
 #[test]
 fn keys_come_back() {
     let mut random = Random(13);
     for _ in 0..ROUNDS {
-        let mut t_values = random.t_values();
-        t_values[..2].copy_from_slice(&[1, 1]);
-        let labels = random.labels();
-        let (first, second) = (random.elements::<57>(), random.elements::<57>());
+        let (t_values, labels) = (random.key_t_values(), random.labels());
+        let (first, second) = (random.invertible_key_matrix(), random.invertible_key_matrix());
+        let entries = [file_entries(&first), file_entries(&second)];
         let mut file = vec![0x55; 85];
-        assert_eq!(write_key(&t_values, &labels, &first, &second, &mut file), 0);
+        assert_eq!(write_key(&t_values, &labels, &entries[0], &entries[1], &mut file), 0);
         assert_eq!(file[83..], [0x55, 0x55]);
         let key = read_key(&file[..83]);
         assert_eq!((key.answer, key.t_values, key.pair.labels), (0, t_values, labels));
-        for (matrix, entries) in [(key.pair.matrix, first), (key.second, second)] {
-            assert_eq!(matrix[..56], entries[..56]);
-            assert_eq!(matrix[56..63], [0; 7]);
-            assert_eq!(matrix[63], entries[56]);
-        }
+        assert_eq!((key.pair.matrix, key.second), (first, second));
+        assert!([first, second].iter().all(|matrix| matrix[56..63] == [0; 7]));
     }
 }
 
@@ -346,33 +352,60 @@ fn keys_come_back() {
 #[test]
 fn key_files_come_back() {
     let mut random = Random(14);
+    let mut accepted = 0;
     for _ in 0..ROUNDS {
-        let mut file = key_with_t_values("08 44 32 14 C7");
+        let mut file = plain_key();
         for place in (8..44).chain(47..83) {
             file[place] = random.below(256) as u8;
         }
         file[43] &= 0xF8;
         file[82] &= 0xF8;
         let key = read_key(&file);
+        if key.answer == 26 {
+            continue;
+        }
+        accepted += 1;
         assert_eq!(key.answer, 0);
         let mut out = vec![0; 83];
         let (first, second) = (file_entries(&key.pair.matrix), file_entries(&key.second));
         assert_eq!(write_key(&key.t_values, &key.pair.labels, &first, &second, &mut out), 0);
         assert_eq!(out, file);
     }
+    assert!(accepted > ROUNDS / 2);
 }
 
-/// Every single bit of filler is asked about, and no other bit of the matrices.
+/// Keys with many zeros in their matrices, of which many have no inverse: writer and reader ask alike.
+#[test]
+fn keys_with_many_zeros() {
+    let mut random = Random(17);
+    let mut refused = 0;
+    for _ in 0..ROUNDS {
+        let (first, second) = (random.sparse_key_matrix(), random.sparse_key_matrix());
+        let expected = inverse_answer([first, second]);
+        let (entries, others) = (file_entries(&first), file_entries(&second));
+        let mut out = vec![0; 83];
+        assert_eq!(write_key(&PLAIN_T_VALUES, &PLAIN_LIST, &entries, &others, &mut out), expected);
+        let file = key_with_matrices(&first, &second);
+        assert_eq!(read_key(&file).answer, expected);
+        refused += usize::from(expected == 26);
+    }
+    assert!((ROUNDS / 10..ROUNDS).contains(&refused), "{refused}");
+}
+
+/// Every single bit of filler is asked about, and no other bit of the matrices but those of the diagonal: each one
+/// there is the only entry of its row.
 #[test]
 fn filler_of_keys() {
+    let diagonal = [0, 9, 18, 27, 36, 45, 54, 56].map(|entry| 5 * entry + 4);
     for bit in 0..664 {
-        let mut file = key_with_t_values("08 44 32 14 C7");
+        let mut file = plain_key();
         file[bit / 8] ^= 0x80 >> (bit % 8);
         let answer = read_key(&file).answer;
         let filler = (349..352).contains(&bit) || (661..664).contains(&bit);
         assert_eq!(answer == 7, filler, "{bit}");
         if (64..349).contains(&bit) || (376..661).contains(&bit) {
-            assert_eq!(answer, 0, "{bit}");
+            let place = if bit < 349 { bit - 64 } else { bit - 376 };
+            assert_eq!(answer, if diagonal.contains(&place) { 26 } else { 0 }, "{bit}");
         }
     }
 }
@@ -401,7 +434,7 @@ fn digest_braids() {
 #[test]
 fn cloaking_elements() {
     let mut random = Random(16);
-    let key = key_with_t_values("08 44 32 14 C7");
+    let key = plain_key();
     let mut found = 0;
     while found < 20 {
         let (list, w, i) = (random.labels(), random.word(10), random.below(7) as u8);
@@ -428,5 +461,5 @@ fn cloaking_elements() {
 fn longest_cloaking_word() {
     let mut word = hex("27 10");
     word.resize(5_002, 0);
-    assert!(cloaks(&key_with_t_values("08 44 32 14 C7"), &PLAIN_LIST, &word).yes);
+    assert!(cloaks(&plain_key(), &PLAIN_LIST, &word).yes);
 }

@@ -4,7 +4,7 @@
 
 mod common;
 
-use common::{file, hex, key_with_t_values, output, plain_key, refuses, PACKED_IDENTITY};
+use common::{blank_key, file, hex, key_with_t_values, output, plain_key, refuses, PACKED_IDENTITY};
 use reference::{rewrite, verify, Written};
 
 /// The word that a list of moves leaves, both in hexadecimal.
@@ -386,13 +386,17 @@ fn cancelling_letters_do_not_count() {
     assert_eq!(verify(&plain_key(), &[0x11; 32], &hex(&format!("00 80 {SEVENS}"))), 14);
 }
 
-/// Both matrices zero: both sides are zero, whatever the word.
+/// With both matrices zero both sides would be zero, whatever the word; with one of them no word would do. No such
+/// key is accepted.
 #[test]
-fn key_of_zeros_accepts_every_word() {
-    let zeros = "00 ".repeat(36);
-    let key = hex(&format!("08 00 20 08 44 32 14 C7 {zeros} 05 39 77 {zeros}"));
-    for word in ["00 00", "00 01 00", "00 07 09 23 C5 E0"] {
-        assert_eq!(verdict(&key, word), 0);
+fn keys_of_zeros_are_refused() {
+    let (plain, blank) = (plain_key(), blank_key());
+    let first_blank = [&blank[..44], &plain[44..]].concat();
+    let second_blank = [&plain[..44], &blank[44..]].concat();
+    for key in [blank, first_blank, second_blank] {
+        for word in ["00 00", "00 01 00", "00 07 09 23 C5 E0", &format!("00 80 {SEVENS}")] {
+            assert_eq!(verdict(&key, word), 26);
+        }
     }
 }
 
@@ -403,10 +407,12 @@ fn verdict_questions_in_order() {
     for (place, byte, expected) in
         [(0, 9, 2), (2, 33, 3), (7, 0xC0, 4), (3, 0x10, 5), (46, 0x76, 6), (43, 0x09, 7), (82, 0x0C, 7)]
     {
-        let mut key = good.clone();
+        let (mut key, mut blank) = (good.clone(), blank_key());
         key[place] = byte;
-        keys.push((key, expected));
+        blank[place] = byte;
+        keys.extend([(key, expected), (blank, expected)]);
     }
+    keys.push((blank_key(), 26));
     let words = [
         ("", 9),
         ("00", 9),

@@ -4,7 +4,8 @@
 mod common;
 
 use common::{
-    file, hex, key_with_t_values, output, plain_key, refuses, PACKED_IDENTITY, PLAIN_LIST, PLAIN_T_VALUES,
+    blank_key, file, hex, key_with_t_values, output, plain_key, refuses, PACKED_IDENTITY, PLAIN_LIST,
+    PLAIN_T_VALUES,
 };
 use reference::digest::half_byte_braid;
 use reference::letter::{is_letter, Letter};
@@ -419,15 +420,19 @@ fn plain_key_has_83_bytes() {
     assert_eq!(hex(PACKED_IDENTITY).len() * 8, 57 * 5 + 3);
 }
 
-/// Entries 16, 1, 16, 1, .. are the bits 10000 00001 again and again: forty bits are 80 60 18 06 01. The last
-/// of the 57 is 16, so 10000, and three zero bits follow it.
+/// 16 on the diagonal and 1 above it: eight entries of five bits are five bytes, so a row is packed by itself, row 1 as
+/// 10000 00001 00001 00001 00001 00001 00001 00001 and row 2 as 00000 10000 00001 and so on. The last of the 57 is
+/// 16, so 10000, and three zero bits follow it. The matrix is triangular without a zero on its diagonal.
 #[test]
 fn every_entry_has_its_place() {
     let mut first = [0; 57];
-    for (place, entry) in first.iter_mut().enumerate() {
-        *entry = if place % 2 == 0 { 16 } else { 1 };
+    for row in 0..7 {
+        first[8 * row + row] = 16;
+        first[8 * row + row + 1..8 * row + 8].fill(1);
     }
-    let packed = format!("{} 80", "80 60 18 06 01 ".repeat(7));
+    first[56] = 16;
+    let packed = "80 42 10 84 21 04 02 10 84 21 00 20 10 84 21 00 01 00 84 21 \
+                  00 00 08 04 21 00 00 00 40 21 00 00 00 02 01 80";
     let expected = hex(&format!("08 00 20 08 44 32 14 C7 {packed} FA C6 88 {PACKED_IDENTITY}"));
     let mut out = vec![0; 83];
     let reversed = [7, 6, 5, 4, 3, 2, 1, 0];
@@ -483,9 +488,14 @@ fn key_refusals_in_order() {
     file[43] = 0xFC;
     refused(&file, 7);
     file[43] = 0xF8;
-    let key = read_key(&file);
-    assert_eq!((key.answer, key.second[0], key.second[55], key.second[63]), (0, 31, 31, 31));
-    assert_eq!((key.second[56], key.pair.matrix[62]), (0, 0), "no test is made of the matrices");
+    refused(&file, 26); // all entries 31: rows 1 to 7 are equal
+    file[8..44].copy_from_slice(&hex(PACKED_IDENTITY));
+    refused(&file, 26);
+    file[47..].copy_from_slice(&hex(PACKED_IDENTITY));
+    assert_eq!(file, plain_key());
+    assert_eq!(read_key(&file).answer, 0);
+    file[8..44].fill(0);
+    refused(&file, 26);
 }
 
 #[test]
@@ -493,6 +503,10 @@ fn key_writer_refusals_in_order() {
     let good = identity_entries();
     let mut bad = good;
     bad[56] = 32;
+    let mut row_lost = good;
+    row_lost[27] = 0;
+    let blank = [0; 57];
+    let high_alone = [32; 57];
     let zero = [2, 1, 0, 3, 4, 5, 6, 7];
     let high = [2, 1, 0, 3, 4, 5, 6, 32];
     let not_one = [1, 2, 2, 3, 4, 5, 6, 7];
@@ -508,6 +522,15 @@ fn key_writer_refusals_in_order() {
         ([3, 1, 2, 3, 4, 5, 6, 7], twice, good, good, 83, 5),
         (PLAIN_T_VALUES, twice, good, good, 83, 6),
         (PLAIN_T_VALUES, eight, good, good, 83, 6),
+        (PLAIN_T_VALUES, PLAIN_LIST, blank, high_alone, 83, 17),
+        (zero, PLAIN_LIST, blank, blank, 83, 4),
+        (not_one, PLAIN_LIST, blank, blank, 83, 5),
+        (PLAIN_T_VALUES, twice, blank, blank, 83, 6),
+        (PLAIN_T_VALUES, PLAIN_LIST, blank, blank, 83, 26),
+        (PLAIN_T_VALUES, PLAIN_LIST, blank, good, 83, 26),
+        (PLAIN_T_VALUES, PLAIN_LIST, good, blank, 83, 26),
+        (PLAIN_T_VALUES, PLAIN_LIST, row_lost, good, 83, 26),
+        (PLAIN_T_VALUES, PLAIN_LIST, good, row_lost, 83, 26),
     ] {
         let mut out = vec![0xAA; size];
         assert_eq!(write_key(&t_values, &labels, &first, &second, &mut out), expected);
@@ -712,6 +735,8 @@ fn cloaking_refusals_in_order() {
         assert_eq!(cloaks(key, list, word), Cloak { answer: expected, yes: false });
     };
     refused(&[], &[], &[], 1);
+    refused(&blank_key(), &[], &[], 26);
+    refused(&blank_key(), &PLAIN_LIST, &hex("00 00"), 26);
     for list in ["", "00 01 02 03 04 05 06", "00 01 02 03 04 05 06 07 08", "00 01 02 03 04 05 06 06"] {
         refused(&plain_key(), &hex(list), &[], 25);
     }

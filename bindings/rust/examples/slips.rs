@@ -68,6 +68,8 @@ fn main() -> Result<(), Refusal> {
     println!("row 3 of Pub(S'): {}", decimal(&held.second[16..24]));
     let back = key_file(&held.t_values, &held.pair, &held.second)?;
     println!("that key, read and written back, is the same: {}", yes_or_no(back == file));
+    let blank = Pair { matrix: [0; 64], ..Pair::start() };
+    println!("a key with both matrices zero: answer {}", answer(key_file(&T_VALUES, &blank, &blank.matrix)));
 
     let moved = walnut::rewrite(&[0, 3, 1, 0], &[0, 1, 0, 0, 3], &mut out)?;
     println!("00 03 01 00 with kind 3 at place 0 gives {}", hex(moved));

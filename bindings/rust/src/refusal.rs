@@ -32,6 +32,7 @@ fn text(number: u8) -> &'static str {
         23 => "the letters at a move's place have not the kind's shape",
         24 => "an insertion would leave more than 10,000 letters",
         25 => "the list handed in is not 8 bytes, 0 to 7 each once",
+        26 => "a matrix of the key has no inverse",
         // answers.txt: end
         _ => "an answer that this binding does not know",
     }

@@ -1,21 +1,12 @@
--- Lists by label: a list with a place for every byte, filled from eight T-values; the reciprocal of any byte, by its
--- five low bits.
-use Prim.Native.Nat.{ℕ, zero, suc, _+_, _%_, _<_, _≤_}
-use mathlib.Core.Path.{_≡_, refl, sym, ap, _∙_, fun-ext}
-use mathlib.Core.Bool.{Bool, not}
-use mathlib.Core.List.{List, [], _∷_}
+-- Lists by label: a list with a place for every byte, filled from eight T-values.
+use Prim.Native.Nat.{ℕ, zero, suc, _+_, _<_, _≤_}
+use mathlib.Core.Path.{_≡_, refl, sym, ap, _∙_}
+use mathlib.Core.List.{List}
 use native.Mathlib.Omega.{arith}
-use native.Mathlib.Decide.{ℕ-discrete, decLt}
-use borrow.Author.Tests.{eq-eqb, ne-eqb, lt-ltb}
-use lib.Dec.{eqb}
+use native.Mathlib.Decide.{decLt}
 use lib.ListN.{length, getD, set, replicate, length-set, List·getD-eq-default}
 use lib.Seq.{getD-set-other}
-use Rattle.base.specs.Questions.{_else_, firstNo, granted}
 use Rattle.base.proofs.ListLaws.{one-more}
-use Rattle.base.proofs.QuestionLaws.{passes, fails, granted-zero, granted-refused}
-use Rattle.field.specs.Polynomial.{times, horner, timesX, first, reciprocalOf}
-use Rattle.field.specs.Gf32.{gf32, reciprocalQuestions, Gives}
-use Rattle.field.proofs.TableLaws.{mul-low}
 use Rattle.action.specs.Rows.{ByLabel}
 
 -- the list is filled up to place i, and 0 stands from there on
@@ -47,29 +38,3 @@ module _ (f : ℕ → ℕ) (ts : List ℕ) where
       at : Dec (label < 8) → getD list label 0 ≡ f (getD ts label 0)
       at (yes h) = w .done label h
       at (no h) = w .rest label (omega arith) ∙ sym (ap f (List·getD-eq-default ts 0 {n = label} (omega arith)) ∙ z)
-
-twice : (a : ℕ) → a % 32 % 32 ≡ a % 32
-twice a = omega arith
-
--- the reciprocal reads the five low bits of its operand; that of 0 is 0
-inv-low : (a : ℕ) → gf32 .inv (a % 32) ≡ gf32 .inv a
-unfolding reciprocalOf
-inv-low a = ap (λ (f : ℕ → Bool). first f 0 32) (fun-ext (λ b. ap (λ (x : ℕ). eqb x 1) (mul-low (a % 32) b ∙ ap (λ (c : ℕ). gf32 .mul c (b % 32)) (twice a) ∙ sym (mul-low a b))))
-
-pub inv-zero : gf32 .inv 0 ≡ 0
-unfolding reciprocalOf first times horner timesX
-inv-zero = refl
-
--- what the field's reciprocal gives for the five low bits
-pub reciprocal-any : (t : ℕ) {answer value : ℕ} → Gives (reciprocalQuestions (t % 32)) (gf32 .inv (t % 32)) answer value → value ≡ gf32 .inv t
-unfolding firstNo
-reciprocal-any t given = given .value-is ∙ at (ℕ-discrete (t % 32) 0)
-  where
-    element : firstNo (reciprocalQuestions (t % 32)) ≡ firstNo ((not (eqb (t % 32) 0) else 4) ∷ [])
-    element = passes 17 ((not (eqb (t % 32) 0) else 4) ∷ []) (lt-ltb (t % 32) 32 (omega arith))
-
-    at : Dec (t % 32 ≡ 0) → granted (firstNo (reciprocalQuestions (t % 32))) (gf32 .inv (t % 32)) 0 ≡ gf32 .inv t
-    at (yes z) =
-        let asked : firstNo (reciprocalQuestions (t % 32)) ≡ 4 = element ∙ fails 4 [] (ap not (eq-eqb (t % 32) 0 z)) in
-        granted-refused (gf32 .inv (t % 32)) 0 (λ e. omega arith) ∙ sym (sym (inv-low t) ∙ ap (gf32 .inv) z ∙ inv-zero)
-    at (no n) = granted-zero (gf32 .inv (t % 32)) 0 (element ∙ passes 4 [] (ap not (ne-eqb (t % 32) 0 n))) ∙ inv-low t

@@ -1,4 +1,4 @@
-// The desk's reading and writing: bytes come in, and what `slip` makes of them goes out.
+// The desk's reading and writing: bytes come in, and what `desk_line` makes of them goes out.
 use desk_line::Got;
 use desk_line::Line;
 use libc::STDIN_FILENO;

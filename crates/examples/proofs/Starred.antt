@@ -1,7 +1,7 @@
 -- The starred slips of document 01 hold of the definitions, jointly. What each must give is typed from the paper.
 use Prim.Native.Nat.{ℕ, _%_}
-use mathlib.Core.Path.{_≡_, refl}
-use mathlib.Core.Bool.{true, false, cond, _||_}
+use mathlib.Core.Path.{_≡_, refl, _∙_}
+use mathlib.Core.Bool.{Bool, true, false, cond, _||_}
 use mathlib.Core.List.{List, [], _∷_}
 use lib.Dec.{eqb}
 use Rattle.base.specs.Lists.{valuesFrom, values, every, count, equal, eachOnce}
@@ -9,15 +9,17 @@ use Rattle.base.specs.Questions.{firstNo, granted}
 use Rattle.base.specs.Digits.{value, digits, halves}
 use Rattle.field.specs.Polynomial.{timesX, horner, times, first, reciprocalOf}
 use Rattle.field.specs.Gf32.{gf32}
-use Rattle.braid.specs.Words.{wordFile, packed, codes, filler}
+use Rattle.braid.specs.Words.{wordFile, packed, codes, filler, wordAnswer}
 use Rattle.matrix.specs.Layout.{place, rowOf, columnOf, entry, matrixOf}
 use Rattle.matrix.specs.Product.{identity}
 use Rattle.braid.specs.Strands.{swapped}
 use Rattle.action.specs.Action.{wordOn, letterOn, shareOf, tValue, rowAfter, start}
-use Rattle.key.specs.Keys.{keyFile, keyOf, tValues, packedMatrix, entries, fillerBits, labels, wholeMatrix}
+use Rattle.key.specs.Keys.{keyAnswer, keyFile, keyOf, tValues, packedMatrix, entries, fillerBits, labels, wholeMatrix}
 use Rattle.digest.specs.Digest.{halfByteBraid}
 use Rattle.rewriting.specs.Kinds.{move}
 use Rattle.rewriting.specs.Rewriting.{moveQuestions, wordAfter, rewritten, rewriterQuestions}
+use Rattle.key.proofs.Inverses.{accepted-with, identity-has}
+use Rattle.verify.proofs.CloakLaws.{past-list, answered}
 use Rattle.verify.specs.Cloaking.{comesBack, samePair, Cloaks}
 
 -- T-values 1 1 2 3 4 5 6 7
@@ -61,8 +63,19 @@ pub record StarredSlips : Type 0 where
   pub kind-1 : Rewrites (0x00 ∷ 0x02 ∷ 0x08 ∷ []) (0x00 ∷ 0x01 ∷ 0x00 ∷ 0x00 ∷ 0x01 ∷ []) (0x00 ∷ 0x00 ∷ [])
   pub half-byte-6 : halfByteBraid 6 ≡ 6 ∷ 5 ∷ 4 ∷ 3 ∷ 2 ∷ 2 ∷ 2 ∷ 2 ∷ 0xB ∷ 0xC ∷ 0xD ∷ 0xE ∷ []
 
+-- the plain key is accepted: the identity is its own inverse
+plain-accepted : keyAnswer plainKey ≡ 0
+unfolding firstNo valuesFrom every count eachOnce value digits tValues packedMatrix entries fillerBits labels wholeMatrix matrixOf rowOf columnOf identity keyFile
+plain-accepted = accepted-with plainKey refl identity-has identity-has
+
+-- cloaking under it for the list 0 to 7
+cloaking : (word : List ℕ) {yes : Bool} → wordAnswer word ≡ 0 → yes ≡ comesBack gf32 (keyOf plainKey .«t_values») plainOrder (codes word)
+    → Cloaks plainKey plainOrder word 0 yes
+unfolding every count eachOnce valuesFrom
+cloaking word w e = answered plainKey plainOrder word (past-list plainKey plainOrder word plain-accepted refl ∙ w) e
+
 pub starred : StarredSlips
-unfolding valuesFrom every count equal eachOnce firstNo granted value digits halves timesX horner times first reciprocalOf wordFile packed codes place rowOf columnOf entry matrixOf wordOn letterOn shareOf tValue rowAfter swapped start identity halfByteBraid comesBack samePair keyFile keyOf tValues packedMatrix entries fillerBits labels wholeMatrix filler move moveQuestions wordAfter
+unfolding valuesFrom every count equal eachOnce firstNo granted value digits halves timesX horner times first reciprocalOf wordFile packed codes wordAnswer place rowOf columnOf entry matrixOf wordOn letterOn shareOf tValue rowAfter swapped start identity halfByteBraid comesBack samePair keyFile keyOf tValues packedMatrix entries fillerBits labels wholeMatrix filler move moveQuestions wordAfter
 starred =
     record {
       product-16-2 = refl;
@@ -73,8 +86,8 @@ starred =
       letter-b3 = refl;
       letter-b3-inverse = refl;
       letter-b3-b3 = refl;
-      b1-b1-cloaks = record { answer-is = refl; yes-is = refl };
-      b3-b3-does-not = record { answer-is = refl; yes-is = refl };
+      b1-b1-cloaks = cloaking (0x00 ∷ 0x02 ∷ 0x00 ∷ []) refl refl;
+      b3-b3-does-not = cloaking (0x00 ∷ 0x02 ∷ 0x22 ∷ []) refl refl;
       kind-3 = record { accepted = refl; file = refl };
       kind-1 = record { accepted = refl; file = refl };
       half-byte-6 = refl;

@@ -88,6 +88,31 @@ pub(crate) fn refusals() {
     );
 }
 
+// The plain key with its first matrix zero, with its second zero, and with both.
+fn first_blank() -> [u8; 83] {
+    let mut file = plain();
+    base::put(&mut file[8..], &[0u8; 36]);
+    file
+}
+
+fn second_blank() -> [u8; 83] {
+    let mut file = plain();
+    base::put(&mut file[47..], &[0u8; 36]);
+    file
+}
+
+pub(crate) fn blank() -> [u8; 83] {
+    let mut file = first_blank();
+    base::put(&mut file[47..], &[0u8; 36]);
+    file
+}
+
+pub(crate) fn no_inverses() {
+    refused(b"blank key", &blank());
+    refused(b"key with a blank first matrix", &first_blank());
+    refused(b"key with a blank second matrix", &second_blank());
+}
+
 // The identity matrix: rows 1 to 7, then the last entry of row 8.
 fn identity() -> [u8; 57] {
     let mut entries = [0u8; 57];
@@ -150,6 +175,18 @@ pub(crate) fn unwritten() {
         &order,
         &matrix,
         &mut other,
+        0,
+    );
+}
+
+pub(crate) fn blank_unwritten() {
+    let mut out = [show::FILL; 90];
+    write(
+        b"blank key",
+        &[1, 1, 2, 3, 4, 5, 6, 7],
+        &[0, 1, 2, 3, 4, 5, 6, 7],
+        &[0; 57],
+        &mut out,
         0,
     );
 }
@@ -220,4 +257,5 @@ pub(crate) fn not_cloaking() {
         b"\x00\x01\x02\x03\x04\x05\x06\x07",
         b"",
     );
+    cloak_under(b"a list of no bytes, blank key", &blank(), b"", b"");
 }

@@ -24,8 +24,10 @@ fn main() {
     files::digests();
     keys::read();
     keys::refusals();
+    keys::no_inverses();
     keys::written();
     keys::unwritten();
+    keys::blank_unwritten();
     keys::cloaking();
     keys::not_cloaking();
     signatures::rewritten();

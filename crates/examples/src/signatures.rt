@@ -1,4 +1,5 @@
 // Whole slips: words rewritten by move lists, and verdicts.
+use crate::keys::blank;
 use crate::keys::plain;
 use crate::show;
 
@@ -54,10 +55,14 @@ pub(crate) fn full() {
     rewrite_full(b"10000 letters, kind 16 at 0", b"\x00\x01\x00\x00\x10");
 }
 
+fn judge_under(name: &[u8], key: &[u8], word: &[u8]) {
+    let digest = [0u8; 32];
+    show::line(name, verify::verify(key, &digest, word), b"");
+}
+
 fn judge(name: &[u8], word: &[u8]) {
     let key = plain();
-    let digest = [0u8; 32];
-    show::line(name, verify::verify(&key, &digest, word), b"");
+    judge_under(name, &key, word);
 }
 
 // 128 letters b7: the braid of 32 zero bytes.
@@ -72,4 +77,5 @@ pub(crate) fn verdicts() {
     let word = sevens();
     judge(b"plain key, zero digest, 00 80 66 ..", &word);
     judge(b"plain key, zero digest, 00 00", b"\x00\x00");
+    judge_under(b"blank key, zero digest, 00 00", &blank(), b"\x00\x00");
 }

@@ -20,7 +20,7 @@ use Rattle.action.specs.Good.{TValues, GoodPair}
 use Rattle.action.proofs.GoodLaws.{tested-values, order-below}
 use Rattle.matrix.specs.Layout.{Matrix}
 use Rattle.matrix.proofs.LayoutLaws.{matrixOf-good}
-use Rattle.key.specs.Keys.{statedStrands, fieldSize, tValues, labels, entries, fillerBits, firstBytes, secondBytes, wholeMatrix, startsWithOnes, keyQuestions, keyAnswer, keyOf, keyWriterQuestions}
+use Rattle.key.specs.Keys.{statedStrands, fieldSize, tValues, labels, entries, fillerBits, firstBytes, secondBytes, wholeMatrix, startsWithOnes, bothInvertible, keyQuestions, keyAnswer, keyOf, keyWriterQuestions}
 use Rattle.key.specs.Parts.{Parts}
 use Rattle.base.specs.Packing.{Below}
 use Rattle.key.proofs.EntryLaws.{getD-zeros}
@@ -62,7 +62,7 @@ whole-matrix es below =
     (append-below (replicate 7 0) (drop 56 es) (below-zeros 32 7 (omega arith)) (drop-below 56 es below)) in
     matrixOf-good (λ r c. getD (take 56 es ++ (replicate 7 0 ++ drop 56 es)) (8 * r + c) 0) (omega arith) (λ r c p q. all (8 * r + c))
 
-matrix-good : (bytes : List ℕ) → Matrix 32 (wholeMatrix (entries bytes))
+pub matrix-good : (bytes : List ℕ) → Matrix 32 (wholeMatrix (entries bytes))
 matrix-good bytes = whole-matrix (entries bytes) (entries-below bytes)
 
 -- the same as tests
@@ -80,6 +80,7 @@ pub record Accepted (file : List ℕ) : Type 0 where
   pub order : isOrder (labels file) ≡ true
   pub first-filler : fillerBits (firstBytes file) ≡ 0
   pub second-filler : fillerBits (secondBytes file) ≡ 0
+  pub inverses : bothInvertible (wholeMatrix (entries (firstBytes file))) (wholeMatrix (entries (secondBytes file))) ≡ true
 
 pub accepted : (file : List ℕ) → keyAnswer file ≡ 0 → Accepted file
 unfolding keyAnswer
@@ -97,6 +98,7 @@ accepted file e =
       order = p .1 .1 .1 .1 .1 .0;
       first-filler = eqb-true (fillerBits (firstBytes file)) 0 (and-left a b f);
       second-filler = eqb-true (fillerBits (secondBytes file)) 0 (and-right a b f);
+      inverses = p .1 .1 .1 .1 .1 .1 .1 .0;
     }
 
 pub accepted-answers : (file : List ℕ) → Accepted file → keyAnswer file ≡ 0
@@ -116,7 +118,7 @@ accepted-answers file a =
                 a .order,
                 (
                   and-both (eq-eqb (fillerBits (firstBytes file)) 0 (a .first-filler)) (eq-eqb (fillerBits (secondBytes file)) 0 (a .second-filler)),
-                  tt,
+                  (a .inverses, tt),
                 ),
               ),
             ),
@@ -146,6 +148,7 @@ pub record Writable (room : ℕ) (ts order first second : List ℕ) : Type 0 whe
   pub ts-nonzero : nonzero ts ≡ true
   pub ts-ones : startsWithOnes ts ≡ true
   pub is-order : isOrder order ≡ true
+  pub inverses : bothInvertible (wholeMatrix first) (wholeMatrix second) ≡ true
 
 pub writable : (room : ℕ) (ts order first second : List ℕ) → firstNo (keyWriterQuestions room ts order first second) ≡ 0 → Writable room ts order first second
 writable room ts order first second e =
@@ -159,6 +162,7 @@ writable room ts order first second e =
       ts-nonzero = p .1 .1 .0;
       ts-ones = p .1 .1 .1 .0;
       is-order = p .1 .1 .1 .1 .0;
+      inverses = p .1 .1 .1 .1 .1 .0;
     }
 
 pub parts : {room : ℕ} {ts order first second : List ℕ} → Writable room ts order first second → Parts ts order first second

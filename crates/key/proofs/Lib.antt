@@ -5,3 +5,4 @@ pub mod FileLaws
 pub mod EntryLaws
 pub mod RoundTrip
 pub mod WrongPrograms
+pub mod Inverses

@@ -17,7 +17,7 @@ use Rattle.base.proofs.DigitLaws.{digits-value, below-all}
 use Rattle.braid.specs.Strands.{isOrder}
 use Rattle.action.specs.Multiplier.{elements, nonzero}
 use Rattle.key.specs.declared.Key.{Key}
-use Rattle.key.specs.Keys.{tValues, labels, entries, firstBytes, secondBytes, fillerBits, fieldSize, fileEntries, packedMatrix, startsWithOnes, keyAnswer, keyHolding, keyOf, zeroKey, ReadsKey, keyFile, keyWriterQuestions, WroteFile, WroteKey}
+use Rattle.key.specs.Keys.{tValues, labels, entries, firstBytes, secondBytes, fillerBits, fieldSize, fileEntries, packedMatrix, wholeMatrix, startsWithOnes, bothInvertible, keyAnswer, keyHolding, keyOf, zeroKey, ReadsKey, keyFile, keyWriterQuestions, WroteFile, WroteKey}
 use Rattle.key.specs.Parts.{Parts, Sizes}
 use Rattle.base.specs.Packing.{Below}
 use Rattle.base.proofs.PackLaws.{below-part, length-part, regrouped-back}
@@ -67,6 +67,7 @@ module _ (ts order first second : List ℕ) (size : Sizes ts order first second)
         order = ap (λ (xs : List ℕ). isOrder xs) order-back ∙ w .is-order;
         first-filler = ap fillerBits (part-first ts order first second) ∙ filler-packed first (fit .first-below) (size .first-size);
         second-filler = ap fillerBits (part-second ts order first second) ∙ filler-packed second (fit .second-below) (size .second-size);
+        inverses = ap₂ (λ (f s : List ℕ). bothInvertible (wholeMatrix f) (wholeMatrix s)) first-back second-back ∙ w .inverses;
       }
 
   -- the key that it holds
@@ -125,7 +126,7 @@ read-is-writable room file h e =
     let all : (bytes : List ℕ) → elements (entries bytes) ≡ true = λ bytes. below-all 32 (entries bytes) (λ k l. entries-below bytes k) in
     passed-answers (keyWriterQuestions room (tValues file) (labels file) (entries (firstBytes file)) (entries (secondBytes file))) (
       le-leb 83 room h,
-      (and-both (and-both (t-values-elements file) (all (firstBytes file))) (all (secondBytes file)), (ok .no-zero, (ok .ones, (ok .order, tt)))),
+      (and-both (and-both (t-values-elements file) (all (firstBytes file))) (all (secondBytes file)), (ok .no-zero, (ok .ones, (ok .order, (ok .inverses, tt))))),
     )
 
 -- ---- what the operations give

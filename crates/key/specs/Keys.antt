@@ -9,7 +9,9 @@ use lib.ListN.{length, take, drop, getD, replicate}
 use Rattle.base.specs.Questions.{Question, _else_, firstNo, granted}
 use Rattle.base.specs.Lists.{values, overlaid}
 use Rattle.base.specs.Digits.{value, digits, part}
+use Rattle.field.specs.Gf32.{gf32}
 use Rattle.matrix.specs.Layout.{entry, matrixOf}
+use Rattle.matrix.specs.Elimination.{invertible}
 use Rattle.action.specs.Action.{pairOf}
 use Rattle.braid.specs.Strands.{isOrder}
 use Rattle.action.specs.Multiplier.{elements, nonzero, zeroPair}
@@ -58,7 +60,11 @@ fileEntries m = values (λ k. entry m (k / 8) (k % 8)) 56 ++ (entry m 7 7 ∷ []
 abbrev pub startsWithOnes : List ℕ → Bool
 startsWithOnes ts = eqb (getD ts 0 0) 1 && eqb (getD ts 1 0) 1
 
--- Key file: 1 to 7
+-- can each matrix be inverted, as elimination over the field decides?
+abbrev pub bothInvertible : List ℕ → List ℕ → Bool
+bothInvertible first second = invertible gf32 8 (entry first) && invertible gf32 8 (entry second)
+
+-- Key file: 1 to 7, then 26
 abbrev pub keyQuestions : List ℕ → List Question
 keyQuestions file =
     (eqb (length file) 83 else 1)
@@ -68,6 +74,7 @@ keyQuestions file =
     ∷ (startsWithOnes (tValues file) else 5)
     ∷ (isOrder (labels file) else 6)
     ∷ (eqb (fillerBits (firstBytes file)) 0 && eqb (fillerBits (secondBytes file)) 0 else 7)
+    ∷ (bothInvertible (wholeMatrix (entries (firstBytes file))) (wholeMatrix (entries (secondBytes file))) else 26)
     ∷ []
 
 unfoldable pub keyAnswer : List ℕ → ℕ
@@ -104,7 +111,7 @@ keyFile ts order first second =
     ++ (digits 256 3 (value 8 order)
     ++ packedMatrix second)))
 
--- Key writer: 16, 17, then 4, 5, 6
+-- Key writer: 16, 17, then 4, 5, 6, 26, the last of the matrices that its entries make
 abbrev pub keyWriterQuestions : ℕ → List ℕ → List ℕ → List ℕ → List ℕ → List Question
 keyWriterQuestions room ts order first second =
     (leb 83 room else 16)
@@ -112,6 +119,7 @@ keyWriterQuestions room ts order first second =
     ∷ (nonzero ts else 4)
     ∷ (startsWithOnes ts else 5)
     ∷ (isOrder order else 6)
+    ∷ (bothInvertible (wholeMatrix first) (wholeMatrix second) else 26)
     ∷ []
 
 -- what a writer that reports no bytes gives and leaves: its answer; the file in the output's first bytes with the rest

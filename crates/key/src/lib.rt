@@ -52,7 +52,7 @@ fn key_of(file: &[u8]) -> Key
     }
 }
 
-// Reads a key file: questions 1 to 7.
+// Reads a key file: questions 1 to 7, then 26 of both matrices.
 pub fn read_key(file: &[u8]) -> KeyRead
     ensures { λ r. ⌜ ReadsKey (now (file .entry)) (r .answer) (r .key) ⌝ }
 {
@@ -62,10 +62,18 @@ pub fn read_key(file: &[u8]) -> KeyRead
         return KeyRead { answer, key };
     }
     let key = key_of(file);
+    let pair = key.pair;
+    let first = pair.matrix;
+    let second = key.second;
+    let inverses = read::both_invertible(first, second);
+    if !inverses {
+        let key = zero_key();
+        return KeyRead { answer: 26, key };
+    }
     KeyRead { answer, key }
 }
 
-// Writes a key file from fixed arrays: questions 16, 17, 4, 5, 6. Bytes past the 83 do not change.
+// Writes a key file from fixed arrays: questions 16, 17, 4, 5, 6, 26. Bytes past the 83 do not change.
 pub fn write_key(
     t_values: &[u8; 8],
     labels: &[u8; 8],

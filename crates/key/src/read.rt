@@ -1,11 +1,12 @@
-// The parts of a key file of 83 bytes, and the questions 1 to 7 that are asked of it.
+// The parts of a key file of 83 bytes, and the questions that are asked of it before its matrices are taken: 1 to 7.
 ghost use mathlib.Core.Path.{_≡_};
 ghost use mathlib.Core.Bool.{_&&_};
 ghost use lib.Dec.{eqb};
 ghost use Prim.Native.Nat.{_^_, _≤_, _<_};
-ghost use lib.ListN.{length};
+ghost use lib.ListN.{length, take};
+ghost use Rattle.base.specs.Questions.{firstNo};
 ghost use Rattle.base.specs.Digits.{value, digits};
-ghost use Rattle.key.specs.Keys.{tValues, labels, entries, wholeMatrix, fillerBits, firstBytes, secondBytes, startsWithOnes, keyAnswer};
+ghost use Rattle.key.specs.Keys.{tValues, labels, entries, wholeMatrix, fillerBits, firstBytes, secondBytes, startsWithOnes, bothInvertible, keyQuestions};
 
 // One group of m bytes as eight digits.
 fn eight(bytes: &[u8], m: usize, to: u64) -> [u8; 8]
@@ -43,7 +44,7 @@ fn entries(bytes: &[u8]) -> [u8; 57]
 }
 
 // The matrix of the 57 entries that a file has of it: rows 1 to 7 whole, then the last entry of row 8.
-fn whole_matrix(all: &[u8; 57]) -> [u8; 64]
+pub(crate) fn whole_matrix(all: &[u8]) -> [u8; 64]
     requires { ⌜ length (now all) ≡ 57 ⌝ }
     ensures { λ r. ⌜ r ≡ wholeMatrix (now (all .entry)) ⌝ }
 {
@@ -79,9 +80,19 @@ fn filler_is_zero(file: &[u8]) -> bool
     file[43] % 8 == 0 && file[82] % 8 == 0
 }
 
+// Has each matrix an inverse?
+pub(crate) fn both_invertible(first: [u8; 64], second: [u8; 64]) -> bool
+    ensures { λ r. ⌜ r ≡ bothInvertible first second ⌝ }
+{
+    if !matrix::is_invertible(first) {
+        return false;
+    }
+    matrix::is_invertible(second)
+}
+
 // The questions 1 to 7, in order: the number of the first one answered no, 0 if there is none.
 pub(crate) fn answer(file: &[u8]) -> u8
-    ensures { λ r. ⌜ r ≡ keyAnswer (now (file .entry)) ⌝ }
+    ensures { λ r. ⌜ r ≡ firstNo (take 7 (keyQuestions (now (file .entry)))) ⌝ }
 {
     if file.len() != 83 {
         return 1;

@@ -1,4 +1,4 @@
-// The bytes of a key file, and the questions 16, 17, 4, 5, 6 that are asked before they are written.
+// The bytes of a key file, and the questions 16, 17, 4, 5, 6, 26 that are asked before they are written.
 ghost use mathlib.Core.Path.{_≡_};
 ghost use mathlib.Core.Bool.{_&&_};
 ghost use Prim.Native.Nat.{ℕ, _<_};
@@ -24,7 +24,7 @@ fn all_elements(ts: &[u8; 8], first: &[u8; 57], second: &[u8; 57]) -> bool
     action::all_elements(second)
 }
 
-// The questions 16, 17, 4, 5, 6, in this order.
+// The questions 16, 17, 4, 5, 6, 26, in this order.
 pub(crate) fn answer(
     room: usize,
     ts: &[u8; 8],
@@ -52,6 +52,12 @@ pub(crate) fn answer(
     let each = action::is_order(order);
     if !each {
         return 6;
+    }
+    let whole = read::whole_matrix(first);
+    let other = read::whole_matrix(second);
+    let inverses = read::both_invertible(whole, other);
+    if !inverses {
+        return 26;
     }
     0
 }

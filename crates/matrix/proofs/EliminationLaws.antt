@@ -40,15 +40,15 @@ pivot-zero column (suc n) e i h = at (eqb (column (suc n)) 0) refl e (λ d. pivo
 
 -- ---- rows without the pivot's
 
-without-other : (n p i : ℕ) → (i ≡ p → ⊥) → without n p i ≡ i
+pub without-other : (n p i : ℕ) → (i ≡ p → ⊥) → without n p i ≡ i
 unfolding without
 without-other n p i h = rw (ne-eqb i p h)
 
-without-same : (n p : ℕ) → without n p p ≡ n
+pub without-same : (n p : ℕ) → without n p p ≡ n
 unfolding without
 without-same n p = rw (eq-eqb p p refl)
 
-without-below : (n p i : ℕ) → i < n → without n p i < suc n
+pub without-below : (n p i : ℕ) → i < n → without n p i < suc n
 without-below n p i h = at (ℕ-discrete i p)
   where
     at : Dec (i ≡ p) → without n p i < suc n

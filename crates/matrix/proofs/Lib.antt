@@ -4,3 +4,5 @@ pub mod SumLaws
 pub mod ProductLaws
 pub mod EliminationLaws
 pub mod Invertible
+pub mod SweepLaws
+pub mod WrongEliminations

@@ -1,3 +1,4 @@
 pub mod Layout
 pub mod Product
 pub mod Elimination
+pub mod Sweeping

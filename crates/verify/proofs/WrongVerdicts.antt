@@ -26,6 +26,7 @@ use Rattle.action.proofs.WordLaws.{word-good}
 use Rattle.matrix.proofs.ProductLaws.{identity-right}
 use Rattle.key.specs.Keys.{tValues, entries, fillerBits, labels, wholeMatrix, keyAnswer, keyOf}
 use Rattle.key.specs.declared.Key.{Key}
+use Rattle.key.proofs.Inverses.{accepted-with, identity-has}
 use Rattle.digest.specs.Digest.{halfByteBraid, braidOf, encoded}
 use Rattle.verify.specs.Verdict.{signed, target, verdict}
 use Rattle.verify.proofs.VerdictIff.{equal-zero, unequal-14}
@@ -62,8 +63,8 @@ zeroDigest = replicate 32 0
 
 -- all are accepted
 key-accepted : keyAnswer plainKey ≡ 0
-unfolding firstNo valuesFrom every count eachOnce value digits tValues entries fillerBits labels keyAnswer
-key-accepted = refl
+unfolding firstNo valuesFrom every count eachOnce value digits tValues entries fillerBits labels wholeMatrix matrixOf rowOf columnOf identity
+key-accepted = accepted-with plainKey refl identity-has identity-has
 
 sevens-accepted : wordAnswer sevens ≡ 0
 unfolding firstNo every value codes filler halves wordAnswer

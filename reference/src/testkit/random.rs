@@ -1,7 +1,7 @@
 //! Numbers drawn from a seed, and inputs made of them.
 
 use crate::pair::{Labels, Pair, TValues};
-use crate::testkit::slips::{key_matrix, Digest};
+use crate::testkit::slips::Digest;
 use crate::STRANDS;
 
 /// Marsaglia's xorshift with 64 bits. The state is never 0.
@@ -131,11 +131,6 @@ impl Random {
     /// Any pair.
     pub fn pair(&mut self) -> Pair {
         Pair { matrix: self.elements(), labels: self.labels() }
-    }
-
-    /// Any pair whose matrix has the shape of a key's.
-    pub fn key_pair(&mut self) -> Pair {
-        Pair { matrix: key_matrix(&self.elements()), labels: self.labels() }
     }
 
     /// Any digest.

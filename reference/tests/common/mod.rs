@@ -3,7 +3,7 @@
 #![allow(dead_code, unused_imports)]
 
 pub use reference::testkit::Random;
-use reference::Written;
+use reference::{bits, file_entries, Matrix, Written};
 
 /// Bytes typed as hexadecimal numbers with spaces between.
 pub fn hex(text: &str) -> Vec<u8> {
@@ -29,6 +29,33 @@ pub fn key_with_t_values(packed: &str) -> Vec<u8> {
 /// The plain key of document 01.
 pub fn plain_key() -> Vec<u8> {
     key_with_t_values("08 44 32 14 C7")
+}
+
+/// The plain key with both matrices zero (document 02, section 1).
+pub fn blank_key() -> Vec<u8> {
+    let mut key = plain_key();
+    key[8..44].fill(0);
+    key[47..].fill(0);
+    key
+}
+
+/// A matrix in the shape of a key's as a key file holds it.
+fn packed(matrix: &Matrix) -> Vec<u8> {
+    let mut bits = Vec::new();
+    for entry in file_entries(matrix) {
+        bits::push(&mut bits, entry.into(), 5);
+    }
+    bits::push(&mut bits, 0, 3);
+    bits::to_bytes(&bits)
+}
+
+/// The plain key with other matrices, with an inverse or without one: for inputs of tests, never for what a test
+/// expects.
+pub fn key_with_matrices(first: &Matrix, second: &Matrix) -> Vec<u8> {
+    let mut key = plain_key();
+    key[8..44].copy_from_slice(&packed(first));
+    key[47..].copy_from_slice(&packed(second));
+    key
 }
 
 /// Codes packed as a word, by the paper's layout: for inputs of tests, never for what a test expects.

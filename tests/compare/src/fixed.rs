@@ -1,5 +1,6 @@
 //! Fixed cases: inputs with a name, and all that must come of them typed, for library and reference alike.
 
+mod inverses;
 pub mod orders;
 pub mod slips;
 
@@ -141,10 +142,20 @@ pub fn with_row(row: usize, entries: [u8; 8]) -> Vec<u8> {
     matrix
 }
 
+/// What a key file has of a matrix: rows 1 to 7, and the last entry of row 8.
+pub fn entries(matrix: &[u8]) -> Vec<u8> {
+    [&matrix[..56], &matrix[63..]].concat()
+}
+
+/// All fixed cases.
+fn cases() -> Vec<Fixed> {
+    [orders::cases(), slips::cases(), inverses::cases()].into_iter().flatten().collect()
+}
+
 /// Holds library and reference to all fixed cases: how many there are, or what is wrong with the first that fails. Each
 /// operation has one.
 pub fn check() -> Result<usize, String> {
-    let cases: Vec<Fixed> = orders::cases().into_iter().chain(slips::cases()).collect();
+    let cases = cases();
     for case in &cases {
         for (whose, functions) in [("library", &LIBRARY), ("reference", &REFERENCE)] {
             if let Some(account) = case.account(whose, functions) {
@@ -156,5 +167,18 @@ pub fn check() -> Result<usize, String> {
     match Operation::ALL.into_iter().find(|operation| !seen.contains(operation)) {
         Some(operation) => Err(format!("walnut_{} has no fixed case\n", operation.name())),
         None => Ok(cases.len()),
+    }
+}
+
+#[cfg(test)]
+mod tests {
+    use super::*;
+
+    /// The reference by itself, without a library.
+    #[test]
+    fn reference_holds_to_all_cases() {
+        let accounts: Vec<String> =
+            cases().iter().filter_map(|case| case.account("reference", &REFERENCE)).collect();
+        assert!(accounts.is_empty(), "{}", accounts.concat());
     }
 }

@@ -9,7 +9,7 @@ pub mod lists;
 use reference::letter::letters_of;
 use reference::pair::Labels;
 use reference::rewrite::MOST_MOVES;
-use reference::testkit::slips::{key_file, Digest};
+use reference::testkit::slips::Digest;
 use reference::testkit::{Random, Slip};
 use reference::word::{word_file, MOST_LETTERS};
 
@@ -65,12 +65,6 @@ impl Maker {
         }
     }
 
-    /// A key file with any matrices, for the key reader alone.
-    pub fn any_key(&mut self) -> Vec<u8> {
-        let second = self.random.key_pair().matrix;
-        key_file(&self.random.key_t_values(), &self.random.key_pair(), &second)
-    }
-
     /// A slip that the verdict accepts.
     pub fn slip(&mut self, codes: &[u8]) -> Slip {
         let digest = self.digest();
@@ -103,10 +97,7 @@ impl Maker {
             Operation::Reciprocal => vec![files::element(&mut self.random, faults)?],
             Operation::Start => vec![],
             Operation::Multiply => files::multiplier_parts(&mut self.random, faults),
-            Operation::ReadKey => {
-                let key = self.any_key();
-                vec![files::key(&mut self.random, &key, faults)]
-            }
+            Operation::ReadKey => vec![self.key_with(faults)],
             Operation::FileEntries => vec![self.random.bytes(64)],
             Operation::WriteKey => files::key_parts(&mut self.random, faults),
             Operation::ReadWord | Operation::FreeReduce => vec![self.word_with(faults, size)],
@@ -248,5 +239,28 @@ impl Maker {
         let codes = self.codes(Size::Short);
         let list = lists::rough(&mut self.random, codes.len());
         self.input(Operation::Rewrite, vec![word_file(&codes), list])
+    }
+}
+
+#[cfg(test)]
+mod tests {
+    use super::*;
+    use crate::case::REFERENCE;
+
+    /// The reference gives each operation's input with each pair of faults the answer that the papers' order gives.
+    #[test]
+    fn faults_are_what_they_are_called() {
+        let mut maker = Maker { random: Random::seeded(51) };
+        for operation in Operation::ALL {
+            let questions = operation.questions();
+            let pairs = questions.iter().flat_map(|first| questions.iter().map(|second| [*first, *second]));
+            for faults in pairs.map(|pair| pair.to_vec()).chain([vec![]]) {
+                for _ in 0..3 {
+                    let case = maker.with_faults(operation, &faults, Size::Short);
+                    let Some(Case { input, expected }) = case else { continue };
+                    assert_eq!(Some(input.outcome(&REFERENCE).answer), expected, "{operation:?} {faults:?}");
+                }
+            }
+        }
     }
 }

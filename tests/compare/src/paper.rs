@@ -1,4 +1,4 @@
-//! What document 01 says of each operation: what it takes, and its questions in their order.
+//! What the papers say of each operation: what it takes, and its questions in their order.
 
 use reference::key::{KEY_BYTES, PACKED_ENTRIES};
 use reference::word::MOST_BYTES;
@@ -102,15 +102,15 @@ impl Operation {
             Operation::Reciprocal => &[17, 4],
             Operation::Start | Operation::FileEntries => &[],
             Operation::Multiply => &[17, 4, 6, 12],
-            Operation::ReadKey => &[1, 2, 3, 4, 5, 6, 7],
-            Operation::WriteKey => &[16, 17, 4, 5, 6],
+            Operation::ReadKey => &[1, 2, 3, 4, 5, 6, 7, 26],
+            Operation::WriteKey => &[16, 17, 4, 5, 6, 26],
             Operation::ReadWord => &[9, 10, 11, 12, 13],
             Operation::WriteWord => &[15, 10, 12],
             Operation::EncodeDigest => &[15, 8],
             Operation::FreeReduce => &[15, 9, 10, 11, 12, 13],
             Operation::Rewrite => &[15, 9, 10, 11, 12, 13, 18, 19, 20, 21, 22, 23, 24],
-            Operation::Verify => &[1, 2, 3, 4, 5, 6, 7, 8, 9, 10, 11, 12, 13, 14],
-            Operation::Cloaks => &[1, 2, 3, 4, 5, 6, 7, 25, 9, 10, 11, 12, 13],
+            Operation::Verify => &[1, 2, 3, 4, 5, 6, 7, 26, 8, 9, 10, 11, 12, 13, 14],
+            Operation::Cloaks => &[1, 2, 3, 4, 5, 6, 7, 26, 25, 9, 10, 11, 12, 13],
         }
     }
 
@@ -164,13 +164,13 @@ impl Operation {
 mod tests {
     use super::*;
 
-    /// Document 01 has the numbers 0 to 25, and each is some operation's.
+    /// The papers have the numbers 0 to 26 so far, and each is some operation's.
     #[test]
     fn every_number_is_given() {
         let given =
             |number: u8| Operation::ALL.iter().any(|operation| operation.questions().contains(&number));
-        assert!((1..=25).all(given));
-        assert!(!given(0) && !given(26));
+        assert!((1..=26).all(given));
+        assert!(!given(0) && !given(27));
     }
 
     #[test]
@@ -179,6 +179,10 @@ mod tests {
         assert_eq!(Operation::Rewrite.answer_to(&[24, 18, 13]), 13);
         assert_eq!(Operation::Cloaks.answer_to(&[9, 25]), 25);
         assert_eq!(Operation::Cloaks.answer_to(&[25, 7]), 7);
+        assert_eq!(Operation::Cloaks.answer_to(&[25, 26]), 26);
+        assert_eq!(Operation::Verify.answer_to(&[8, 26]), 26);
+        assert_eq!(Operation::ReadKey.answer_to(&[26, 7]), 7);
+        assert_eq!(Operation::WriteKey.answer_to(&[26, 6]), 6);
         assert_eq!(Operation::Multiply.answer_to(&[12, 4, 17]), 17);
         assert_eq!(Operation::Verify.answer_to(&[]), 0);
     }

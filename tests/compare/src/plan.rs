@@ -2,12 +2,14 @@
 
 use reference::key::KEY_BYTES;
 use reference::letter::Letter;
+use reference::matrix::{at, identity};
 use reference::rewrite::Move;
-use reference::testkit::{move_list, Random, Slip};
+use reference::testkit::{inverse_matrix, move_list, Random, Slip};
 use reference::word::word_file;
+use reference::{file_entries, Matrix};
 
 use crate::case::{Case, Input, Outcome, GUARD, LIBRARY, REFERENCE};
-use crate::make::{lists, Maker, Size};
+use crate::make::{files, lists, Maker, Size};
 use crate::paper::Operation;
 use crate::tally::Tally;
 
@@ -55,6 +57,9 @@ impl Run {
         self.every_letter()?;
         self.every_byte_of_digests()?;
         self.entries_of_matrices()?;
+        self.every_rank()?;
+        self.every_entry_of_the_identity()?;
+        self.any_matrices()?;
         self.every_kind()?;
         self.every_three_letters()?;
         self.faults_in_pairs()?;
@@ -161,7 +166,7 @@ impl Run {
 
     /// A key file read, and written again from what was read, its matrices by their entries: the same bytes.
     fn key_back(&mut self) -> Checked {
-        let file = self.maker.any_key();
+        let file = self.maker.random.invertible_key();
         let read = self.check_parts(Operation::ReadKey, vec![file.clone()], Some(0))?.bytes;
         let (t_values, matrix, labels) = (read[..8].to_vec(), read[8..72].to_vec(), read[72..80].to_vec());
         let parts = vec![t_values, labels, self.entries(matrix)?, self.entries(read[80..].to_vec())?];
@@ -169,6 +174,72 @@ impl Run {
         let written = self.check_input(input.clone(), Some(0))?.bytes;
         if written[GUARD..GUARD + KEY_BYTES] != file {
             return Err(Box::new(Failure::NotBack(input)));
+        }
+        Ok(())
+    }
+
+    /// A key with these matrices: read, written, and used for a verdict and for cloaking.
+    fn key_of(&mut self, matrices: [&Matrix; 2], expected: u8) -> Checked {
+        let (random, operation) = (&mut self.maker.random, Operation::WriteKey);
+        let parts = [random.key_t_values().to_vec(), random.labels().to_vec()];
+        let entries = matrices.map(|matrix| file_entries(matrix).to_vec());
+        let mut file = random.invertible_key();
+        for (place, matrix) in matrices.into_iter().enumerate() {
+            file = files::with_matrix(&file, place, matrix);
+        }
+        self.check_parts(operation, [parts, entries].concat(), Some(expected))?;
+        self.check_parts(Operation::ReadKey, vec![file.clone()], Some(expected))?;
+        let (list, empty) = ((0..8).collect(), word_file(&[]));
+        self.check_parts(Operation::Cloaks, vec![file.clone(), list, empty.clone()], Some(expected))?;
+        let verdict = Some(expected).filter(|answer| *answer != 0);
+        self.check_parts(Operation::Verify, vec![file, vec![0; 32], empty], verdict)?;
+        Ok(())
+    }
+
+    /// Matrices of every rank in the first place, in the second and in both; those of rank 8 alone have an inverse.
+    fn every_rank(&mut self) -> Checked {
+        for rank in 0..=8 {
+            let expected = if rank == 8 { 0 } else { 26 };
+            for _ in 0..VARIANTS {
+                let random = &mut self.maker.random;
+                let (matrix, other) = (random.key_matrix_of_rank(rank), random.key_matrix_of_rank(rank));
+                let good = random.invertible_key_matrix();
+                self.key_of([&matrix, &good], expected)?;
+                self.key_of([&good, &matrix], expected)?;
+                self.key_of([&matrix, &other], expected)?;
+            }
+        }
+        Ok(())
+    }
+
+    /// The identity with each of its entries, as far as a key file has them, changed: to zero, to one, and to another
+    /// element. It has no inverse if a one became zero.
+    fn every_entry_of_the_identity(&mut self) -> Checked {
+        let good = identity();
+        let places = (1..=7).flat_map(|row| (1..=8).map(move |column| (row, column)));
+        for (row, column) in places.chain([(8, 8)]) {
+            for entry in [0, 1, self.maker.random.within(2, 31) as u8] {
+                let mut matrix = good;
+                matrix[at(row, column)] = entry;
+                let expected = if row == column && entry == 0 { 26 } else { 0 };
+                self.key_of([&matrix, &good], expected)?;
+                self.key_of([&good, &matrix], expected)?;
+            }
+        }
+        Ok(())
+    }
+
+    /// Matrices as they are drawn, with few zeros and with many, and those of permutations; elimination says which have
+    /// an inverse.
+    fn any_matrices(&mut self) -> Checked {
+        for _ in 0..MATRICES {
+            let random = &mut self.maker.random;
+            let good = random.permutation_matrix();
+            for matrix in [random.key_matrix(), random.sparse_key_matrix(), random.permutation_matrix()] {
+                let expected = if inverse_matrix(&matrix).is_some() { 0 } else { 26 };
+                self.key_of([&matrix, &good], expected)?;
+                self.key_of([&good, &matrix], expected)?;
+            }
         }
         Ok(())
     }

@@ -4,6 +4,7 @@
 mod desk;
 mod letters;
 
+use std::collections::BTreeMap;
 use std::ffi::OsStr;
 use std::io::{self, ErrorKind, Write};
 use std::path::Path;
@@ -50,22 +51,21 @@ fn ran(program: &Path, arguments: &[&OsStr], pieces: &[&[u8]]) -> Checked<Output
 
 /// Cases counted by the answer that the reference gives.
 #[derive(Default)]
-struct Counts([usize; 26]);
+struct Counts(BTreeMap<u8, usize>);
 
 impl Counts {
     fn count(&mut self, answer: u8) {
-        self.0[usize::from(answer)] += 1;
+        *self.0.entry(answer).or_default() += 1;
     }
 
     /// How many cases there are, in all and of each answer; an account if one of these answers was not reached.
     fn summary(&self, name: &str, answers: &[u8]) -> Checked<String> {
-        let missing: Vec<&u8> = answers.iter().filter(|answer| self.0[usize::from(**answer)] == 0).collect();
+        let missing: Vec<&u8> = answers.iter().filter(|answer| !self.0.contains_key(answer)).collect();
         if !missing.is_empty() {
             return Err(format!("{name}: no case with answer {missing:?}\n"));
         }
-        let seen = self.0.iter().enumerate().filter(|(_, cases)| **cases > 0);
-        let each = seen.map(|(answer, cases)| format!("{answer}: {cases}")).collect::<Vec<String>>();
-        let total: usize = self.0.iter().sum();
+        let each = self.0.iter().map(|(answer, cases)| format!("{answer}: {cases}")).collect::<Vec<String>>();
+        let total: usize = self.0.values().sum();
         Ok(format!("{name}: compared {total} cases, by answer {}", each.join(", ")))
     }
 }

@@ -4,7 +4,7 @@
 //!
 //! The product's factors alone may be exchanged unseen: it is commutative, and its question is put to both.
 
-use crate::fixed::{hex, with_row, Fixed, LIST, T_VALUES};
+use crate::fixed::{entries, hex, with_row, Fixed, LIST, T_VALUES};
 use crate::paper::Operation;
 
 /// Row 1 of the first matrix, row 2 of the second; both are the identity in all other rows, but for the last entry,
@@ -26,11 +26,6 @@ fn matrix(row: usize, entries: [u8; 8], last: u8) -> Vec<u8> {
     let mut matrix = with_row(row, entries);
     matrix[63] = last;
     matrix
-}
-
-/// What a key file has of such a matrix: rows 1 to 7, and the last entry of row 8.
-fn entries(matrix: &[u8]) -> Vec<u8> {
-    [&matrix[..56], &matrix[63..]].concat()
 }
 
 fn keys() -> Vec<Fixed> {

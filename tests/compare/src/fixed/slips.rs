@@ -2,7 +2,7 @@
 //! examples where document 01 follows it. What is expected is typed from the papers, or follows from them by the reasoning
 //! written beside it.
 
-use crate::fixed::{hex, identity, with_row, Fixed, LIST, T_VALUES};
+use crate::fixed::{entries, hex, identity, with_row, Fixed, LIST, T_VALUES};
 use crate::paper::Operation;
 
 /// The identity matrix in a key file: the ones are entries 0, 9, 18, .., 54 and 56 of the 57, five bits each.
@@ -22,11 +22,6 @@ pub fn plain_key() -> Vec<u8> {
     key_with_t_values("08 44 32 14 C7")
 }
 
-/// The 57 entries of the identity.
-fn identity_entries() -> Vec<u8> {
-    [&identity()[..56], &[1]].concat()
-}
-
 fn elements() -> Vec<Fixed> {
     vec![
         Fixed::number("16 × 2", Operation::Product, &[&[16, 2]], 5),
@@ -41,7 +36,7 @@ fn elements() -> Vec<Fixed> {
 
 /// The plain key, written and read. Its zeros on a refusal come with each of its questions.
 fn keys() -> Vec<Fixed> {
-    let (file, entries) = (plain_key(), identity_entries());
+    let (file, entries) = (plain_key(), entries(&identity()));
     let whole = [&T_VALUES[..], &identity(), &LIST, &identity()].concat();
     let parts: [&[u8]; 4] = [&T_VALUES, &LIST, &entries, &entries];
     let mut cases = vec![

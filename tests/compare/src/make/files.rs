@@ -3,9 +3,9 @@
 
 use reference::bits;
 use reference::pair::Labels;
-use reference::read_key;
-use reference::testkit::{inverse_matrix, Random};
+use reference::testkit::Random;
 use reference::word::{word_file, MOST_LETTERS};
+use reference::{file_entries, read_key, Matrix};
 
 /// Where parts of a key file stand, in bits.
 const N: usize = 0;
@@ -13,7 +13,11 @@ const Q: usize = 8;
 const T_VALUES: usize = 24;
 const LABELS: usize = 352;
 const FILLERS: [usize; 6] = [349, 350, 351, 661, 662, 663];
+const MATRICES: [usize; 2] = [64, 376];
 const SECOND_MATRIX: (usize, usize) = (376, 660);
+
+/// Which of a key's two matrices have no inverse, where one has none.
+const SINGULAR: [&[usize]; 3] = [&[0], &[1], &[0, 1]];
 
 /// A number that is no element.
 fn too_high(random: &mut Random) -> u8 {
@@ -102,9 +106,20 @@ pub fn multiplier_parts(random: &mut Random, faults: &[u8]) -> Vec<Vec<u8>> {
     vec![matrix.to_vec(), list(random, faults), t_values.to_vec(), vec![letter]]
 }
 
-/// T-values, labels and the entries of both matrices. Faults: 17, 4, 5, 6.
+/// The matrices of a key, of which both have an inverse. Fault: 26.
+fn matrices(random: &mut Random, faults: &[u8]) -> [Matrix; 2] {
+    let mut matrices = [random.invertible_key_matrix(), random.invertible_key_matrix()];
+    if faults.contains(&26) {
+        for place in random.pick(&SINGULAR) {
+            matrices[*place] = random.singular_key_matrix();
+        }
+    }
+    matrices
+}
+
+/// T-values, labels and the entries of both matrices. Faults: 17, 4, 5, 6, 26.
 pub fn key_parts(random: &mut Random, faults: &[u8]) -> Vec<Vec<u8>> {
-    let mut matrices = [random.elements::<57>(), random.elements::<57>()];
+    let mut matrices = matrices(random, faults).map(|matrix| file_entries(&matrix));
     let (high, in_matrix) = (faults.contains(&17), random.one_in(2));
     if high && in_matrix {
         let place = random.pick(&[0, 55, 56]);
@@ -119,7 +134,21 @@ pub fn key_parts(random: &mut Random, faults: &[u8]) -> Vec<Vec<u8>> {
     vec![t_values.to_vec(), list(random, faults), first, second]
 }
 
-/// A key file, from one without faults. Faults: 1 to 7.
+/// A key file with another matrix, with an inverse or without one, in its first place or its second, counted from 0.
+pub fn with_matrix(file: &[u8], place: usize, matrix: &Matrix) -> Vec<u8> {
+    let mut bits = bits::of_bytes(file);
+    put_matrix(&mut bits, place, matrix);
+    bits::to_bytes(&bits)
+}
+
+/// Puts a matrix into the bits of a key file.
+fn put_matrix(bits: &mut [bool], place: usize, matrix: &Matrix) {
+    for (number, entry) in file_entries(matrix).into_iter().enumerate() {
+        put(bits, MATRICES[place] + 5 * number, 5, entry.into());
+    }
+}
+
+/// A key file, from one without faults. Faults: 1 to 7, 26.
 pub fn key(random: &mut Random, file: &[u8], faults: &[u8]) -> Vec<u8> {
     let mut bits = bits::of_bytes(file);
     for fault in faults {
@@ -132,7 +161,7 @@ pub fn key(random: &mut Random, file: &[u8], faults: &[u8]) -> Vec<u8> {
     file
 }
 
-/// Puts one fault, 2 to 7, into the bits of a key file.
+/// Puts one fault, 2 to 7 or 26, into the bits of a key file.
 fn spoil_key(random: &mut Random, bits: &mut [bool], fault: u8) {
     match fault {
         2 => put(bits, N, 8, random.pick(&[0, 7, 9, 10, 255])),
@@ -145,6 +174,11 @@ fn spoil_key(random: &mut Random, bits: &mut [bool], fault: u8) {
             put(bits, LABELS + 3 * to, 3, label);
         }
         7 => bits[random.pick(&FILLERS)] = true,
+        26 => {
+            for place in random.pick(&SINGULAR) {
+                put_matrix(bits, *place, &random.singular_key_matrix());
+            }
+        }
         _ => {}
     }
 }
@@ -154,7 +188,7 @@ pub fn flip_second_matrix(random: &mut Random, file: &mut [u8]) {
     loop {
         let bit = random.within(SECOND_MATRIX.0, SECOND_MATRIX.1);
         file[bit / 8] ^= 0x80 >> (bit % 8);
-        if inverse_matrix(&read_key(file).second).is_some() {
+        if read_key(file).answer == 0 {
             return;
         }
         file[bit / 8] ^= 0x80 >> (bit % 8);

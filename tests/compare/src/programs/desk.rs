@@ -248,7 +248,7 @@ pub fn check(programs: &Path, maker: &mut Maker) -> Checked<Vec<String>> {
     desk.missing()?;
     desk.accepted(maker)?;
     desk.faulty(maker)?;
-    let answers: Vec<u8> = (0..=14).collect();
+    let answers: Vec<u8> = (0..=14).chain([26]).collect();
     let by_files = desk.by_files.summary("desk_files", &answers)?;
     let line = format!("{by_files}; without an answer: {}", desk.without_answer);
     Ok(vec![desk.by_input.summary("desk", &answers)?, line])

@@ -5,7 +5,8 @@ use native.Mathlib.Omega.{arith}
 use lib.ListN.{getD}
 use borrow.Author.Needs.{needs}
 use Rattle.field.specs.Gf32.{gf32}
-use Rattle.action.proofs.FillLaws.{Filled, filled-start, filled-next, filled-all, inv-zero, reciprocal-any}
+use Rattle.field.proofs.GivesLaws.{inv-zero, reciprocal-any}
+use Rattle.action.proofs.FillLaws.{Filled, filled-start, filled-next, filled-all}
 use Rattle.action.proofs.word.reciprocals_by_label.Statement.{statement}
 use Rattle.action.proofs.word.reciprocals_by_label.Tie as tie
 

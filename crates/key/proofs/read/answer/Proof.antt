@@ -6,14 +6,14 @@ use mathlib.Core.List.{List}
 use native.Mathlib.Omega.{arith}
 use borrow.Author.Tests.{eq-eqb, ne-eqb, not-true, not-false}
 use borrow.Author.Needs.{needs}
-use lib.ListN.{length, drop, getD}
+use lib.ListN.{length, take, drop, getD}
 use Rattle.base.specs.Questions.{Question, firstNo}
 use Rattle.base.specs.Digits.{part}
 use Rattle.base.proofs.QuestionLaws.{passes, fails}
 use Rattle.base.proofs.PackLaws.{below-part, length-part}
 use Rattle.braid.specs.Strands.{isOrder}
 use Rattle.action.specs.Multiplier.{nonzero}
-use Rattle.key.specs.Keys.{tValues, labels, fieldSize, startsWithOnes, keyQuestions, keyAnswer}
+use Rattle.key.specs.Keys.{tValues, labels, fieldSize, startsWithOnes, keyQuestions}
 use Rattle.key.proofs.read.answer.Statement.{statement}
 use Rattle.key.proofs.read.answer.Tie as tie
 
@@ -22,7 +22,7 @@ abbrev file : tie.Start → List ℕ
 file s = s .args .file .now
 
 abbrev rest : ℕ → tie.Start → List Question
-rest k s = drop k (keyQuestions (file s))
+rest k s = drop k (take 7 (keyQuestions (file s)))
 
 -- ---- where the function was entered
 
@@ -62,14 +62,10 @@ test-6 c = sym (c .is-order .ensures ∙ ap (λ (ls : List ℕ). isOrder ls) (c 
 -- ---- the questions that are passed
 
 abbrev Past : ℕ → tie.Start → Type 0
-Past k s = keyAnswer (file s) ≡ firstNo (rest k s)
-
-past-0 : (s : tie.Start) → Past 0 s
-unfolding keyAnswer
-past-0 s = λ i. keyAnswer (file s)
+Past k s = firstNo (rest 0 s) ≡ firstNo (rest k s)
 
 past-1 : (c : tie.Else1) → Past 1 (at-1 c)
-past-1 c = past-0 (at-1 c) ∙ passes 1 (rest 1 (at-1 c)) (eq-eqb (length (file (at-1 c))) 83 (c .if1 .left))
+past-1 c = passes 1 (rest 1 (at-1 c)) (eq-eqb (length (file (at-1 c))) 83 (c .if1 .left))
 
 past-2 : (c : tie.Else2) → Past 2 (at-2 c)
 past-2 c = past-1 (c .before .before) ∙ passes 2 (rest 2 (at-2 c)) (eq-eqb (getD (file (at-2 c)) 0 0) 8 (c .if2 .left))
@@ -97,7 +93,7 @@ past-7 c =
 -- ---- the returns
 
 returns : tie.Need-returns
-returns c = let s = c .before .before in sym (past-0 s ∙ fails 1 (rest 1 s) (ne-eqb (length (file s)) 83 (c .if1 .taken)))
+returns c = let s = c .before .before in sym (fails 1 (rest 1 s) (ne-eqb (length (file s)) 83 (c .if1 .taken)))
 
 returns-2 : tie.Need-returns-2
 returns-2 c = let b = c .before .before in sym (past-1 b ∙ fails 2 (rest 2 (at-1 b)) (ne-eqb (getD (file (at-1 b)) 0 0) 8 (c .if2 .taken)))

@@ -1,5 +1,5 @@
 -- `key::read::matrix` meets its contract: the matrix of the entries.
-use mathlib.Core.Path.{ap, _∙_}
+use mathlib.Core.Path.{sym, ap, _∙_}
 use borrow.Author.Needs.{needs}
 use lib.ListN.{length}
 use Rattle.key.specs.Keys.{wholeMatrix}
@@ -7,11 +7,14 @@ use Rattle.key.proofs.KeyFacts.{entries-size}
 use Rattle.key.proofs.read.matrix.Statement.{statement}
 use Rattle.key.proofs.read.matrix.Tie as tie
 
+whole-matrix-size : tie.Need-slice-aggregate-whole-matrix
+whole-matrix-size c = sym (ap length (c .before .entries .ensures) ∙ entries-size (c .before .before .before .args .bytes .now))
+
 whole-matrix-requires : tie.Need-whole-matrix-requires
-whole-matrix-requires c κs = ap length (c .before .entries .ensures) ∙ entries-size (c .before .before .before .args .bytes .now)
+whole-matrix-requires c κs = search needs
 
 returns : tie.Need-returns
 returns c = c .whole-matrix .ensures ∙ ap wholeMatrix (c .before .before .entries .ensures)
 
 pub matrix-spec : {M : Type 1} → statement M
-matrix-spec = tie.close (tie.spec (λ c κs. search needs) whole-matrix-requires returns)
+matrix-spec = tie.close (tie.spec (λ c κs. search needs) whole-matrix-size whole-matrix-requires returns)

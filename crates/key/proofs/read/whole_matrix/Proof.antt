@@ -31,7 +31,7 @@ array-write-m-2 c = let l = c .before .before .before .loop in omega (arith, l .
 returns : tie.Need-returns Inv-loop μ-loop
 returns c =
     let l = c .before .before .before .loop in
-    let s = c .before .before .before .before in
+    let s = c .before .before .before .before .before in
     let all = s .args .all .now in
     let e : l .k ≡ 56 = omega arith in
     whole-put all (s .pre) (l .m) (c .place2 .ensures .0) (subst (λ (n : ℕ). Filled all n (l .m)) e (l .inv .1))

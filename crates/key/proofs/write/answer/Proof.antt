@@ -1,14 +1,14 @@
 -- `key::write::answer` meets its contract: one question after another. `past-k`: the first k questions are passed, so
 -- the answer is that of the rest.
 use Prim.Native.Nat.{ℕ}
-use mathlib.Core.Path.{_≡_, sym, _∙_}
+use mathlib.Core.Path.{_≡_, sym, ap₂, _∙_}
 use mathlib.Core.List.{List}
 use borrow.Author.Tests.{le-leb, lt-leb, not-true, not-false}
 use borrow.Author.Needs.{needs}
 use lib.ListN.{drop}
 use Rattle.base.specs.Questions.{Question, firstNo}
 use Rattle.base.proofs.QuestionLaws.{passes, fails}
-use Rattle.key.specs.Keys.{keyWriterQuestions}
+use Rattle.key.specs.Keys.{wholeMatrix, bothInvertible, keyWriterQuestions}
 use Rattle.key.proofs.write.answer.Statement.{statement}
 use Rattle.key.proofs.write.answer.Tie as tie
 
@@ -28,6 +28,9 @@ at-4 c = at-3 (c .before .before)
 
 abbrev at-5 : tie.After-is-order → tie.Start
 at-5 c = at-4 (c .before .before .before)
+
+abbrev at-6 : tie.After-both-invertible → tie.Start
+at-6 c = at-5 (c .before .before .before .before .before .before)
 
 abbrev Past : ℕ → tie.Start → Type 0
 Past k s = firstNo (rest 0 s) ≡ firstNo (rest k s)
@@ -62,9 +65,18 @@ returns-4 c = let b = c .before in sym (past-3 (b .before) ∙ fails 5 (rest 4 (
 returns-5 : tie.Need-returns-5
 returns-5 c = let b = c .before in sym (past-4 (b .before .before) ∙ fails 6 (rest 5 (at-5 b)) (sym (b .is-order .ensures) ∙ not-true _ (c .if5 .taken)))
 
+-- what the test on the matrices found
+test-6 : (c : tie.After-both-invertible) → let a = at-6 c .args in
+    bothInvertible (wholeMatrix (a .first .now)) (wholeMatrix (a .second .now)) ≡ c .both-invertible .result
+test-6 c =
+    sym (c .both-invertible .ensures ∙ ap₂ (λ (f s : List ℕ). bothInvertible f s) (c .before .before .before .whole-matrix .ensures) (c .before .whole-matrix2 .ensures))
+
 returns-6 : tie.Need-returns-6
+returns-6 c = let b = c .before in sym (past-5 (b .before .before .before .before .before) ∙ fails 26 (rest 6 (at-6 b)) (test-6 b ∙ not-true _ (c .if6 .taken)))
+
+returns-7 : tie.Need-returns-7
 unfolding firstNo
-returns-6 c = sym (past-5 c)
+returns-7 c = let b = c .before in sym (past-5 (b .before .before .before .before .before) ∙ passes 26 (rest 6 (at-6 b)) (test-6 b ∙ not-false _ (c .if6 .left)))
 
 pub answer-spec : {M : Type 1} → statement M
 answer-spec =
@@ -79,4 +91,8 @@ answer-spec =
     returns-4
     (λ c κs. search needs)
     returns-5
-    returns-6)
+    (λ c κs. search needs)
+    (λ c κs. search needs)
+    (λ c κs. search needs)
+    returns-6
+    returns-7)
