@@ -1,4 +1,4 @@
-/* The verdict, cloaking and the rewriter in plain C, as one would write them by hand: for the library's times to stand beside. */
+/* The verdict, cloaking, the rewriter and free reduction in plain C, as one would write them by hand: for the library's times to stand beside. */
 #include <stdbool.h>
 #include <stddef.h>
 #include <stdint.h>
@@ -314,6 +314,17 @@ static uint8_t read_moves(const uint8_t *moves, size_t m, size_t *count)
     return m == 2 + 3 * *count ? 0 : 20;
 }
 
+/* Writes the word of n codes; there is room for one more. Gives the bytes written. */
+static size_t write_codes(uint8_t *codes, size_t n, uint8_t *out)
+{
+    out[0] = (uint8_t)(n >> 8);
+    out[1] = (uint8_t)n;
+    codes[n] = 0;
+    for (size_t k = 0; k < n; k += 2)
+        out[2 + k / 2] = (uint8_t)(codes[k] << 4 | codes[k + 1]);
+    return 2 + (n + 1) / 2;
+}
+
 /* The bytes written; 0 on a refusal. */
 size_t plain_rewrite(const uint8_t *word, size_t wn, const uint8_t *moves, size_t m, uint8_t *out, size_t len)
 {
@@ -327,10 +338,22 @@ size_t plain_rewrite(const uint8_t *word, size_t wn, const uint8_t *moves, size_
     for (size_t k = 0; k < count; k++)
         if (move_on(codes, &n, kinds[k], (size_t)places[2 * k] << 8 | places[2 * k + 1]))
             return 0;
-    out[0] = (uint8_t)(n >> 8);
-    out[1] = (uint8_t)n;
-    codes[n] = 0;
-    for (size_t k = 0; k < n; k += 2)
-        out[2 + k / 2] = (uint8_t)(codes[k] << 4 | codes[k + 1]);
-    return 2 + (n + 1) / 2;
+    return write_codes(codes, n, out);
+}
+
+/* The bytes written; 0 on a refusal. */
+size_t plain_reduce(const uint8_t *word, size_t wn, uint8_t *out, size_t len)
+{
+    uint8_t codes[LETTERS + 1];
+    size_t letters, n = 0;
+    if (len < WORD_BYTES || read_word(word, wn, &letters))
+        return 0;
+    for (size_t k = 0; k < letters; k++) {
+        uint8_t code = (uint8_t)code_at(word + 2, k);
+        if (n > 0 && codes[n - 1] == (code ^ 8))
+            n--;
+        else
+            codes[n++] = code;
+    }
+    return write_codes(codes, n, out);
 }

@@ -1,5 +1,5 @@
-//! The verdict, cloaking and the rewriter in plain Rust, as one would write them by hand: for the library's
-//! times to stand beside.
+//! The verdict, cloaking, the rewriter and free reduction in plain Rust, as one would write them by hand: for the
+//! library's times to stand beside.
 
 const WORD_BYTES: usize = 5002;
 const LETTERS: usize = 10_000;
@@ -283,6 +283,15 @@ fn read_moves(moves: &[u8]) -> Result<impl Iterator<Item = (usize, u8)> + '_, u8
     Ok(places.zip(kinds.iter().copied()))
 }
 
+/// Writes the word of these codes; gives the bytes written.
+fn write_codes(codes: &[u8], out: &mut [u8]) -> usize {
+    out[..2].copy_from_slice(&(codes.len() as u16).to_be_bytes());
+    for (byte, codes) in out[2..].iter_mut().zip(codes.chunks(2)) {
+        *byte = codes[0] << 4 | codes.get(1).copied().unwrap_or(0);
+    }
+    2 + codes.len().div_ceil(2)
+}
+
 pub fn rewrite(word: &[u8], moves: &[u8], out: &mut [u8]) -> Result<usize, u8> {
     if out.len() < WORD_BYTES {
         return Err(15);
@@ -291,9 +300,21 @@ pub fn rewrite(word: &[u8], moves: &[u8], out: &mut [u8]) -> Result<usize, u8> {
     for (place, kind) in read_moves(moves)? {
         make(&mut codes, kind, place)?;
     }
-    out[..2].copy_from_slice(&(codes.len() as u16).to_be_bytes());
-    for (byte, codes) in out[2..].iter_mut().zip(codes.chunks(2)) {
-        *byte = codes[0] << 4 | codes.get(1).copied().unwrap_or(0);
+    Ok(write_codes(&codes, out))
+}
+
+/// Free reduction, the letters coming one by one to a stack.
+pub fn free_reduce(word: &[u8], out: &mut [u8]) -> Result<usize, u8> {
+    if out.len() < WORD_BYTES {
+        return Err(15);
     }
-    Ok(2 + codes.len().div_ceil(2))
+    let mut codes: Vec<u8> = Vec::with_capacity(LETTERS);
+    for code in read_word(word)? {
+        if codes.last() == Some(&(code ^ 8)) {
+            codes.pop();
+        } else {
+            codes.push(code);
+        }
+    }
+    Ok(write_codes(&codes, out))
 }

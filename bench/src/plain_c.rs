@@ -26,6 +26,7 @@ extern "C" {
         out: *mut u8,
         len: usize,
     ) -> usize;
+    fn plain_reduce(word: *const u8, wn: usize, out: *mut u8, len: usize) -> usize;
 }
 
 // The pointers come from slices that live through the call, each with its own length; the tables are filled
@@ -52,4 +53,9 @@ pub fn rewrite(word: &[u8], moves: &[u8], out: &mut [u8]) -> usize {
     let (list, len) = (moves.as_ptr(), moves.len());
     // SAFETY: see above.
     unsafe { plain_rewrite(word.as_ptr(), word.len(), list, len, out.as_mut_ptr(), out.len()) }
+}
+
+pub fn free_reduce(word: &[u8], out: &mut [u8]) -> usize {
+    // SAFETY: see above.
+    unsafe { plain_reduce(word.as_ptr(), word.len(), out.as_mut_ptr(), out.len()) }
 }

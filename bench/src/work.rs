@@ -34,6 +34,7 @@ pub enum Work {
     Verdict(Slip),
     Cloaking { key: Vec<u8>, word: Vec<u8> },
     Rewriting { word: Vec<u8>, moves: Vec<u8> },
+    Reduction { word: Vec<u8> },
 }
 
 /// What came of it: an answer or a number, and the bytes written.
@@ -90,6 +91,11 @@ impl Work {
                 (0, plain::rewrite(word, moves, out).unwrap_or(0))
             }
             (Work::Rewriting { word, moves }, Who::C) => (0, plain_c::rewrite(word, moves, out)),
+            (Work::Reduction { word }, Who::Library) => {
+                (0, walnut::free_reduce(word, out).map_or(0, |written| written.len()))
+            }
+            (Work::Reduction { word }, Who::Rust) => (0, plain::free_reduce(word, out).unwrap_or(0)),
+            (Work::Reduction { word }, Who::C) => (0, plain_c::free_reduce(word, out)),
         }
     }
 
@@ -139,8 +145,18 @@ fn by_turns(letters: usize, place: usize) -> Work {
     Work::Rewriting { word: word_file(&codes), moves: move_list(&moves) }
 }
 
+/// No moves on a word of so many letters: it is read, unpacked and written.
+fn no_moves(random: &mut Random, letters: usize) -> Work {
+    Work::Rewriting { word: word_file(&random.word(letters)), moves: move_list(&[]) }
+}
+
+/// Free reduction of a word of so many letters, many of which cancel.
+fn reduction(random: &mut Random, letters: usize) -> Work {
+    Work::Reduction { word: word_file(&random.tangled_word(letters)) }
+}
+
 /// How many cases there are.
-pub const CASES: usize = 7;
+pub const CASES: usize = 9;
 
 /// The case of a number, the same in every run.
 pub fn case(number: usize) -> Case {
@@ -153,6 +169,8 @@ pub fn case(number: usize) -> Case {
         3 => Case { name: "rewriter, 4,096 moves", parts: 1, work: rewriting(random) },
         4 => Case { name: "rewriter, all in the middle", parts: 1, work: by_turns(LONGEST - 2, LONGEST / 2) },
         5 => Case { name: "rewriter, all at the front", parts: 1, work: by_turns(LONGEST - 2, 0) },
-        _ => Case { name: "rewriter, no letters", parts: 1, work: by_turns(0, 0) },
+        6 => Case { name: "rewriter, no letters", parts: 1, work: by_turns(0, 0) },
+        7 => Case { name: "rewriter, no moves", parts: 1, work: no_moves(random, LONGEST - 2) },
+        _ => Case { name: "free reduction", parts: 1, work: reduction(random, LONGEST - 2) },
     }
 }

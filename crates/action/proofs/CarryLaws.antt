@@ -1,6 +1,6 @@
 -- One letter and whole words on a pair, as the code goes about it: the share by the number that a letter takes, codes
 -- that are letters and others, T-values by label, and a word's letters one after another.
-use Prim.Native.Nat.{ℕ, _+_, _*_, _%_, _<_, _≤_}
+use Prim.Native.Nat.{ℕ, _+_, _%_, _<_}
 use mathlib.Core.Path.{_≡_, refl, sym, ap, ap₂, _∙_}
 use mathlib.Core.Bool.{Bool, true, false, cond, _&&_}
 use mathlib.Core.List.{List, [], _∷_}
@@ -9,12 +9,10 @@ use native.Mathlib.Numerals.{add-one}
 use native.Mathlib.Omega.{arith}
 use borrow.Author.Tests.{le-leb}
 use lib.Dec.{leb}
-use lib.ListN.{length, getD, take, drop}
-use lib.Seq.{drop-cons, drop-length, length-take-le, getD-take}
+use lib.ListN.{length, getD, drop}
+use lib.Seq.{drop-cons, drop-length}
 use Rattle.base.specs.Lists.{every}
-use Rattle.base.specs.Digits.{halves}
-use Rattle.base.proofs.ListLaws.{and-true, every-getD}
-use Rattle.base.proofs.DigitLaws.{length-halves}
+use Rattle.base.proofs.ListLaws.{and-true}
 use Rattle.field.specs.Binary.{Operations}
 use Rattle.field.specs.Gf32.{gf32}
 use Rattle.braid.specs.Letters.{isLetter, isInverse, generator}
@@ -97,17 +95,12 @@ letter-places : (F : Operations) (ts : List ℕ) (c : ℕ) (p : Pair) → length
 unfolding letterOn
 letter-places F ts c p = length-swapped (generator c) (p .labels)
 
--- packed codes, of which there are at least n
-module _ (part : List ℕ) (n : ℕ) (enough : n ≤ 2 * length part) where
-  pub length-codes : length (take n (halves part)) ≡ n
-  length-codes = length-take-le n (halves part) (omega (arith, length-halves part))
-
-  pub code-at : (i : ℕ) {code : ℕ} → i < n → code ≡ getD (halves part) i 0 → code ≡ getD (take n (halves part)) i 0
-  code-at i h e = e ∙ sym (getD-take n (halves part) i 0 h)
-
-  pub code-letter : (i : ℕ) {code : ℕ} → every isLetter (take n (halves part)) ≡ true → i < n → code ≡ getD (halves part) i 0 → isLetter code ≡ true
-  code-letter i letters h e =
-      ap isLetter (code-at i h e) ∙ every-getD isLetter (take n (halves part)) letters i (omega (arith, length-codes))
+-- and so has what a word leaves
+word-sizes : (F : Operations) (ts w : List ℕ) (p : Pair) → length (p .matrix) ≡ 64 → length (p .labels) ≡ 8
+    → (length (wordOn F ts w p .matrix) ≡ 64) × (length (wordOn F ts w p .labels) ≡ 8)
+unfolding wordOn
+word-sizes F ts [] p m l = (m, l)
+word-sizes F ts (c ∷ w) p m l = word-sizes F ts w (letterOn F ts c p) (letter-entries F ts c p) (letter-places F ts c p ∙ l)
 
 -- what is lent for one letter is lent for the next
 pub lent-next : {table ts rs m labels m′ labels′ : List ℕ} (c : ℕ) → Lent table ts rs m labels
@@ -118,6 +111,18 @@ lent-next {ts = ts} {m = m} {labels = labels} c lent e =
       reciprocals-are = lent .reciprocals-are;
       entries = ap (λ (p : Pair). length (p .matrix)) e ∙ letter-entries gf32 ts c (pairOf m labels);
       places = ap (λ (p : Pair). length (p .labels)) e ∙ letter-places gf32 ts c (pairOf m labels) ∙ lent .places;
+    }
+
+-- and so is what is lent for a word
+pub lent-word : {table ts rs m labels m′ labels′ : List ℕ} (w : List ℕ) → Lent table ts rs m labels
+    → pairOf m′ labels′ ≡ wordOn gf32 ts w (pairOf m labels) → Lent table ts rs m′ labels′
+lent-word {ts = ts} {m = m} {labels = labels} w lent e =
+    let sizes = word-sizes gf32 ts w (pairOf m labels) (lent .entries) (lent .places) in
+    record {
+      products-are = lent .products-are;
+      reciprocals-are = lent .reciprocals-are;
+      entries = ap (λ (p : Pair). length (p .matrix)) e ∙ sizes .0;
+      places = ap (λ (p : Pair). length (p .labels)) e ∙ sizes .1;
     }
 
 -- one letter more of a word

@@ -14,7 +14,7 @@ use Rattle.action.specs.Good.{TValues, GoodPair}
 use Rattle.action.proofs.BraidRelations.{letter-good, letter-inverse, far-commutation, braid-relation}
 
 -- two words in a row
-wordOn-append : (F : Operations) (ts v w : List ℕ) (p : Pair) → wordOn F ts (v ++ w) p ≡ wordOn F ts w (wordOn F ts v p)
+pub wordOn-append : (F : Operations) (ts v w : List ℕ) (p : Pair) → wordOn F ts (v ++ w) p ≡ wordOn F ts w (wordOn F ts v p)
 unfolding wordOn
 wordOn-append F ts [] w p = refl
 wordOn-append F ts (c ∷ v) w p = wordOn-append F ts v w (letterOn F ts c p)

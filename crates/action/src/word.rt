@@ -2,7 +2,7 @@
 use crate::Pair;
 use crate::letter::letter;
 ghost use mathlib.Core.Path.{_≡_};
-ghost use Prim.Native.Nat.{_*_, _≤_};
+ghost use Prim.Native.Nat.{_+_, _*_, _≤_, _<_};
 ghost use mathlib.Core.Bool.{true};
 ghost use lib.ListN.{length, take};
 ghost use Rattle.base.specs.Lists.{every};
@@ -42,6 +42,66 @@ fn reciprocals_by_label(t_values: &[u8]) -> [u8; 256]
     list
 }
 
+// The letters of a row of codes, first to last, on the pair of the matrix and the labels.
+fn run(
+    m: &mut [u8; 64],
+    labels: &mut [u8; 8],
+    table: &[u8; 1024],
+    t_values: &[u8; 256],
+    reciprocals: &[u8; 256],
+    codes: &[u8],
+)
+    requires { ⌜
+        Lent (now table) (now «t_values») (now reciprocals) (now m) (now labels)
+        × (every isLetter (now codes) ≡ true)
+        ⌝ }
+    ensures { λ _.
+        ⌜
+        pairOf (now (m .exit)) (now (labels .exit))
+        ≡ wordOn gf32 (now («t_values» .entry)) (now (codes .entry)) (pairOf (now (m .entry)) (now (labels .entry)))
+        ⌝ }
+{
+    let mut i = 0;
+    while i < codes.len() {
+        let code = codes[i];
+        letter(m, labels, table, t_values, reciprocals, code);
+        i += 1;
+    }
+}
+
+// Of the first n packed codes those of whole words of eight bytes: how many bytes these are. Under sixteen codes are
+// left.
+fn words(
+    m: &mut [u8; 64],
+    labels: &mut [u8; 8],
+    table: &[u8; 1024],
+    t_values: &[u8; 256],
+    reciprocals: &[u8; 256],
+    part: &[u8],
+    n: usize,
+) -> usize
+    requires { ⌜
+        Lent (now table) (now «t_values») (now reciprocals) (now m) (now labels)
+        × (n ≤ 2 * length (now part))
+        × (every isLetter (take n (halves (now part))) ≡ true)
+        ⌝ }
+    ensures { λ r.
+        ⌜
+        (2 * r ≤ n)
+        × (n < 2 * r + 16)
+        × (pairOf (now (m .exit)) (now (labels .exit))
+        ≡ wordOn gf32 (now («t_values» .entry)) (halves (take r (now (part .entry)))) (pairOf (now (m .entry)) (now (labels .entry))))
+        ⌝ }
+{
+    let mut k = 0;
+    while k + 8 <= n / 2 {
+        let codes = braid::sixteen_at(part, k);
+        run(m, labels, table, t_values, reciprocals, &codes);
+        k += 8;
+    }
+    k
+}
+
 // The first n packed codes, first to last, on the pair of the matrix and the labels.
 fn letters(
     m: &mut [u8; 64],
@@ -63,12 +123,12 @@ fn letters(
         ≡ wordOn gf32 (now («t_values» .entry)) (take n (halves (now (part .entry)))) (pairOf (now (m .entry)) (now (labels .entry)))
         ⌝ }
 {
-    let mut i = 0;
-    while i < n {
-        let code = braid::half(part, i);
-        letter(m, labels, table, t_values, reciprocals, code);
-        i += 1;
-    }
+    let done = words(m, labels, table, t_values, reciprocals, part, n);
+    let end = (n + 1) / 2;
+    let mut last = [0u8; 16];
+    braid::unpack(&part[done..end], &mut last);
+    let left = n - 2 * done;
+    run(m, labels, table, t_values, reciprocals, &last[..left]);
 }
 
 // As many of n packed codes as there are.

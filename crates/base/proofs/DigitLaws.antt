@@ -12,7 +12,7 @@ use borrow.Author.Tests.{ltb-true, lt-ltb}
 use lib.Dec.{ltb}
 use lib.Pow.{pow-add}
 use lib.ListN.{length, take, drop, getD, length-append}
-use lib.Seq.{take-suc, take-nil, getD-drop}
+use lib.Seq.{take-suc, take-nil, take-add, getD-drop}
 use Rattle.base.specs.Lists.{every}
 use Rattle.base.specs.Digits.{value, digits, halves}
 use Rattle.base.proofs.ListLaws.{and-true, every-from, every-append, every-all}
@@ -184,6 +184,10 @@ unfolding halves
 halves-append [] ys = refl
 halves-append (x ∷ xs) ys = ap (λ (l : List ℕ). x / 16 ∷ x % 16 ∷ l) (halves-append xs ys)
 
+-- the half bytes of n bytes more
+pub halves-more : (k n : ℕ) (xs : List ℕ) → halves (take (k + n) xs) ≡ halves (take k xs) ++ halves (take n (drop k xs))
+halves-more k n xs = ap halves (take-add k n xs) ∙ halves-append (take k xs) (take n (drop k xs))
+
 two-more : (n : ℕ) → 2 * suc n ≡ suc (suc (2 * n))
 two-more n = omega arith
 
@@ -231,3 +235,23 @@ halves-below [] h k = omega arith
 halves-below (x ∷ xs) h zero = omega (arith, h 0)
 halves-below (x ∷ xs) h (suc zero) = omega arith
 halves-below (x ∷ xs) h (suc (suc k)) = halves-below xs (λ j. h (suc j)) k
+
+-- half bytes and bytes write the same number
+sixteen-twice : (n : ℕ) → 16 ^ (2 * n) ≡ 256 ^ n
+sixteen-twice zero = refl
+sixteen-twice (suc n) =
+    rw (two-more n, pow-suc 16 (suc (2 * n)), pow-suc 16 (2 * n), pow-suc 256 n, sixteen-twice n) (omega arith)
+
+pub value-halves : (xs : List ℕ) → value 16 (halves xs) ≡ value 256 xs
+unfolding value halves
+value-halves [] = refl
+value-halves (x ∷ xs) =
+    value-append 16 (x / 16 ∷ x % 16 ∷ []) (halves xs)
+    ∙ ap₂ (λ (v p : ℕ). v * p + value 16 (halves xs))
+    (value-two 16 (x / 16) (x % 16) ∙ div-add-mod' x 16) (ap (λ (n : ℕ). 16 ^ n) (length-halves xs) ∙ sixteen-twice (length xs))
+    ∙ ap (λ (v : ℕ). x * 256 ^ length xs + v) (value-halves xs)
+
+-- the half bytes of bytes are the digits to base 16 of the number that the bytes write
+pub digits-halves : (xs : List ℕ) → ((k : ℕ) → getD xs k 0 < 256) → digits 16 (2 * length xs) (value 256 xs) ≡ halves xs
+digits-halves xs h =
+    ap₂ (digits 16) (sym (length-halves xs)) (sym (value-halves xs)) ∙ digits-value 16 (halves xs) (halves-below xs h)

@@ -3,15 +3,15 @@
 use Prim.Native.Nat.{ℕ, zero, suc, _+_, _≤_, _<_, zero-le, suc-le-suc}
 use mathlib.Core.Path.{_≡_, refl, sym, ap, ap₂, _∙_}
 use mathlib.Core.Bool.{Bool, true, false, cond, _&&_, Bool·beq, true≢false, false≢true}
-use mathlib.Core.List.{List, [], _∷_, _++_}
+use mathlib.Core.List.{List, [], _∷_, _++_, append-assoc}
 use native.Mathlib.Nat.{not-suc-le-zero, le-of-suc-le-suc, zero-lt-suc, add-zero, add-suc, zero-add, suc-add}
 use native.Mathlib.Numerals.{add-one}
 use native.Mathlib.Omega.{arith}
 use native.Mathlib.Decide.{ℕ-discrete}
 use borrow.Author.Tests.{ltb-true, eqb-true, eq-eqb}
 use lib.Dec.{eqb, ltb}
-use lib.ListN.{length, take, drop, getD, set, length-append, length-drop, take-append-drop}
-use lib.Seq.{take-suc, drop-cons, length-take-le, drop-nil, take-length, set-at, append-snoc, take-append-seam, drop-append-seam, ext-getD, getD-set-same, getD-set-other}
+use lib.ListN.{length, take, drop, getD, set, length-append, length-take, length-drop, take-append-drop}
+use lib.Seq.{take-suc, drop-cons, length-take-le, drop-nil, drop-drop, take-length, take-all, take-at, drop-at, set-at, append-snoc, take-append-seam, drop-append-seam, drop-append-le, ext-getD, getD-set-same, getD-set-other}
 use Rattle.base.specs.Lists.{every, count, valuesFrom, values, equal, overlaid, eachOnce}
 
 -- ---- two tests at once
@@ -263,3 +263,30 @@ take-overlaid bytes out = take-append-seam bytes (drop (length bytes) out)
 pub drop-overlaid : (bytes out : List ℕ) → drop (length bytes) (overlaid bytes out) ≡ drop (length bytes) out
 unfolding overlaid
 drop-overlaid bytes out = drop-append-seam bytes (drop (length bytes) out)
+
+-- bytes behind those that stand in front
+pub overlaid-append : (xs ys out : List ℕ) → overlaid (xs ++ ys) out ≡ xs ++ overlaid ys (drop (length xs) out)
+unfolding overlaid
+overlaid-append xs ys out =
+    append-assoc xs ys (drop (length (xs ++ ys)) out)
+    ∙ ap (λ (l : List ℕ). xs ++ (ys ++ l))
+    (ap (λ (n : ℕ). drop n out) (length-append xs ys) ∙ sym (drop-drop (length ys) (length xs) out))
+
+-- n places behind them are lent, and come back with bytes in front
+pub overlaid-more : (xs ys out now : List ℕ) (i n : ℕ) → i ≡ length xs → length ys ≤ n → i + length ys ≤ length out → now ≡ overlaid xs out
+    → take i now ++ (overlaid ys (take n (drop i now)) ++ drop n (drop i now)) ≡ overlaid (xs ++ ys) out
+unfolding overlaid
+overlaid-more xs ys out now i n e h l o =
+    let rest : List ℕ = drop (length xs) out in
+    let few : length ys ≤ length (take n rest) = omega (arith, length-take n rest, length-drop (length xs) out) in
+    ap (λ (w : List ℕ). take i w ++ (overlaid ys (take n (drop i w)) ++ drop n (drop i w))) o
+    ∙ ap₂ (λ (p q : List ℕ). p ++ (overlaid ys (take n q) ++ drop n q)) (take-at xs rest i (sym e)) (drop-at xs rest i (sym e))
+    ∙ ap (λ (w : List ℕ). xs ++ w)
+    (append-assoc ys (drop (length ys) (take n rest)) (drop n rest)
+    ∙ ap (λ (w : List ℕ). ys ++ w)
+    (sym (drop-append-le (length ys) (take n rest) (drop n rest) few) ∙ ap (drop (length ys)) (take-append-drop n rest)))
+    ∙ sym (overlaid-append xs ys out)
+
+-- bytes that fill the output
+pub overlaid-all : (bytes out : List ℕ) → length bytes ≡ length out → overlaid (take (length out) bytes) out ≡ overlaid bytes out
+overlaid-all bytes out e = ap (λ (l : List ℕ). overlaid l out) (take-all (length out) bytes (omega arith))

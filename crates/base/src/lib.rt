@@ -1,4 +1,5 @@
-// Bytes copied to the front of an output, two rows of bytes compared, a number in two bytes, and digits regrouped.
+// Bytes copied to the front of an output, two rows of bytes compared, a number in two bytes or in eight, and digits
+// regrouped.
 ghost use Prim.Native.Nat.{_+_, _≤_, _<_};
 ghost use mathlib.Core.Path.{_≡_};
 ghost use lib.ListN.{length, take};
@@ -49,4 +50,22 @@ pub fn two_bytes(bytes: &[u8], at: usize) -> usize
     ensures { λ r. ⌜ (r ≡ value 256 (part at 2 (now (bytes .entry)))) × (r < 65536) ⌝ }
 {
     bytes[at] as usize * 256 + bytes[at + 1] as usize
+}
+
+// The number that eight bytes write from a place on, the first the highest.
+pub fn eight_bytes(bytes: &[u8], at: usize) -> u64
+    requires { ⌜ at + 8 ≤ length (now bytes) ⌝ }
+    ensures { λ r. ⌜ r ≡ value 256 (part at 8 (now (bytes .entry))) ⌝ }
+{
+    let eight = [
+        bytes[at],
+        bytes[at + 1],
+        bytes[at + 2],
+        bytes[at + 3],
+        bytes[at + 4],
+        bytes[at + 5],
+        bytes[at + 6],
+        bytes[at + 7],
+    ];
+    number(&eight, 256)
 }

@@ -12,3 +12,5 @@ pub mod WrongPrograms
 pub mod WordSlips
 pub mod StrandLaws
 pub mod ExponentLaws
+pub mod SixteenCodes
+pub mod PackedCodes

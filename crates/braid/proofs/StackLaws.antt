@@ -3,14 +3,14 @@
 use Prim.Native.Nat.{ℕ, suc, _+_, _-_, _<_}
 use mathlib.Core.Path.{_≡_, sym, ap, _∙_}
 use mathlib.Core.Bool.{Bool, true, false, _&&_}
-use mathlib.Core.List.{List, [], _∷_, _++_}
+use mathlib.Core.List.{List, [], _∷_, _++_, append-assoc}
 use native.Mathlib.Omega.{arith}
 use native.Mathlib.Numerals.{add-one}
 use borrow.Author.Tests.{ltb-true, lt-ltb, eqb-true, eq-eqb}
 use lib.Dec.{ltb, eqb}
 use lib.ListN.{length, take, getD, set}
 use lib.Seq.{take-take, take-suc, take-suc-set, getD-take, length-take-le}
-use Rattle.base.proofs.ListLaws.{and-left, and-right, and-both, true-false, every-getD, every-take}
+use Rattle.base.proofs.ListLaws.{and-left, and-right, and-both, true-false, every-getD, every-append, every-take}
 use Rattle.braid.specs.Letters.{isLetter, inverse}
 use Rattle.braid.specs.Reduction.{reduced, Irreducible}
 use Rattle.braid.proofs.LetterLaws.{Lettered}
@@ -47,9 +47,11 @@ module _ (l : List ℕ) (n c : ℕ) (fits : n < length l) (i : Irreducible (take
       let meets : c ≡ inverse (getD l (n - 1) 0) = h ∙ (ap inverse last ∙ ap (λ (k : ℕ). inverse (getD l k 0)) at) in
       true-false (Meets l n c) (and-both (lt-ltb 0 n (omega arith)) (eq-eqb c (inverse (getD l (n - 1) 0)) meets)) e)))
 
--- one more letter of a word, k of whose letters have come to the stack
-pub next-reduced : (w : List ℕ) (k : ℕ) → k < length w → Lettered w
-    → reduced (reduced (take k w) ++ (getD w k 0 ∷ [])) ≡ reduced (take (k + 1) w)
-next-reduced w k h e =
-    reduced-front (take k w) (getD w k 0 ∷ []) (every-take isLetter k w e)
-    ∙ ap reduced (sym (take-suc w k 0 h) ∙ ap (λ (m : ℕ). take m w) (sym (add-one k)))
+-- one more letter of codes, k of which have come to the stack behind a word
+pub next-reduced : (u codes : List ℕ) (k : ℕ) → k < length codes → Lettered u → Lettered codes
+    → reduced (reduced (u ++ take k codes) ++ (getD codes k 0 ∷ [])) ≡ reduced (u ++ take (k + 1) codes)
+next-reduced u codes k h e f =
+    reduced-front (u ++ take k codes) (getD codes k 0 ∷ []) (every-append isLetter u (take k codes) ∙ and-both e (every-take isLetter k codes f))
+    ∙ ap reduced
+    (append-assoc u (take k codes) (getD codes k 0 ∷ [])
+    ∙ ap (λ (l : List ℕ). u ++ l) (sym (take-suc codes k 0 h) ∙ ap (λ (m : ℕ). take m codes) (sym (add-one k))))

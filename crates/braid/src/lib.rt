@@ -1,8 +1,11 @@
 // Braid words: reading and writing word files (signatures).
+mod codes; // codes.rt: codes out of their bytes, sixteen at a time
 mod read; // read.rt: the word reader
 mod reduce; // reduce.rt: free reduction
-mod write; // write.rt: the writer of words from codes, and codes out of their bytes
+mod write; // write.rt: the writer of words from codes
 
+pub use codes::sixteen_at;
+pub use codes::unpack;
 pub use read::all_letters;
 pub use read::code_part;
 pub use read::half;
@@ -11,7 +14,6 @@ pub use read::letter_at;
 pub use read::read_word;
 pub use reduce::free_reduce;
 pub use reduce::inverse;
-pub use write::unpack;
 pub use write::write_word;
 
 // A word has at most so many letters, and its file at most so many bytes.

@@ -3,10 +3,11 @@
 use crate::MAX_BYTES;
 use crate::MAX_LETTERS;
 use crate::Written;
-use crate::read::half;
+use crate::codes::sixteen_at;
+use crate::codes::unpack;
 use crate::read::read_word;
 use crate::write::write_word;
-ghost use Prim.Native.Nat.{_+_, _-_, _*_, _≤_, _<_};
+ghost use Prim.Native.Nat.{_+_, _-_, _*_, _/_, _≤_, _<_};
 ghost use mathlib.Core.Path.{_≡_};
 ghost use mathlib.Core.Bool.{true, _&&_};
 ghost use mathlib.Core.List.{[], _∷_, _++_};
@@ -49,19 +50,61 @@ fn push(stack: &mut [u8], n: usize, c: u8) -> usize
     n + 1
 }
 
+// Codes come to the end of the stack's n one by one: how many there are then.
+fn pushes(stack: &mut [u8], n: usize, codes: &[u8]) -> usize
+    requires { ⌜
+        (n + length (now codes) ≤ length (now stack))
+        × Irreducible (take n (now stack))
+        × (every isLetter (take n (now stack)) ≡ true)
+        × (every isLetter (now codes) ≡ true)
+        ⌝ }
+    ensures { λ r.
+        ⌜
+        (r ≤ n + length (now (codes .entry)))
+        × (take r (now (stack .exit)) ≡ reduced (take n (now (stack .entry)) ++ now (codes .entry)))
+        ⌝ }
+{
+    let mut count = n;
+    let mut k = 0;
+    while k < codes.len() {
+        let c = codes[k];
+        count = push(stack, count, c);
+        k += 1;
+    }
+    count
+}
+
+// Of the first n half bytes those of whole words of eight bytes come to an empty stack: how many are left of them.
+fn cancel_words(part: &[u8], n: usize, stack: &mut [u8]) -> usize
+    requires { ⌜ (n ≤ 2 * length (now part)) × (n ≤ length (now stack)) × (every isLetter (take n (halves (now part))) ≡ true) ⌝ }
+    ensures { λ r.
+        ⌜
+        (r ≤ 2 * (n / 16 * 8))
+        × (take r (now (stack .exit)) ≡ reduced (halves (take (n / 16 * 8) (now (part .entry)))))
+        ⌝ }
+{
+    let mut count = 0;
+    let mut k = 0;
+    while k + 8 <= n / 2 {
+        let codes = sixteen_at(part, k);
+        count = pushes(stack, count, &codes);
+        k += 8;
+    }
+    count
+}
+
 // The first n half bytes come to an empty stack one by one: how many are left of them.
 fn cancel(part: &[u8], n: usize, stack: &mut [u8]) -> usize
     requires { ⌜ (n ≤ 2 * length (now part)) × (n ≤ length (now stack)) × (every isLetter (take n (halves (now part))) ≡ true) ⌝ }
     ensures { λ r. ⌜ (r ≤ n) × (take r (now (stack .exit)) ≡ reduced (take n (halves (now (part .entry))))) ⌝ }
 {
-    let mut count = 0;
-    let mut k = 0;
-    while k < n {
-        let c = half(part, k);
-        count = push(stack, count, c);
-        k += 1;
-    }
-    count
+    let count = cancel_words(part, n, stack);
+    let done = n / 16 * 8;
+    let end = (n + 1) / 2;
+    let mut last = [0u8; 16];
+    unpack(&part[done..end], &mut last);
+    let left = n - 2 * done;
+    pushes(stack, count, &last[..left])
 }
 
 // Free reduction: 15, then the word; its freely reduced word goes to the output.

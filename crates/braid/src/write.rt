@@ -1,5 +1,4 @@
-// The writer of words from codes, one to a byte: questions 15, 10 and 12, then the file in the output's first bytes;
-// and codes out of their bytes.
+// The writer of words from codes, one to a byte: questions 15, 10 and 12, then the file in the output's first bytes.
 use crate::MAX_BYTES;
 use crate::MAX_LETTERS;
 use crate::Written;
@@ -7,9 +6,8 @@ use crate::read::is_letter;
 ghost use Prim.Native.Nat.{_+_, _*_, _/_, _≤_, _<_};
 ghost use mathlib.Core.Path.{_≡_};
 ghost use mathlib.Core.Bool.{true};
-ghost use lib.ListN.{length, take};
+ghost use lib.ListN.{length, take, getD};
 ghost use Rattle.base.specs.Lists.{every, overlaid};
-ghost use Rattle.base.specs.Digits.{halves};
 ghost use Rattle.braid.specs.Letters.{isLetter};
 ghost use Rattle.braid.specs.Words.{needed, packed, wordFile, WroteWord};
 
@@ -26,6 +24,16 @@ fn all_codes(codes: &[u8]) -> bool
     lettered
 }
 
+// Two codes as one byte, the earlier in the high half. They are read as one number of two bytes, the later the higher:
+// times 4,097 that number has the byte in its second place. So many pairs are packed at once.
+fn two_codes(codes: &[u8], at: usize) -> u8
+    requires { ⌜ (at + 2 ≤ length (now codes)) × (getD (now codes) at 0 < 16) × (getD (now codes) (at + 1) 0 < 16) ⌝ }
+    ensures { λ r. ⌜ r ≡ getD (now (codes .entry)) at 0 * 16 + getD (now (codes .entry)) (at + 1) 0 ⌝ }
+{
+    let two = codes[at] as usize + codes[at + 1] as usize * 256;
+    (two * 4097 / 256 % 256) as u8
+}
+
 // Two codes go to each byte of the output, from its first on, the earlier in the high half; a last odd code is left
 // out.
 fn pack(codes: &[u8], out: &mut [u8])
@@ -35,20 +43,7 @@ fn pack(codes: &[u8], out: &mut [u8])
     let n = codes.len() / 2;
     let mut k = 0;
     while k < n {
-        out[k] = codes[2 * k] * 16 + codes[2 * k + 1];
-        k += 1;
-    }
-}
-
-// The way back: the half bytes of a row of bytes go to the front of the row of codes, one to a byte.
-pub fn unpack(bytes: &[u8], codes: &mut [u8])
-    requires { ⌜ 2 * length (now bytes) ≤ length (now codes) ⌝ }
-    ensures { λ _. ⌜ now (codes .exit) ≡ overlaid (halves (now (bytes .entry))) (now (codes .entry)) ⌝ }
-{
-    let mut k = 0;
-    while k < bytes.len() {
-        codes[2 * k] = bytes[k] / 16;
-        codes[2 * k + 1] = bytes[k] % 16;
+        out[k] = two_codes(codes, 2 * k);
         k += 1;
     }
 }

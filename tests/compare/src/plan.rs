@@ -62,6 +62,7 @@ impl Run {
         self.any_matrices()?;
         self.every_kind()?;
         self.every_three_letters()?;
+        self.every_length()?;
         self.faults_in_pairs()?;
         self.moves_refused_twice()?;
         self.moves_on_full_words()?;
@@ -267,6 +268,19 @@ impl Run {
                     }
                 }
             }
+        }
+        Ok(())
+    }
+
+    /// Words of each number of letters up to 66, four times eight bytes and two letters more: accepted slips, judged,
+    /// freely reduced, and rewritten by no moves.
+    fn every_length(&mut self) -> Checked {
+        for letters in 0..=66 {
+            let codes = self.maker.random.tangled_word(letters);
+            let slip = self.maker.slip(&codes);
+            self.judged(&slip, slip.word.clone(), Some(0))?;
+            self.word_from(Operation::FreeReduce, vec![slip.word.clone()])?;
+            self.word_from(Operation::Rewrite, vec![slip.word, move_list(&[])])?;
         }
         Ok(())
     }

@@ -1,67 +1,93 @@
--- `braid::reduce::cancel` meets its contract. The loop's invariant: the stack's first elements are the freely reduced
--- word of the letters that have come.
-use Prim.Native.Nat.{ℕ, _-_, _≤_}
-use mathlib.Core.Path.{_≡_, refl, sym, ap, ap₂, _∙_}
-use mathlib.Core.List.{List, [], _∷_, _++_}
+-- `braid::reduce::cancel` meets its contract: the codes of the whole words, then those that the last bytes give.
+use Prim.Native.Nat.{ℕ, _-_, _*_, _/_}
+use mathlib.Core.Path.{_≡_, sym, ap, _∙_}
+use mathlib.Core.List.{List, _++_}
 use native.Mathlib.Omega.{arith}
+use borrow.Author.Needs.{needs}
 use lib.ListN.{length, take}
-use lib.Seq.{getD-take, length-take-le, take-take}
+use lib.Seq.{length-take-le}
 use Rattle.base.specs.Digits.{halves}
-use Rattle.base.proofs.ListLaws.{every-take}
-use Rattle.base.proofs.DigitLaws.{length-halves}
-use Rattle.braid.specs.Letters.{isLetter}
 use Rattle.braid.specs.Reduction.{reduced}
-use Rattle.braid.proofs.ReductionLaws.{reduced-irreducible, reduced-lettered}
-use Rattle.braid.proofs.StackLaws.{next-reduced}
+use Rattle.braid.proofs.LetterLaws.{Lettered}
+use Rattle.braid.proofs.PackedCodes.{front-lettered, codes-last, last-lettered}
+use Rattle.braid.proofs.ReductionLaws.{reduced-irreducible, reduced-lettered, reduced-front}
 use Rattle.braid.proofs.reduce.cancel.Statement.{statement}
 use Rattle.braid.proofs.reduce.cancel.Tie as tie
 
-abbrev Inv-loop : tie.InvT-loop
-Inv-loop part n stack₀ count₀ k₀ stack count k =
-    (k ≤ n) × (count ≤ k) × (length stack ≡ length stack₀) × (take count stack ≡ reduced (take k (take n (halves part))))
+abbrev start : tie.After-cancel-words → tie.Start
+start c = c .before .before .before .before
 
-abbrev μ-loop : tie.MeasureT-loop
-μ-loop part n stack₀ count₀ k₀ stack count k = n - k
+abbrev at-words : tie.After-unpack → tie.After-cancel-words
+at-words c = c .before .before .before .before .before
 
-loop-holds : tie.Need-loop-holds Inv-loop μ-loop
-unfolding reduced
-loop-holds c = (omega arith, omega arith, refl, refl)
+abbrev at-unpack : tie.After-last3 → tie.After-unpack
+at-unpack c = c .before .before .before
 
-push-requires : tie.Need-push-requires Inv-loop μ-loop
-push-requires c κs =
-    let l = c .before .before .before .loop in
-    let a = c .before .before .before .before .before .before in
-    let w = take (a .args .n) (halves (a .args .part .now)) in
-    let letters = every-take isLetter (l .k) w (a .pre .2) in
-    (omega arith, rw (l .inv .3) (reduced-irreducible (take (l .k) w)), rw (l .inv .3) (reduced-lettered (take (l .k) w) letters))
+-- the codes of the whole words, and those that are left
+module _ (c : tie.After-unpack) where
+  abbrev bytes : List ℕ
+  bytes = start (at-words c) .args .part .now
 
-loop-again : tie.Need-loop-again Inv-loop μ-loop
-loop-again c =
-    let p = c .before .before .push in
-    let l = c .before .before .before .before .before .before .loop in
-    let a = c .before .before .before .before .before .before .before .before .before in
-    let n = a .args .n in
-    let h = halves (a .args .part .now) in
-    let size = length-take-le n h (omega (arith, length-halves (a .args .part .now))) in
-    let code = c .before .before .before .before .half .ensures ∙ sym (getD-take n h (l .k) 0 (omega arith)) in (
-      omega arith,
-      omega arith,
-      p .kept .0 ∙ l .inv .2,
-      p .ensures .1
-          ∙ (ap₂ (λ (s : List ℕ) (d : ℕ). reduced (s ++ (d ∷ []))) (l .inv .3) code ∙ next-reduced (take n h) (l .k) (omega arith) (a .pre .2)),
+  abbrev n : ℕ
+  n = start (at-words c) .args .n
+
+  abbrev front : List ℕ
+  front = halves (take (n / 16 * 8) bytes)
+
+  abbrev rest : List ℕ
+  rest = take (n - 2 * (n / 16 * 8)) (c .unpack .last .1 .0)
+
+  all-codes : take n (halves bytes) ≡ front ++ rest
+  all-codes = codes-last bytes n (start (at-words c) .pre .0) (n / 16 * 8) (omega arith) _ (c .unpack .last .1 .0) (c .unpack .ensures)
+
+  letters : Lettered front
+  letters = front-lettered bytes n (start (at-words c) .pre .0) (start (at-words c) .pre .2) (n / 16 * 8) (omega arith)
+
+  length-rest : length rest ≡ n - 2 * (n / 16 * 8)
+  length-rest = length-take-le (n - 2 * (n / 16 * 8)) (c .unpack .last .1 .0) (omega (arith, c .unpack .kept .1 .0))
+
+slice-aggregate-pushes : tie.Need-slice-aggregate-pushes
+slice-aggregate-pushes c = sym (length-rest (at-unpack c))
+
+pushes-requires : tie.Need-pushes-requires
+pushes-requires c κs =
+    let u = at-unpack c in
+    let w = at-words u .cancel-words in
+    let s = start (at-words u) in (
+      omega (arith, length-rest u, w .ensures .0, w .kept .1 .1 .0, s .pre .1),
+      rw (w .ensures .1) (reduced-irreducible (front u)),
+      rw (w .ensures .1) (reduced-lettered (front u) (letters u)),
+      last-lettered (bytes u) (n u) (s .pre .0) (n u / 16 * 8) (omega arith) _ (u .unpack .last .1 .0) (u .unpack .ensures) (s .pre .2),
     )
 
-same-length : tie.Need-same-length Inv-loop μ-loop
-same-length c = c .before .loop .inv .2
-
-returns : tie.Need-returns Inv-loop μ-loop
+returns : tie.Need-returns
 returns c =
-    let l = c .before .loop in
-    let n = c .before .before .before .before .args .n in
-    let h = halves (c .before .before .before .before .args .part .now) in
-    let all : l .k ≡ n = omega arith in
-    (omega arith, l .inv .3 ∙ ap reduced (take-take (l .k) n h (omega arith) ∙ ap (λ (m : ℕ). take m h) all))
+    let p = c .before .before in
+    let u = at-unpack (p .before) in
+    let w = at-words u .cancel-words in (
+      omega (arith, p .pushes .ensures .0, length-rest u, w .ensures .0),
+      p .pushes .ensures .1
+          ∙ ap (λ (v : List ℕ). reduced (v ++ rest u)) (w .ensures .1)
+          ∙ reduced-front (front u) (rest u) (letters u)
+          ∙ ap reduced (sym (all-codes u)),
+    )
 
 pub cancel-spec : {M : Type 1} → statement M
 cancel-spec =
-    tie.close (tie.spec Inv-loop μ-loop loop-holds (λ c κs. tt) push-requires (λ c. omega arith) (λ c. omega arith) loop-again same-length returns)
+    tie.close
+    (tie.spec
+    (λ c κs. search needs)
+    (λ c. search needs)
+    (λ c. search needs)
+    (λ c. search needs)
+    (λ c. search needs)
+    (λ c. search needs)
+    (λ c. search needs)
+    (λ c κs. search needs)
+    (λ c. search needs)
+    (λ c. search needs)
+    (λ c. search needs)
+    slice-aggregate-pushes
+    pushes-requires
+    (λ c. search needs)
+    returns)

@@ -25,24 +25,17 @@ abbrev μ-loop : tie.MeasureT-loop
 loop-holds : tie.Need-loop-holds Inv-loop μ-loop
 loop-holds c = (refl, omega arith, refl, refl)
 
-mul-out-2 : tie.Need-mul-out-2 Inv-loop μ-loop
-mul-out-2 c =
-    let l = c .before .before .loop in
-    let s = c .before .before .before in
-    let below = letters-below (s .args .codes .now) (s .pre .0) in
-    omega (arith, below (2 * l .k), below (2 * l .k + 1))
-
-add-out-2 : tie.Need-add-out-2 Inv-loop μ-loop
-add-out-2 c =
-    let l = c .before .before .before .loop in
+two-codes-requires : tie.Need-two-codes-requires Inv-loop μ-loop
+two-codes-requires c κs =
+    let l = c .before .loop in
     let s = c .before .before .before .before in
     let below = letters-below (s .args .codes .now) (s .pre .0) in
-    omega (arith, below (2 * l .k), below (2 * l .k + 1))
+    (omega arith, omega (arith, below (2 * l .k)), omega (arith, below (2 * l .k + 1)))
 
 loop-again : tie.Need-loop-again Inv-loop μ-loop
 loop-again c =
-    let l = c .before .before .before .loop in
-    let a = c .before .before .before .before .args in
+    let l = c .before .before .loop in
+    let a = c .before .before .before .before .before .args in
     let cs = a .codes .now in
     let k = l .k in
     let two : 2 * k ≡ k * 2 = omega arith in (
@@ -50,7 +43,7 @@ loop-again c =
       omega arith,
       simp length-set (l .inv .2),
       ap₂ (λ (o : List ℕ) (b : ℕ). set o k b) (l .inv .3)
-          (ap (λ (j : ℕ). getD cs j 0 * 16 + getD cs (j + 1) 0) two ∙ sym (getD-packed cs k))
+          (c .two-codes .ensures ∙ ap (λ (j : ℕ). getD cs j 0 * 16 + getD cs (j + 1) 0) two ∙ sym (getD-packed cs k))
           ∙ overlay-step (packed cs) (a .out .now) k (omega (arith, length-packed cs)) (omega arith),
     )
 
@@ -60,7 +53,7 @@ same-length c = c .before .loop .inv .2
 returns : tie.Need-returns Inv-loop μ-loop
 returns c =
     let l = c .before .loop in
-    let a = c .before .before .args in
+    let a = c .before .before .before .before .args in
     let e : l .k ≡ length (a .codes .now) / 2 = omega arith in
     l .inv .3
     ∙ ap (λ (i : ℕ). take i (packed (a .codes .now)) ++ drop i (a .out .now)) e
@@ -69,5 +62,4 @@ returns c =
 pub pack-spec : {M : Type 1} → statement M
 pack-spec =
     tie.close
-    (tie.spec Inv-loop μ-loop loop-holds (λ c. omega arith) (λ c. omega arith) mul-out-2 (λ c. omega arith) (λ c. omega arith) (λ c. omega arith)
-    add-out-2 (λ c. omega arith) (λ c. omega arith) (λ c. omega arith) loop-again same-length returns)
+    (tie.spec Inv-loop μ-loop loop-holds (λ c. omega arith) two-codes-requires (λ c. omega arith) (λ c. omega arith) (λ c. omega arith) loop-again same-length returns)

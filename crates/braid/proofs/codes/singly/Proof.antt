@@ -1,4 +1,4 @@
--- `braid::write::unpack` meets its contract. The loop's invariant: the first 2 * k codes are half bytes, the others are
+-- `braid::codes::singly` meets its contract. The loop's invariant: the first 2 * k codes are half bytes, the others are
 -- as they were.
 use Prim.Native.Nat.{ℕ, _+_, _-_, _*_, _/_, _%_, _≤_, _<_}
 use mathlib.Core.Path.{_≡_, refl, sym, ap, ap₂, _∙_}
@@ -8,15 +8,15 @@ use lib.ListN.{length, take, drop, getD, set, length-set}
 use Rattle.base.specs.Digits.{halves}
 use Rattle.base.proofs.ListLaws.{overlay-step, overlay-whole}
 use Rattle.base.proofs.DigitLaws.{length-halves, half-even, half-odd}
-use Rattle.braid.proofs.write.unpack.Statement.{statement}
-use Rattle.braid.proofs.write.unpack.Tie as tie
+use Rattle.braid.proofs.codes.singly.Statement.{statement}
+use Rattle.braid.proofs.codes.singly.Tie as tie
 
 -- two half bytes more
-unpack-step : (bytes row codes : List ℕ) (k : ℕ) → k < length bytes → 2 * k + 1 < length row
+two-more : (bytes row codes : List ℕ) (k : ℕ) → k < length bytes → 2 * k + 1 < length row
     → codes ≡ take (2 * k) (halves bytes) ++ drop (2 * k) row
     → set (set codes (2 * k) (getD bytes k 0 / 16)) (2 * k + 1) (getD bytes k 0 % 16)
     ≡ take (2 * (k + 1)) (halves bytes) ++ drop (2 * (k + 1)) row
-unpack-step bytes row codes k h l e =
+two-more bytes row codes k h l e =
     let hs = halves bytes in
     let even : 2 * k % 2 ≡ 0 = omega arith in
     let odd : (2 * k + 1) % 2 ≡ 1 = omega arith in
@@ -43,7 +43,7 @@ loop-again : tie.Need-loop-again Inv-loop μ-loop
 loop-again c =
     let l = c .before .before .before .loop in
     let a = c .before .before .before .before .args in
-    (omega arith, simp length-set (l .inv .1), unpack-step (a .bytes .now) (a .codes .now) (l .codes) (l .k) (omega arith) (omega arith) (l .inv .2))
+    (omega arith, simp length-set (l .inv .1), two-more (a .bytes .now) (a .codes .now) (l .codes) (l .k) (omega arith) (omega arith) (l .inv .2))
 
 returns : tie.Need-returns Inv-loop μ-loop
 returns c =
@@ -51,8 +51,8 @@ returns c =
     let a = c .before .before .args in
     l .inv .2 ∙ overlay-whole (halves (a .bytes .now)) (a .codes .now) (2 * l .k) (omega (arith, length-halves (a .bytes .now)))
 
-pub unpack-spec : {M : Type 1} → statement M
-unpack-spec =
+pub singly-spec : {M : Type 1} → statement M
+singly-spec =
     tie.close
     (tie.spec
     Inv-loop
