@@ -80,6 +80,47 @@ static void word_on(pair *p, const uint8_t *t_values, const uint8_t *packed, siz
         letter_on(p, t_values, inverses, code_at(packed, k));
 }
 
+/* A column of the matrix as one number, the first row's entry in the lowest byte: times t, it is the exclusive or, over the bits i of an
+   entry, of bit i of every byte times t x^i, which stands in the constants. */
+static uint64_t times_column(const uint64_t *constants, uint64_t column)
+{
+    uint64_t product = 0;
+    for (int i = 0; i < 5; i++)
+        product ^= (column >> i & 0x0101010101010101) * constants[i];
+    return product;
+}
+
+static void fill_constants(uint64_t *constants, uint8_t t)
+{
+    for (unsigned i = 0; i < 5; i++)
+        constants[i] = products[32 * t + (1u << i)];
+}
+
+/* The letters of a word on columns, with a spare one in front; no branch depends on a letter. */
+static void word_on_columns(pair *p, const uint8_t *t_values, const uint8_t *packed, size_t n)
+{
+    uint64_t columns[9] = {0}, constants[16][8];
+    for (int a = 0; a < 8; a++) {
+        fill_constants(constants[a], t_values[a]);
+        fill_constants(constants[8 + a], reciprocals[t_values[a]]);
+        for (int r = 8; r-- > 0;)
+            columns[a + 1] = columns[a + 1] << 8 | p->matrix[8 * r + a];
+    }
+    for (size_t k = 0; k < n; k++) {
+        unsigned code = code_at(packed, k), g = code & 7, inverse = code >> 3;
+        uint8_t label = p->labels[g], next = p->labels[g + 1];
+        uint64_t column = columns[g + 1], product = times_column(constants[inverse ? 8 + next : label], column);
+        columns[g] ^= inverse ? column : product;
+        columns[g + 1] = product;
+        columns[g + 2] ^= inverse ? product : column;
+        p->labels[g] = next;
+        p->labels[g + 1] = label;
+    }
+    for (int c = 0; c < 8; c++)
+        for (int r = 0; r < 8; r++)
+            p->matrix[8 * r + c] = (uint8_t)(columns[c + 1] >> 8 * r);
+}
+
 static bool is_order(const uint8_t *labels)
 {
     unsigned seen = 0;
@@ -238,8 +279,8 @@ uint8_t plain_verify(const uint8_t *file, size_t kn, const uint8_t *digest, size
     return memcmp(k.first.matrix, wanted, 64) ? 14 : 0;
 }
 
-/* 256 + the answer on a refusal, else 1 for yes and 0 for no. */
-unsigned plain_cloaks(const uint8_t *file, size_t kn, const uint8_t *labels, size_t ln, const uint8_t *word, size_t wn)
+/* 256 + the answer on a refusal, else 1 for yes and 0 for no. The word goes over rows of bytes, or over columns of 64 bits. */
+unsigned plain_cloaks(const uint8_t *file, size_t kn, const uint8_t *labels, size_t ln, const uint8_t *word, size_t wn, bool by_columns)
 {
     key k;
     pair before, after;
@@ -254,7 +295,7 @@ unsigned plain_cloaks(const uint8_t *file, size_t kn, const uint8_t *labels, siz
     start(&before);
     memcpy(before.labels, labels, 8);
     after = before;
-    word_on(&after, k.t_values, word + 2, letters);
+    (by_columns ? word_on_columns : word_on)(&after, k.t_values, word + 2, letters);
     return memcmp(&before, &after, sizeof before) == 0;
 }
 

@@ -65,10 +65,13 @@ typedef struct { uint8_t answer; size_t bytes; } walnut_written;
 /* Does the word cloak? No on a refusal. */
 typedef struct { uint8_t answer; bool yes; } walnut_cloak;
 
-/* A matrix row by row, entry (r, c) at 8 * (r - 1) + (c - 1), and a list of labels. */
+/* Where the entry in a row and a column of a matrix stands, both counted from 1: every matrix lies column by column, the first one first. */
+#define WALNUT_PLACE(row, column) (8 * ((column) - 1) + ((row) - 1))
+
+/* A matrix column by column, entry (r, c) at 8 * (c - 1) + (r - 1), and a list of labels. */
 typedef struct { uint8_t matrix[64]; uint8_t labels[8]; } walnut_pair;
 
-/* A key: its T-values, the pair Pub(S) and the matrix of Pub(S'), all zeros on a refusal. */
+/* A key: its T-values, the pair Pub(S) and the matrix of Pub(S'), column by column too; all zeros on a refusal. */
 typedef struct { uint8_t answer; uint8_t t_values[8]; walnut_pair pair; uint8_t second[64]; } walnut_key;
 
 /* The product of two elements. Answers: 17, 0. Changes nothing. */
@@ -86,7 +89,8 @@ uint8_t walnut_multiply(walnut_pair *pair, const uint8_t t_values[8], uint8_t le
 /* Reads a key file. Answers: 1, 2, 3, 4, 5, 6, 7, 26, 0. Changes nothing. */
 walnut_key walnut_read_key(const uint8_t *file, size_t len);
 
-/* The 57 entries that a key file has of a matrix: rows 1 to 7 whole, then the last entry of row 8. It has no answer. Changes the 57. */
+/* The 57 entries that a key file has of a matrix, in the file's order and not in that of the matrix: rows 1 to 7 whole, then the last
+   entry of row 8. It has no answer. Changes the 57. */
 void walnut_file_entries(const uint8_t matrix[64], uint8_t entries[57]);
 
 /* Writes a key file from T-values, labels and the 57 entries of each matrix, as walnut_file_entries has them.

@@ -17,6 +17,7 @@ extern "C" {
         ln: usize,
         word: *const u8,
         wn: usize,
+        by_columns: bool,
     ) -> u32;
     fn plain_rewrite(
         word: *const u8,
@@ -43,10 +44,10 @@ pub fn verify(key: &[u8], digest: &[u8], word: &[u8]) -> u8 {
     unsafe { plain_verify(file, bytes, digest.as_ptr(), digest.len(), word.as_ptr(), word.len()) }
 }
 
-pub fn cloaks(key: &[u8], labels: &[u8], word: &[u8]) -> u32 {
-    let (file, bytes) = (key.as_ptr(), key.len());
+pub fn cloaks(key: &[u8], labels: &[u8], word: &[u8], by_columns: bool) -> u32 {
+    let ((file, bytes), (list, n)) = ((key.as_ptr(), key.len()), (labels.as_ptr(), labels.len()));
     // SAFETY: see above.
-    unsafe { plain_cloaks(file, bytes, labels.as_ptr(), labels.len(), word.as_ptr(), word.len()) }
+    unsafe { plain_cloaks(file, bytes, list, n, word.as_ptr(), word.len(), by_columns) }
 }
 
 pub fn rewrite(word: &[u8], moves: &[u8], out: &mut [u8]) -> usize {

@@ -32,7 +32,7 @@ pub const ALL: [Who; 3] = [Who::Library, Who::Rust, Who::C];
 /// One piece of work, with its inputs.
 pub enum Work {
     Verdict(Slip),
-    Cloaking { key: Vec<u8>, word: Vec<u8> },
+    Cloaking { key: Vec<u8>, word: Vec<u8>, by_columns: bool },
     Rewriting { word: Vec<u8>, moves: Vec<u8> },
     Reduction { word: Vec<u8> },
 }
@@ -77,13 +77,15 @@ impl Work {
             (Work::Verdict(slip), Who::C) => {
                 (u32::from(plain_c::verify(&slip.key, &slip.digest, &slip.word)), 0)
             }
-            (Work::Cloaking { key, word }, Who::Library) => {
+            (Work::Cloaking { key, word, .. }, Who::Library) => {
                 (cloaking_number(walnut::cloaks(key, &ORDER, word).map_err(Refusal::number)), 0)
             }
-            (Work::Cloaking { key, word }, Who::Rust) => {
+            (Work::Cloaking { key, word, .. }, Who::Rust) => {
                 (cloaking_number(plain::cloaks(key, &ORDER, word)), 0)
             }
-            (Work::Cloaking { key, word }, Who::C) => (plain_c::cloaks(key, &ORDER, word), 0),
+            (Work::Cloaking { key, word, by_columns }, Who::C) => {
+                (plain_c::cloaks(key, &ORDER, word, *by_columns), 0)
+            }
             (Work::Rewriting { word, moves }, Who::Library) => {
                 (0, walnut::rewrite(word, moves, out).map_or(0, |written| written.len()))
             }
@@ -121,12 +123,13 @@ fn slip(random: &mut Random, letters: usize) -> Work {
     Work::Verdict(accepted(random, &codes))
 }
 
-/// A word of 10,000 letters that cloaks: 5,000 letters, and the way back.
-fn cloaking(random: &mut Random) -> Work {
+/// A word of 10,000 letters that cloaks: 5,000 letters, and the way back. The C goes over rows of bytes, or over columns
+/// of 64 bits as the library does.
+fn cloaking(random: &mut Random, by_columns: bool) -> Work {
     let there = random.word(LONGEST / 2);
     let back = there.iter().rev().map(|code| code ^ 8);
     let codes: Vec<u8> = there.iter().copied().chain(back).collect();
-    Work::Cloaking { key: accepted(random, &[]).key, word: word_file(&codes) }
+    Work::Cloaking { key: accepted(random, &[]).key, word: word_file(&codes), by_columns }
 }
 
 /// 4,096 moves of all kinds, each possible on the word that the last one left.
@@ -156,7 +159,7 @@ fn reduction(random: &mut Random, letters: usize) -> Work {
 }
 
 /// How many cases there are.
-pub const CASES: usize = 9;
+pub const CASES: usize = 10;
 
 /// The case of a number, the same in every run.
 pub fn case(number: usize) -> Case {
@@ -165,12 +168,13 @@ pub fn case(number: usize) -> Case {
     match number {
         0 => Case { name: "verdict, 1,283 letters", parts: 1, work: slip(random, TYPICAL) },
         1 => Case { name: "verdict, 10,000 letters", parts: 1, work: slip(random, LONGEST) },
-        2 => Case { name: "a letter (cloaking, 10,000)", parts: LONGEST, work: cloaking(random) },
+        2 => Case { name: "a letter (cloaking, 10,000)", parts: LONGEST, work: cloaking(random, false) },
         3 => Case { name: "rewriter, 4,096 moves", parts: 1, work: rewriting(random) },
         4 => Case { name: "rewriter, all in the middle", parts: 1, work: by_turns(LONGEST - 2, LONGEST / 2) },
         5 => Case { name: "rewriter, all at the front", parts: 1, work: by_turns(LONGEST - 2, 0) },
         6 => Case { name: "rewriter, no letters", parts: 1, work: by_turns(0, 0) },
         7 => Case { name: "rewriter, no moves", parts: 1, work: no_moves(random, LONGEST - 2) },
-        _ => Case { name: "free reduction", parts: 1, work: reduction(random, LONGEST - 2) },
+        8 => Case { name: "free reduction", parts: 1, work: reduction(random, LONGEST - 2) },
+        _ => Case { name: "a letter, C by columns too", parts: LONGEST, work: cloaking(random, true) },
     }
 }

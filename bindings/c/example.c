@@ -23,6 +23,14 @@ static void print_decimal(const char *text, const uint8_t *numbers, size_t n)
     printf("\n");
 }
 
+static void print_row(const char *text, const uint8_t matrix[64], int row)
+{
+    uint8_t entries[8];
+    for (int column = 1; column <= 8; column++)
+        entries[column - 1] = matrix[WALNUT_PLACE(row, column)];
+    print_decimal(text, entries, 8);
+}
+
 /* Writes the key file of T-values, the pair Pub(S) and the matrix of Pub(S'). */
 static uint8_t write_key(const uint8_t t[8], const walnut_pair *pair, const uint8_t matrix[64], uint8_t key[WALNUT_KEY_BYTES])
 {
@@ -53,7 +61,8 @@ int main(void)
     walnut_pair start = walnut_start(), pair = start;
     if (walnut_multiply(&pair, t_values, 2) != 0)
         return 1;
-    print_decimal("row 3 after b3:", pair.matrix + 16, 8);
+    print_row("row 3 after b3:", pair.matrix, 3);
+    print_decimal("column 4 after b3:", pair.matrix + 24, 8);
 
     uint8_t key[WALNUT_KEY_BYTES];
     if (write_key(t_values, &start, start.matrix, key) != 0)
@@ -70,9 +79,9 @@ int main(void)
     walnut_key held = walnut_read_key(file, sizeof file);
     printf("a key with b3 and b3' read back:\n");
     print_decimal("T-values", held.t_values, 8);
-    print_decimal("row 3 of Pub(S):", held.pair.matrix + 16, 8);
+    print_row("row 3 of Pub(S):", held.pair.matrix, 3);
     print_decimal("list of Pub(S):", held.pair.labels, 8);
-    print_decimal("row 3 of Pub(S'):", held.second + 16, 8);
+    print_row("row 3 of Pub(S'):", held.second, 3);
     if (held.answer != 0 || write_key(held.t_values, &held.pair, held.second, back) != 0)
         return 1;
     printf("that key, read and written back, is the same: %s\n", memcmp(back, file, sizeof file) == 0 ? "yes" : "no");

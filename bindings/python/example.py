@@ -15,6 +15,10 @@ def text(data):
     return " ".join(f"{byte:02X}" for byte in data)
 
 
+def row(matrix, number):
+    return [matrix[walnut.place(number, column)] for column in range(1, 9)]
+
+
 def yes_or_no(yes):
     return "yes" if yes else "no"
 
@@ -37,7 +41,8 @@ print("its letters:", walnut.read_word(word))
 
 pair = walnut.Pair.start()
 pair.multiply(T_VALUES, 2)
-print("row 3 after b3:", *pair.matrix[16:24])
+print("row 3 after b3:", *row(pair.matrix, 3))
+print("column 4 after b3:", *pair.matrix[24:32])
 
 start = walnut.Pair.start()
 key = write_key(T_VALUES, start, start.matrix)
@@ -52,9 +57,9 @@ print("row 3 after b3 packs to", text(file[18:23]))
 held = walnut.read_key(file)
 print("a key with b3 and b3' read back:")
 print("T-values", *held.t_values)
-print("row 3 of Pub(S):", *held.pair.matrix[16:24])
+print("row 3 of Pub(S):", *row(held.pair.matrix, 3))
 print("list of Pub(S):", *held.pair.labels)
-print("row 3 of Pub(S'):", *held.second[16:24])
+print("row 3 of Pub(S'):", *row(held.second, 3))
 print("that key, read and written back, is the same:", yes_or_no(write_key(held.t_values, held.pair, held.second) == file))
 blank = walnut.Pair.start()
 blank.matrix = bytes(64)

@@ -158,8 +158,15 @@ def _word_written(function, *parts):
     return _granted(written.answer, bytes(out[: written.number]))
 
 
+def place(row, column):
+    """Where the entry in a row and a column of a matrix stands, both counted from 1 to 8: every matrix lies column by column, the first one first."""
+    if not (1 <= row <= 8 and 1 <= column <= 8):
+        raise ValueError(f"rows and columns count from 1 to 8, not {row} and {column}")
+    return 8 * (column - 1) + (row - 1)
+
+
 class Pair:
-    """A matrix of 64 entries, row by row, and a list of eight labels."""
+    """A matrix of 64 entries, column by column (see place), and a list of eight labels."""
 
     def __init__(self, matrix, labels):
         self.matrix = _fixed(matrix, 64, "matrix")
@@ -189,7 +196,7 @@ class Pair:
 
 
 class Key:
-    """A key: its T-values, the pair Pub(S) and the matrix of Pub(S')."""
+    """A key: its T-values, the pair Pub(S) and the matrix of Pub(S'), column by column too."""
 
     def __init__(self, t_values, pair, second):
         self.t_values = t_values
@@ -216,7 +223,7 @@ def read_key(file):
 
 
 def file_entries(matrix):
-    """The 57 entries that a key file has of a matrix: rows 1 to 7 whole, then the last entry of row 8."""
+    """The 57 entries that a key file has of a matrix, in the file's order: rows 1 to 7 whole, then the last entry of row 8."""
     entries = (c_uint8 * 57)()
     _file_entries(_fixed(matrix, 64, "matrix"), entries)
     return bytes(entries)

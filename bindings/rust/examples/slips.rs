@@ -20,6 +20,11 @@ fn decimal(numbers: &[u8]) -> String {
     numbers.iter().map(u8::to_string).collect::<Vec<_>>().join(" ")
 }
 
+/// A row of a matrix in decimal.
+fn row(matrix: &[u8; 64], row: usize) -> String {
+    decimal(&(1..=8).map(|column| matrix[walnut::place(row, column)]).collect::<Vec<_>>())
+}
+
 /// The key file of T-values, the pair Pub(S) and the matrix of Pub(S').
 fn key_file(t_values: &[u8; 8], pair: &Pair, second: &[u8; 64]) -> Result<[u8; KEY_BYTES], Refusal> {
     let (first, second) = (walnut::file_entries(&pair.matrix), walnut::file_entries(second));
@@ -48,7 +53,8 @@ fn main() -> Result<(), Refusal> {
 
     let mut pair = Pair::start();
     pair.multiply(&T_VALUES, 2)?;
-    println!("row 3 after b3: {}", decimal(&pair.matrix[16..24]));
+    println!("row 3 after b3: {}", row(&pair.matrix, 3));
+    println!("column 4 after b3: {}", decimal(&pair.matrix[24..32]));
 
     let start = Pair::start();
     let key = key_file(&T_VALUES, &start, &start.matrix)?;
@@ -63,9 +69,9 @@ fn main() -> Result<(), Refusal> {
     let held = walnut::read_key(&file)?;
     println!("a key with b3 and b3' read back:");
     println!("T-values {}", decimal(&held.t_values));
-    println!("row 3 of Pub(S): {}", decimal(&held.pair.matrix[16..24]));
+    println!("row 3 of Pub(S): {}", row(&held.pair.matrix, 3));
     println!("list of Pub(S): {}", decimal(&held.pair.labels));
-    println!("row 3 of Pub(S'): {}", decimal(&held.second[16..24]));
+    println!("row 3 of Pub(S'): {}", row(&held.second, 3));
     let back = key_file(&held.t_values, &held.pair, &held.second)?;
     println!("that key, read and written back, is the same: {}", yes_or_no(back == file));
     let blank = Pair { matrix: [0; 64], ..Pair::start() };

@@ -18,7 +18,14 @@ pub const KEY_BYTES: usize = 83;
 /// The bytes of the longest word file, and so the least that an output for words must have.
 pub const WORD_BYTES: usize = 5002;
 
-/// A matrix, row by row, and a list of labels.
+/// Where the entry in a row and a column of a matrix stands, both counted from 1 to 8: every matrix lies column by
+/// column, the first one first.
+pub fn place(row: usize, column: usize) -> usize {
+    assert!((1..=8).contains(&row) && (1..=8).contains(&column), "rows and columns count from 1 to 8");
+    8 * (column - 1) + (row - 1)
+}
+
+/// A matrix, column by column (see [`place`]), and a list of labels.
 #[repr(C)]
 #[derive(Clone, Copy, Debug, PartialEq, Eq)]
 pub struct Pair {
@@ -26,7 +33,7 @@ pub struct Pair {
     pub labels: [u8; 8],
 }
 
-/// A key: its T-values, the pair Pub(S) and the matrix of Pub(S').
+/// A key: its T-values, the pair Pub(S) and the matrix of Pub(S'), column by column too.
 #[derive(Clone, Copy, Debug, PartialEq, Eq)]
 pub struct Key {
     pub t_values: [u8; 8],
@@ -73,7 +80,8 @@ pub fn read_key(file: &[u8]) -> Result<Key, Refusal> {
     granted(key.answer, Key { t_values: key.t_values, pair: key.pair, second: key.second })
 }
 
-/// The 57 entries that a key file has of a matrix: rows 1 to 7 whole, then the last entry of row 8.
+/// The 57 entries that a key file has of a matrix, in the file's order: rows 1 to 7 whole, then the last entry of row
+/// 8.
 pub fn file_entries(matrix: &[u8; 64]) -> [u8; 57] {
     let mut entries = [0; 57];
     // SAFETY: see above.

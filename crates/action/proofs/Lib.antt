@@ -5,10 +5,11 @@ pub mod BraidRelations
 pub mod WordLaws
 pub mod CancelLaws
 pub mod GoodLaws
-pub mod StoreLaws
 pub mod CarryLaws
-pub mod FillLaws
+pub mod ColumnLaws
+pub mod NamedLabels
 pub mod MultiplierLaws
 pub mod WrongPrograms
 pub mod LinearLaws
 pub mod InvertibleWords
+pub mod ChangeOfLayout

@@ -1,4 +1,4 @@
--- The multiplier: what its answer tells, what it gives, and the word of one letter.
+-- The multiplier: what its answer tells, and what it gives.
 use Prim.Native.Nat.{ℕ, _*_, _/_, _<_}
 use mathlib.Core.Path.{_≡_, refl, sym, ap, _∙_}
 use mathlib.Core.Bool.{true}
@@ -31,19 +31,3 @@ module _ (p : Pair) (ts : List ℕ) (c : ℕ) where
   pub refused : {answer : ℕ} {after : Pair} → answer ≡ firstNo (multiplierQuestions p ts c) → (answer ≡ 0 → ⊥) → after ≡ zeroPair
       → Multiplies p ts c answer after
   refused a n e = record { answer-is = a; pair-is = e ∙ sym (granted-refused (letterOn gf32 ts c p) zeroPair (λ z. n (a ∙ z))) }
-
--- the word of one letter, packed
-pub code-fits : (c : ℕ) → isLetter c ≡ true → c * 16 < 256
-code-fits c e = ⊎-elim (λ p. omega arith) (λ p. omega arith) (letter-cases c e)
-
-one-code : (c : ℕ) → take 1 (halves (c * 16 ∷ [])) ≡ c ∷ []
-unfolding halves
-one-code c = let e : c * 16 / 16 ≡ c = omega arith in ap (λ (x : ℕ). x ∷ []) e
-
-pub one-letter : (c : ℕ) → isLetter c ≡ true → every isLetter (take 1 (halves (c * 16 ∷ []))) ≡ true
-unfolding every
-one-letter c e = ap (every isLetter) (one-code c) ∙ and-both e refl
-
-pub one-word : (ts : List ℕ) (c : ℕ) (p : Pair) → wordOn gf32 ts (take 1 (halves (c * 16 ∷ []))) p ≡ letterOn gf32 ts c p
-unfolding wordOn
-one-word ts c p = ap (λ (w : List ℕ). wordOn gf32 ts w p) (one-code c)

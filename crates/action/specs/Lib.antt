@@ -1,4 +1,5 @@
 pub mod Action
+pub mod ByRows
+pub mod Columns
 pub mod Good
 pub mod Multiplier
-pub mod Rows

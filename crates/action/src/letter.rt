@@ -1,125 +1,99 @@
-// One letter multiplied into a pair, in place.
-use crate::Pair;
-use field::times;
-use matrix::place;
+// One letter multiplied into a pair in place, the matrix by columns of 64 bits. No branch depends on the letter.
+use columns::times;
 ghost use mathlib.Core.Path.{_≡_};
-ghost use Prim.Native.Nat.{_+_, _<_};
+ghost use Prim.Native.Nat.{_+_, _*_, _<_, _≤_};
 ghost use mathlib.Core.Bool.{true, cond};
-ghost use lib.ListN.{length, getD};
-ghost use Rattle.field.specs.Gf32.{gf32, products};
+ghost use mathlib.Core.List.{[], _∷_};
+ghost use lib.ListN.{length};
+ghost use Rattle.columns.specs.Constants.{Bytes};
 ghost use Rattle.braid.specs.Letters.{isLetter};
 ghost use Rattle.braid.specs.Strands.{swapped};
-ghost use Rattle.action.specs.Action.{tValue, letterOn, pairOf, rowsOn};
-ghost use Rattle.action.specs.Rows.{shareBy, knownShare, rowOn, Lent};
+ghost use Rattle.action.specs.Columns.{Held, Spread, Crossed, Carried};
 
-// Row r after a letter whose own column is g. Rows and columns count from 0; for g = 0 there is no column before.
-fn spread(m: &mut [u8; 64], r: usize, g: usize, before: u8, own: u8, after: u8)
-    requires { ⌜ (length (now m) ≡ 64) × (r < 8) × (g < 7) ⌝ }
-    ensures { λ _. ⌜ now (m .exit) ≡ rowOn gf32 (knownShare before own after) g r (now (m .entry)) ⌝ }
+// One of two numbers.
+fn pick(first: bool, x: u64, y: u64) -> u64
+    ensures { λ r. ⌜ r ≡ cond first x y ⌝ }
 {
-    if 0 < g {
-        let left = place(r, g - 1);
-        m[left] = m[left] ^ before;
-    }
-    m[place(r, g)] = own;
-    let right = place(r, g + 1);
-    m[right] = m[right] ^ after;
+    if first { x } else { y }
 }
 
-// The same, from the number that the letter takes.
-fn row(m: &mut [u8; 64], table: &[u8; 1024], k: u8, inverse: bool, g: usize, r: usize)
-    requires { ⌜ (length (now m) ≡ 64) × (now table ≡ products) × (r < 8) × (g < 7) ⌝ }
-    ensures { λ _. ⌜ now (m .exit) ≡ rowOn gf32 (shareBy gf32 inverse k) g r (now (m .entry)) ⌝ }
+// Where the constants begin of the number that a letter takes: those of the T-value of its own label, or for an inverse
+// letter those of the reciprocal of the next label's.
+fn constants_at(inverse: bool, own: usize, next: usize) -> usize
+    requires { ⌜ (own < 8) × (next < 8) ⌝ }
+    ensures { λ r. ⌜ (r ≡ cond inverse (64 + 8 * next) (8 * own)) × (r ≤ 120) ⌝ }
 {
-    let own = m[place(r, g)];
-    let product = times(table, k, own);
-    if inverse {
-        spread(m, r, g, own, product, product);
-    } else {
-        spread(m, r, g, product, product, own);
-    }
+    if inverse { 64 + 8 * next } else { 8 * own }
 }
 
-// Every row after the letter.
-fn rows(m: &mut [u8; 64], table: &[u8; 1024], k: u8, inverse: bool, g: usize)
-    requires { ⌜ (length (now m) ≡ 64) × (now table ≡ products) × (g < 7) ⌝ }
-    ensures { λ _. ⌜ now (m .exit) ≡ rowsOn gf32 (shareBy gf32 inverse k) g (now (m .entry)) ⌝ }
+// Three columns after a letter whose own column is g, counted from 0: a spare one stands in front of the first.
+fn spread(columns: &mut [u64; 9], g: usize, before: u64, own: u64, after: u64)
+    requires { ⌜ (length (now columns) ≡ 9) × (g < 7) ⌝ }
+    ensures { λ _. ⌜ Spread before own after g (now (columns .entry)) (now (columns .exit)) ⌝ }
 {
-    let mut r = 0;
-    while r < Pair::STRANDS {
-        row(m, table, k, inverse, g, r);
-        r += 1;
-    }
+    columns[g] = columns[g] ^ before;
+    columns[g + 1] = own;
+    columns[g + 2] = columns[g + 2] ^ after;
 }
 
 // The labels at two neighbouring places change places.
-fn exchange(labels: &mut [u8; 8], g: u8)
-    requires { ⌜ (length (now labels) ≡ 8) × (g < 7) ⌝ }
+fn exchange(labels: &mut [u8; 8], g: usize)
+    requires { ⌜ g < 7 ⌝ }
     ensures { λ _. ⌜ now (labels .exit) ≡ swapped g (now (labels .entry)) ⌝ }
 {
-    let at = g as usize;
-    let own = labels[at];
-    let after = labels[at + 1];
-    labels[at] = after;
-    labels[at + 1] = own;
+    let own = labels[g];
+    let next = labels[g + 1];
+    labels[g] = next;
+    labels[g + 1] = own;
 }
 
-// What stands for a label in a list that has a place for every byte.
-fn of_label(list: &[u8; 256], label: u8) -> u8
-    ensures { λ r. ⌜ r ≡ getD (now (list .entry)) label 0 ⌝ }
-{
-    list[label as usize]
-}
-
-// The number that a letter takes: the T-value of the label at its place, or for an inverse letter the reciprocal of
-// that of the next label.
-fn taken(
-    labels: &[u8; 8],
-    t_values: &[u8; 256],
-    reciprocals: &[u8; 256],
-    inverse: bool,
-    g: u8,
-) -> u8
-    requires { ⌜ g < 7 ⌝ }
-    ensures { λ r.
-        ⌜
-        r
-        ≡ cond inverse (tValue (now (reciprocals .entry)) (now (labels .entry)) (g + 1))
-        (tValue (now («t_values» .entry)) (now (labels .entry)) g)
-        ⌝ }
-{
-    let at = g as usize;
-    if inverse {
-        let label = labels[at + 1];
-        of_label(reciprocals, label)
-    } else {
-        let label = labels[at];
-        of_label(t_values, label)
-    }
-}
-
-// The letter multiplied into the pair of the matrix and the labels. The T-values and their reciprocals come by label.
-pub(crate) fn letter(
-    m: &mut [u8; 64],
+// A letter whose own column is g, by the constants from a place on of the number that it takes.
+pub(crate) fn cross(
+    columns: &mut [u64; 9],
     labels: &mut [u8; 8],
-    table: &[u8; 1024],
-    t_values: &[u8; 256],
-    reciprocals: &[u8; 256],
-    code: u8,
+    constants: &[u64],
+    at: usize,
+    bits: usize,
+    g: usize,
+    inverse: bool,
 )
     requires { ⌜
-        Lent (now table) (now «t_values») (now reciprocals) (now m) (now labels)
-        × (isLetter code ≡ true)
+        (length (now columns) ≡ 9)
+        × Bytes (now constants)
+        × (bits ≤ 8)
+        × (at + bits ≤ length (now constants))
+        × (g < 7)
         ⌝ }
     ensures { λ _.
         ⌜
-        pairOf (now (m .exit)) (now (labels .exit))
-        ≡ letterOn gf32 (now («t_values» .entry)) code (pairOf (now (m .entry)) (now (labels .entry)))
+        Crossed bits (now (constants .entry)) at g inverse (now (columns .entry)) (now (labels .entry)) (now (columns .exit)) (now (labels .exit))
         ⌝ }
 {
-    let g = code % 8;
-    let inverse = 8 <= code;
-    let k = taken(labels, t_values, reciprocals, inverse, g);
-    rows(m, table, k, inverse, g as usize);
+    let column = columns[g + 1];
+    let product = times(constants, at, bits, column);
+    let before = pick(inverse, column, product);
+    let after = pick(inverse, product, column);
+    spread(columns, g, before, product, after);
     exchange(labels, g);
+}
+
+// The letter on the pair of the columns and the labels. The labels are read before they are stored, for the place of the
+// constants: read and stored in one, they would be exchanged in memory, and each letter would wait for the last.
+pub(crate) fn letter(
+    columns: &mut [u64; 9],
+    labels: &mut [u8; 8],
+    constants: &[u64; 128],
+    bits: usize,
+    code: u8,
+)
+    requires { ⌜ Held bits (now constants) (now columns) (now labels) × (isLetter code ≡ true) ⌝ }
+    ensures { λ _.
+        ⌜ Carried bits (now (constants .entry)) (code ∷ []) (now (columns .entry)) (now (labels .entry)) (now (columns .exit)) (now (labels .exit)) ⌝ }
+{
+    let g = (code % 8) as usize;
+    let inverse = 8 <= code;
+    let own = labels[g] as usize;
+    let next = labels[g + 1] as usize;
+    let at = constants_at(inverse, own, next);
+    cross(columns, labels, constants, at, bits, g, inverse);
 }

@@ -3,6 +3,7 @@ ghost use mathlib.Core.Path.{_≡_};
 ghost use Rattle.action.specs.Action.{pairOf, start};
 ghost use Rattle.action.specs.Multiplier.{zeroPair};
 
+mod held; // held.rt: a pair as the loop over letters holds it
 mod letter; // letter.rt: one letter, in place
 mod multiplier; // multiplier.rt: the multiplier used alone
 mod operands; // operands.rt: tests on T-values, entries and labels
@@ -13,8 +14,9 @@ pub use operands::all_elements;
 pub use operands::all_nonzero;
 pub use operands::is_order;
 pub use word::carry;
+pub use word::carry_letters;
 
-// An 8 by 8 matrix, row by row, and a list of eight labels.
+// An 8 by 8 matrix, column by column, and a list of eight labels.
 #[repr(C)]
 pub struct Pair {
     pub matrix: [u8; 64],

@@ -1,10 +1,12 @@
 // The multiplier used alone: its questions, and one letter on a pair.
 use crate::Multiplied;
 use crate::Pair;
+use crate::held::BITS;
+use crate::held::constants_taken;
+use crate::letter::cross;
 use crate::operands::all_elements;
 use crate::operands::all_nonzero;
 use crate::operands::is_order;
-use crate::word::carry;
 ghost use mathlib.Core.Path.{_≡_};
 ghost use mathlib.Core.Bool.{true};
 ghost use Rattle.base.specs.Questions.{firstNo};
@@ -42,13 +44,20 @@ fn multiplier_answer(pair: Pair, t_values: &[u8; 8], letter: u8) -> u8
     0
 }
 
-// One letter on a pair: the word of that letter.
+// One letter on a pair.
 fn one_letter(pair: Pair, t_values: &[u8; 8], letter: u8) -> Pair
     requires { ⌜ isLetter letter ≡ true ⌝ }
     ensures { λ r. ⌜ r ≡ letterOn gf32 (now («t_values» .entry)) letter pair ⌝ }
 {
-    let part = [letter * 16];
-    carry(pair, t_values, &part, 1)
+    let matrix = pair.matrix;
+    let mut labels = pair.labels;
+    let g = (letter % 8) as usize;
+    let inverse = 8 <= letter;
+    let constants = constants_taken(t_values, &labels, inverse, g);
+    let mut columns = columns::columns_of(&matrix);
+    cross(&mut columns, &mut labels, &constants, 0, BITS, g, inverse);
+    let after = columns::matrix_of(&columns);
+    Pair::with(after, labels)
 }
 
 // The letter multiplied into the pair; zeros on a refusal.

@@ -1,8 +1,11 @@
 // A whole word multiplied into a pair.
 use crate::Pair;
+use crate::held::BITS;
+use crate::held::constants_by_place;
+use crate::held::pair_of;
 use crate::letter::letter;
 ghost use mathlib.Core.Path.{_≡_};
-ghost use Prim.Native.Nat.{_+_, _*_, _≤_, _<_};
+ghost use Prim.Native.Nat.{_*_, _≤_};
 ghost use mathlib.Core.Bool.{true};
 ghost use lib.ListN.{length, take};
 ghost use Rattle.base.specs.Lists.{every};
@@ -10,125 +13,93 @@ ghost use Rattle.base.specs.Digits.{halves};
 ghost use Rattle.field.specs.Gf32.{gf32};
 ghost use Rattle.braid.specs.Letters.{isLetter};
 ghost use Rattle.action.specs.Action.{wordOn, codesOn, pairOf};
-ghost use Rattle.action.specs.Rows.{ByLabel, Lent};
+ghost use Rattle.action.specs.Columns.{Held, Carried};
 
-// The T-values by label, with a place for every byte that a label can be: past the eight stands 0.
-fn by_label(t_values: &[u8]) -> [u8; 256]
-    requires { ⌜ length (now «t_values») ≡ 8 ⌝ }
-    ensures { λ r. ⌜ ByLabel (λ t. t) (now («t_values» .entry)) r ⌝ }
-{
-    let mut list = [0u8; 256];
-    let mut i = 0;
-    while i < 8 {
-        list[i] = t_values[i];
-        i += 1;
-    }
-    list
-}
-
-// Their reciprocals by label.
-fn reciprocals_by_label(t_values: &[u8]) -> [u8; 256]
-    requires { ⌜ length (now «t_values») ≡ 8 ⌝ }
-    ensures { λ r. ⌜ ByLabel (gf32 .inv) (now («t_values» .entry)) r ⌝ }
-{
-    let mut list = [0u8; 256];
-    let mut i = 0;
-    while i < 8 {
-        let t = t_values[i];
-        let reciprocal = field::reciprocal(t % 32);
-        list[i] = reciprocal.value;
-        i += 1;
-    }
-    list
-}
-
-// The letters of a row of codes, first to last, on the pair of the matrix and the labels.
+// A row of letters, one code to a byte, first to last, on the pair of the columns and the labels.
 fn run(
-    m: &mut [u8; 64],
+    columns: &mut [u64; 9],
     labels: &mut [u8; 8],
-    table: &[u8; 1024],
-    t_values: &[u8; 256],
-    reciprocals: &[u8; 256],
+    constants: &[u64; 128],
+    bits: usize,
     codes: &[u8],
 )
-    requires { ⌜
-        Lent (now table) (now «t_values») (now reciprocals) (now m) (now labels)
-        × (every isLetter (now codes) ≡ true)
-        ⌝ }
+    requires { ⌜ Held bits (now constants) (now columns) (now labels) × (every isLetter (now codes) ≡ true) ⌝ }
     ensures { λ _.
-        ⌜
-        pairOf (now (m .exit)) (now (labels .exit))
-        ≡ wordOn gf32 (now («t_values» .entry)) (now (codes .entry)) (pairOf (now (m .entry)) (now (labels .entry)))
-        ⌝ }
+        ⌜ Carried bits (now (constants .entry)) (now (codes .entry)) (now (columns .entry)) (now (labels .entry)) (now (columns .exit)) (now (labels .exit)) ⌝ }
 {
     let mut i = 0;
     while i < codes.len() {
-        let code = codes[i];
-        letter(m, labels, table, t_values, reciprocals, code);
+        letter(columns, labels, constants, bits, codes[i]);
         i += 1;
     }
 }
 
-// Of the first n packed codes those of whole words of eight bytes: how many bytes these are. Under sixteen codes are
-// left.
+// The letters of n words of eight packed bytes, sixteen at a time.
 fn words(
-    m: &mut [u8; 64],
+    columns: &mut [u64; 9],
     labels: &mut [u8; 8],
-    table: &[u8; 1024],
-    t_values: &[u8; 256],
-    reciprocals: &[u8; 256],
-    part: &[u8],
-    n: usize,
-) -> usize
-    requires { ⌜
-        Lent (now table) (now «t_values») (now reciprocals) (now m) (now labels)
-        × (n ≤ 2 * length (now part))
-        × (every isLetter (take n (halves (now part))) ≡ true)
-        ⌝ }
-    ensures { λ r.
-        ⌜
-        (2 * r ≤ n)
-        × (n < 2 * r + 16)
-        × (pairOf (now (m .exit)) (now (labels .exit))
-        ≡ wordOn gf32 (now («t_values» .entry)) (halves (take r (now (part .entry)))) (pairOf (now (m .entry)) (now (labels .entry))))
-        ⌝ }
-{
-    let mut k = 0;
-    while k + 8 <= n / 2 {
-        let codes = braid::sixteen_at(part, k);
-        run(m, labels, table, t_values, reciprocals, &codes);
-        k += 8;
-    }
-    k
-}
-
-// The first n packed codes, first to last, on the pair of the matrix and the labels.
-fn letters(
-    m: &mut [u8; 64],
-    labels: &mut [u8; 8],
-    table: &[u8; 1024],
-    t_values: &[u8; 256],
-    reciprocals: &[u8; 256],
+    constants: &[u64; 128],
+    bits: usize,
     part: &[u8],
     n: usize,
 )
     requires { ⌜
-        Lent (now table) (now «t_values») (now reciprocals) (now m) (now labels)
+        Held bits (now constants) (now columns) (now labels)
+        × (8 * n ≤ length (now part))
+        × (every isLetter (take (16 * n) (halves (now part))) ≡ true)
+        ⌝ }
+    ensures { λ _.
+        ⌜
+        Carried bits (now (constants .entry)) (take (16 * n) (halves (now (part .entry)))) (now (columns .entry)) (now (labels .entry)) (now (columns .exit)) (now (labels .exit))
+        ⌝ }
+{
+    let mut k = 0;
+    while k < n {
+        let codes = braid::sixteen_at(part, 8 * k);
+        run(columns, labels, constants, bits, &codes);
+        k += 1;
+    }
+}
+
+// The first n packed letters: by the word, and the last, under sixteen, singly.
+fn letters(
+    columns: &mut [u64; 9],
+    labels: &mut [u8; 8],
+    constants: &[u64; 128],
+    bits: usize,
+    part: &[u8],
+    n: usize,
+)
+    requires { ⌜
+        Held bits (now constants) (now columns) (now labels)
         × (n ≤ 2 * length (now part))
         × (every isLetter (take n (halves (now part))) ≡ true)
         ⌝ }
     ensures { λ _.
         ⌜
-        pairOf (now (m .exit)) (now (labels .exit))
-        ≡ wordOn gf32 (now («t_values» .entry)) (take n (halves (now (part .entry)))) (pairOf (now (m .entry)) (now (labels .entry)))
+        Carried bits (now (constants .entry)) (take n (halves (now (part .entry)))) (now (columns .entry)) (now (labels .entry)) (now (columns .exit)) (now (labels .exit))
         ⌝ }
 {
-    let done = words(m, labels, table, t_values, reciprocals, part, n);
-    let end = (n + 1) / 2;
-    let mut last = [0u8; 16];
-    braid::unpack(&part[done..end], &mut last);
-    let left = n - 2 * done;
-    run(m, labels, table, t_values, reciprocals, &last[..left]);
+    words(columns, labels, constants, bits, part, n / 16);
+    let mut i = n / 16 * 16;
+    while i < n {
+        letter(columns, labels, constants, bits, braid::half(part, i));
+        i += 1;
+    }
+}
+
+// A row of letters, one code to a byte, multiplied into the pair.
+pub fn carry_letters(pair: Pair, t_values: &[u8; 8], codes: &[u8]) -> Pair
+    requires { ⌜ every isLetter (now codes) ≡ true ⌝ }
+    ensures { λ r. ⌜ r ≡ wordOn gf32 (now («t_values» .entry)) (now (codes .entry)) pair ⌝ }
+{
+    let matrix = pair.matrix;
+    let labels = pair.labels;
+    let constants = constants_by_place(t_values, &labels);
+    let mut columns = columns::columns_of(&matrix);
+    let mut places = [0u8, 1, 2, 3, 4, 5, 6, 7];
+    run(&mut columns, &mut places, &constants, BITS, codes);
+    pair_of(&columns, &places, &labels)
 }
 
 // As many of n packed codes as there are.
@@ -152,19 +123,11 @@ pub fn carry(pair: Pair, t_values: &[u8; 8], part: &[u8], n: usize) -> Pair
     if !braid::all_letters(part, end) {
         return pair;
     }
-    let table = field::table();
-    let values = by_label(t_values);
-    let reciprocals = reciprocals_by_label(t_values);
-    let mut matrix = pair.matrix;
-    let mut labels = pair.labels;
-    letters(
-        &mut matrix,
-        &mut labels,
-        &table,
-        &values,
-        &reciprocals,
-        part,
-        end,
-    );
-    Pair::with(matrix, labels)
+    let matrix = pair.matrix;
+    let labels = pair.labels;
+    let constants = constants_by_place(t_values, &labels);
+    let mut columns = columns::columns_of(&matrix);
+    let mut places = [0u8, 1, 2, 3, 4, 5, 6, 7];
+    letters(&mut columns, &mut places, &constants, BITS, part, end);
+    pair_of(&columns, &places, &labels)
 }

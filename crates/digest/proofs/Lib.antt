@@ -1,3 +1,4 @@
 pub mod HalfByte
+pub mod RunLaws
 pub mod Encoded
 pub mod PureBraidPowers

@@ -5,7 +5,7 @@ use mathlib.Core.List.{List, [], _∷_, _++_, map, reverse}
 use lib.Dec.{eqb}
 use lib.ListN.{length, getD, replicate}
 use Rattle.base.specs.Questions.{Question, _else_}
-use Rattle.base.specs.Lists.{valuesFrom}
+use Rattle.base.specs.Lists.{values, valuesFrom}
 use Rattle.base.specs.Digits.{halves}
 use Rattle.braid.specs.Words.{roomQuestion, wordFile, Wrote}
 
@@ -25,6 +25,10 @@ above l = valuesFrom (λ c. c) l (7 - l)
 unfoldable pub halfByteBraid : ℕ → List ℕ
 halfByteBraid h =
     reverse (above (selected h)) ++ (replicate (2 * powerOf h) (selected h - 1) ++ map (λ c. c + 8) (above (selected h)))
+
+-- n codes, each so many further than the last, round 16: for a private contract
+abbrev pub stepped : ℕ → ℕ → ℕ → List ℕ
+stepped first step n = values (λ i. (first + step * i) % 16) n
 
 -- the braids of half bytes, in a row
 unfoldable pub braidOf : List ℕ → List ℕ

@@ -2,62 +2,51 @@
 ghost use mathlib.Core.Path.{_≡_};
 ghost use mathlib.Core.List.{_++_};
 ghost use Prim.Native.Nat.{_+_, _-_, _≤_, _<_};
-ghost use lib.ListN.{length, take, getD};
-ghost use Rattle.digest.specs.Digest.{selected, halfByteBraid, encoded, WroteEncoded};
+ghost use lib.ListN.{length, take};
+ghost use Rattle.digest.specs.Digest.{selected, stepped, halfByteBraid, encoded, WroteEncoded};
 use braid::Written;
 
 // How many generators lie above b_l, of those up to b7: the low two bits 0, 1, 2, 3 select l = 7, 5, 3, 1.
-fn above_selected(h: u8) -> usize
+fn above_selected(h: u8) -> u8
     requires { ⌜ h < 16 ⌝ }
     ensures { λ r. ⌜ (r ≡ 7 - selected h) × (r ≤ 6) ⌝ }
 {
-    let above = [0usize, 2, 4, 6];
-    let low = (h % 4) as usize;
-    above[low]
+    2 * (h % 4)
 }
 
-// How many letters the braid of a half byte has.
-fn braid_len(h: u8) -> usize
-    requires { ⌜ h < 16 ⌝ }
-    ensures { λ r. ⌜ (r ≡ length (halfByteBraid h)) × (r ≤ 20) ⌝ }
+// n codes go from a place on, each so many further than the last, round 16.
+fn fill(codes: &mut [u8], at: usize, n: usize, first: u8, step: u8)
+    requires { ⌜ (at + n ≤ length (now codes)) × (first < 16) × (step < 16) ⌝ }
+    ensures { λ _. ⌜ take (at + n) (now (codes .exit)) ≡ take at (now (codes .entry)) ++ stepped first step n ⌝ }
 {
-    let above = above_selected(h);
-    let power = (h / 4) as usize + 1;
-    2 * above + 2 * power
+    let mut code = first;
+    let mut i = 0;
+    while i < n {
+        codes[at + i] = code;
+        code = (code + step) % 16;
+        i += 1;
+    }
 }
 
-// The letter at place `j` of it: b7 down, then b_l, then the inverses up to b7.
-fn braid_letter(h: u8, j: usize) -> u8
-    requires { ⌜ (h < 16) × (j < length (halfByteBraid h)) ⌝ }
-    ensures { λ r. ⌜ r ≡ getD (halfByteBraid h) j 0 ⌝ }
-{
-    let above = above_selected(h);
-    let turn = above + 2 * ((h / 4) as usize + 1);
-    if j < above {
-        return ((6 - j) % 256) as u8;
-    }
-    if j < turn {
-        return ((6 - above) % 256) as u8;
-    }
-    ((15 - above + (j - turn)) % 256) as u8
-}
-
-// The braid of a half byte goes into `codes` from place `at` on; the answer is the place after it.
+// The braid of a half byte goes into `codes` from place `at` on: b7 down, then b_l, then the inverses up to b7. The
+// answer is the place after it. Each run is written at its full length, and the next one over what is too much of it.
 fn append(codes: &mut [u8], at: usize, h: u8) -> usize
     requires { ⌜ (h < 16) × (at + 20 ≤ length (now codes)) ⌝ }
     ensures { λ r. ⌜ (r ≡ at + length (halfByteBraid h)) × (r ≤ at + 20) × (take r (now (codes .exit)) ≡ take at (now (codes .entry)) ++ halfByteBraid h) ⌝ }
 {
-    let n = braid_len(h);
-    let mut j = 0;
-    while j < n {
-        codes[at + j] = braid_letter(h, j);
-        j += 1;
-    }
-    at + n
+    let above = above_selected(h);
+    let power = 2 * (h / 4 + 1);
+    fill(codes, at, 6, 6, 15);
+    let turn = at + above as usize;
+    fill(codes, turn, 8, 6 - above, 0);
+    let up = turn + power as usize;
+    fill(codes, up, 6, 15 - above, 1);
+    up + above as usize
 }
 
-// The braid of a digest goes into `codes`; the answer is the number of its letters.
-fn encode_into(digest: &[u8], codes: &mut [u8]) -> usize
+// The braid of a digest goes to the front of `codes`, one code to a byte; the answer is the number of its letters. What
+// stands in `codes` behind them is left free.
+pub fn encode_into(digest: &[u8], codes: &mut [u8]) -> usize
     requires { ⌜ (length (now digest) ≡ 32) × (length (now codes) ≡ 1280) ⌝ }
     ensures { λ r. ⌜ (r ≤ 1280) × (take r (now (codes .exit)) ≡ encoded (now (digest .entry))) ⌝ }
 {

@@ -68,9 +68,9 @@ fn is_zeros(pair: Pair) -> bool {
 // A letter on the identity matrix, whose last entry is set, with a list.
 fn refused(name: &[u8], last: u8, labels: [u8; 8], t_values: [u8; 8], letter: u8) {
     let start = Pair::start();
-    let mut matrix = start.matrix;
-    matrix[63] = last;
-    let found = action::multiply(Pair::with(matrix, labels), &t_values, letter);
+    let mut m = start.matrix;
+    m[matrix::place(7, 7)] = last;
+    let found = action::multiply(Pair::with(m, labels), &t_values, letter);
     let pair = found.pair;
     show::refusal(name, found.answer, is_zeros(pair));
 }
@@ -116,11 +116,11 @@ pub(crate) fn no_letters() {
 // The identity matrix with t, t, 1 in columns 2, 3, 4 of row 3.
 fn with_row(t: u8) -> [u8; 64] {
     let start = Pair::start();
-    let mut matrix = start.matrix;
-    matrix[17] = t;
-    matrix[18] = t;
-    matrix[19] = 1;
-    matrix
+    let mut m = start.matrix;
+    m[matrix::place(2, 1)] = t;
+    m[matrix::place(2, 2)] = t;
+    m[matrix::place(2, 3)] = 1;
+    m
 }
 
 fn product(name: &[u8], a: u8, b: u8) {

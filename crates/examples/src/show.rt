@@ -87,22 +87,33 @@ pub(crate) fn filled(name: &[u8], answer: u8, n: usize, out: &[u8]) {
     output(out, n);
 }
 
-fn row(entries: &[u8]) {
+// A row, counted from 0.
+fn row(m: &[u8; 64], r: usize) {
+    let entries = [
+        matrix::entry(m, r, 0),
+        matrix::entry(m, r, 1),
+        matrix::entry(m, r, 2),
+        matrix::entry(m, r, 3),
+        matrix::entry(m, r, 4),
+        matrix::entry(m, r, 5),
+        matrix::entry(m, r, 6),
+        matrix::entry(m, r, 7),
+    ];
     io::write_all(1, b" ");
-    hex(entries);
+    hex(&entries);
     end();
 }
 
 // A matrix: a line for each row.
-pub(crate) fn rows(matrix: [u8; 64]) {
-    row(&matrix[0..8]);
-    row(&matrix[8..16]);
-    row(&matrix[16..24]);
-    row(&matrix[24..32]);
-    row(&matrix[32..40]);
-    row(&matrix[40..48]);
-    row(&matrix[48..56]);
-    row(&matrix[56..64]);
+pub(crate) fn rows(m: [u8; 64]) {
+    row(&m, 0);
+    row(&m, 1);
+    row(&m, 2);
+    row(&m, 3);
+    row(&m, 4);
+    row(&m, 5);
+    row(&m, 6);
+    row(&m, 7);
 }
 
 // A line of a name, an answer and a pair's list; then its matrix.

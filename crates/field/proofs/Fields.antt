@@ -11,10 +11,10 @@ use lib.Bits.{xor-comm, xor-self, xor-lt}
 use Rattle.base.specs.Lists.{values, valuesFrom}
 use Rattle.base.proofs.ListLaws.{getD-values}
 use Rattle.field.specs.Binary.{BinaryField}
-use Rattle.field.specs.Polynomial.{timesX, horner, times, first, reciprocalOf, polynomials}
+use Rattle.field.specs.Polynomial.{Degree, timesX, horner, times, first, reciprocalOf, polynomials}
 use Rattle.field.specs.Gf32.{gf32}
 use Rattle.field.proofs.Xor.{xor-assoc}
-use Rattle.field.proofs.Laws.{Degree, times-below, times-comm, times-assoc, times-sum, one-times}
+use Rattle.field.proofs.Laws.{times-below, times-comm, times-assoc, times-sum, one-times}
 use Rattle.field.proofs.ReciprocalLaws.{reciprocal-below}
 use Rattle.field.proofs.TableLaws.{gf32-degree}
 

@@ -12,7 +12,7 @@ use lib.Dec.{ltb, eqb}
 use lib.Arith.{digits-div, mod-mul}
 use lib.Pow.{pow-pos, pow-mono, pow-lt}
 use lib.Bits.{bitXor, xor-zero-r, xor-self, xor-lt, xor-shr, xor-mod, xor-shifted}
-use Rattle.field.specs.Polynomial.{timesX, horner, times}
+use Rattle.field.specs.Polynomial.{Degree, timesX, horner, times}
 use Rattle.field.proofs.Xor.{by-digit, xor-swap, xor-double}
 
 two-pos : 0 < 2
@@ -49,12 +49,6 @@ sum-pick v s t hs ht =
     by-digit (λ (x : ℕ). pick (bitXor x t) v ≡ bitXor (pick x v) (pick t v)) refl
     (by-digit (λ (y : ℕ). pick (bitXor 1 y) v ≡ bitXor v (pick y v)) (sym (xor-zero-r v)) (sym (xor-self v)) t ht) s hs
 
--- p is a polynomial of degree n, and n is at least 1
-pub record Degree (n p : ℕ) : Type 0 where
-  pub positive : 0 < n
-  pub from : 2 ^ n ≤ p
-  pub to : p < 2 ^ suc n
-
 module _ {n p : ℕ} (degree : Degree n p) where
   one-below-size : 1 < 2 ^ n
   one-below-size = pow-lt (degree .positive)
@@ -82,7 +76,7 @@ module _ {n p : ℕ} (degree : Degree n p) where
       go true e = rw (low-top (a * 2) (ltb-true (a * 2) (2 ^ n) e), xor-zero-r (a * 2))
       go false e = rw (high-top (a * 2) (ltb-false (a * 2) (2 ^ n) e) (omega arith))
 
-  step-below : (a : ℕ) → a < 2 ^ n → timesX n p a < 2 ^ n
+  pub step-below : (a : ℕ) → a < 2 ^ n → timesX n p a < 2 ^ n
   step-below a h =
       let t = a * 2 / 2 ^ n in
       let e : timesX n p a / 2 ^ n ≡ 0 =
@@ -220,3 +214,18 @@ module _ {n p : ℕ} (degree : Degree n p) where
   times-low-both a b =
       let l = a % 2 ^ n in
       sym (times-low a b) ∙ times-comm l b ∙ sym (times-low b l) ∙ times-comm (b % 2 ^ n) l
+
+  -- the product with x^0, and with each further power of x below x^n: x times the last
+  pub times-one : (a : ℕ) → times n p a 1 ≡ a % 2 ^ n
+  times-one a = times-comm a 1 ∙ one-times-low a
+
+  pub times-next : (a i : ℕ) → suc i < n → times n p a (2 ^ suc i) ≡ timesX n p (times n p a (2 ^ i))
+  unfolding times
+  times-next a i h =
+      let e : 2 ^ suc i ≡ 2 ^ i * 2 = pow-suc 2 i in
+      let l : 2 ^ suc i < 2 ^ n = pow-lt h in
+      let b : 2 ^ i < 2 ^ n = omega arith in
+      times-comm a (2 ^ suc i)
+      ∙ ap (λ (x : ℕ). horner n p x n a) (e ∙ sym (step-double (2 ^ i) (omega arith)))
+      ∙ horner-step (2 ^ i) n a b
+      ∙ ap (timesX n p) (times-comm (2 ^ i) a)

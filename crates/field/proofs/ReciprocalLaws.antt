@@ -8,8 +8,8 @@ use borrow.Author.Tests.{eqb-true, eq-eqb}
 use lib.Dec.{eqb}
 use lib.Arith.{lt-of-le-ne}
 use lib.Pow.{pow-pos}
-use Rattle.field.specs.Polynomial.{times, first, reciprocalOf}
-use Rattle.field.proofs.Laws.{Degree, one-times, times-right-comm}
+use Rattle.field.specs.Polynomial.{Degree, times, first, reciprocalOf}
+use Rattle.field.proofs.Laws.{one-times, times-right-comm}
 
 passes-at : (f : ℕ → Bool) (i r : ℕ) (t : Bool) → f i ≡ t → (f i ≡ false → f r ≡ true) → f (cond t i r) ≡ true
 passes-at f i r true e h = e

@@ -6,7 +6,8 @@ use lib.Dec.{lit<, lit≤}
 use lib.ListN.{getD}
 use Rattle.base.proofs.ListLaws.{getD-values}
 use Rattle.field.specs.Gf32.{gf32, modulus, products, reciprocals}
-use Rattle.field.proofs.Laws.{Degree, times-low-both}
+use Rattle.field.specs.Polynomial.{Degree}
+use Rattle.field.proofs.Laws.{times-low-both}
 
 -- entry 32 a + b is a × b
 pub product-at : (a b : ℕ) → a < 32 → b < 32 → getD products (32 * a + b) 0 ≡ gf32 .mul a b

@@ -1,10 +1,16 @@
 -- Polynomials over two elements as numbers, bit k being the coefficient of x^k, and their products reduced by a
 -- polynomial p of degree n.
-use Prim.Native.Nat.{ℕ, zero, suc, _*_, _/_, _%_, _^_}
+use Prim.Native.Nat.{ℕ, zero, suc, _*_, _/_, _%_, _^_, _≤_, _<_}
 use mathlib.Core.Bool.{Bool, cond}
 use lib.Dec.{eqb, ltb}
 use lib.Bits.{bitXor}
 use Rattle.field.specs.Binary.{Operations}
+
+-- p is a polynomial of degree n, and n is at least 1
+pub record Degree (n p : ℕ) : Type 0 where
+  pub positive : 0 < n
+  pub from : 2 ^ n ≤ p
+  pub to : p < 2 ^ suc n
 
 -- x times a, reduced by p: where the degree reaches n, p is taken away
 unfoldable pub timesX : ℕ → ℕ → ℕ → ℕ

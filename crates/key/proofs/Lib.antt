@@ -3,6 +3,7 @@ pub mod BothTests
 pub mod KeyFacts
 pub mod FileLaws
 pub mod EntryLaws
+pub mod ChangeOfLayout
 pub mod RoundTrip
 pub mod WrongPrograms
 pub mod Inverses

@@ -79,11 +79,6 @@ matrixOf-entry m l =
     at : (k : ℕ) → k < 64 → getD (matrixOf (entry m)) k 0 ≡ getD m k 0
     at k h = getD-matrixOf (entry m) k h ∙ ap (λ (j : ℕ). getD m j 0) (place-of k h)
 
--- a list of 64 is the matrix whose rows lie one after another in it
-pub matrixOf-rows : (m : List ℕ) → length m ≡ 64 → matrixOf (λ r c. getD m (8 * r + c) 0) ≡ m
-unfolding entry place
-matrixOf-rows m l = matrixOf-entry m l
-
 -- two lists of 64 with the same entries are the same
 pub matrix-ext : (m m' : List ℕ) → length m ≡ 64 → length m' ≡ 64 → ((r c : ℕ) → r < 8 → c < 8 → entry m r c ≡ entry m' r c) → m ≡ m'
 matrix-ext m m' l l' equal =

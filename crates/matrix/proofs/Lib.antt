@@ -5,4 +5,6 @@ pub mod ProductLaws
 pub mod EliminationLaws
 pub mod Invertible
 pub mod SweepLaws
+pub mod ChangeOfLayout
 pub mod WrongEliminations
+pub mod WrongLayouts

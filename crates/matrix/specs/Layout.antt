@@ -1,21 +1,21 @@
 -- The layout of an 8 by 8 matrix in one list of 64 numbers: the only file of definitions that knows which entry is
--- where. Rows and columns count from 0 here.
+-- where (`ByRows` has another layout, to compare with). Rows and columns count from 0 here.
 use Prim.Native.Nat.{ℕ, _+_, _*_, _/_, _%_, _<_}
 use mathlib.Core.Path.{_≡_}
 use mathlib.Core.List.{List}
 use lib.ListN.{length, getD}
 use Rattle.base.specs.Lists.{values}
 
--- the place of the entry in row r and column c: row by row
+-- the place of the entry in row r and column c: column by column, the first one first
 unfoldable pub place : ℕ → ℕ → ℕ
-place r c = 8 * r + c
+place r c = 8 * c + r
 
 -- the row and the column of the entry at a place
 unfoldable pub rowOf : ℕ → ℕ
-rowOf k = k / 8
+rowOf k = k % 8
 
 unfoldable pub columnOf : ℕ → ℕ
-columnOf k = k % 8
+columnOf k = k / 8
 
 -- the entry in row r and column c
 unfoldable pub entry : List ℕ → ℕ → ℕ → ℕ

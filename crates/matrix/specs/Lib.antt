@@ -1,4 +1,5 @@
 pub mod Layout
 pub mod Product
 pub mod Elimination
+pub mod ByRows
 pub mod Sweeping

@@ -18,7 +18,7 @@ pub fn place(row: usize, column: usize) -> usize
     requires { ⌜ (row < 8) × (column < 8) ⌝ }
     ensures { λ r. ⌜ (r ≡ place row column) × (r < 64) ⌝ }
 {
-    8 * row + column
+    8 * column + row
 }
 
 // The row and the column of the entry at a place.
@@ -26,14 +26,14 @@ pub(crate) fn row_of(at: usize) -> usize
     requires { ⌜ at < 64 ⌝ }
     ensures { λ r. ⌜ (r ≡ rowOf at) × (r < 8) ⌝ }
 {
-    at / 8
+    at % 8
 }
 
 pub(crate) fn column_of(at: usize) -> usize
     requires { ⌜ at < 64 ⌝ }
     ensures { λ r. ⌜ (r ≡ columnOf at) × (r < 8) ⌝ }
 {
-    at % 8
+    at / 8
 }
 
 // The entry in a row and a column, each counted by its remainder by 8, so that any two numbers name an entry.

@@ -17,13 +17,9 @@ fn digest_matrix(t_values: &[u8; 8], digest: &[u8]) -> [u8; 64]
     requires { ⌜ length (now digest) ≡ 32 ⌝ }
     ensures { λ r. ⌜ r ≡ wordOn gf32 (now («t_values» .entry)) (encoded (now (digest .entry))) start .matrix ⌝ }
 {
-    let mut file = [0u8; braid::MAX_BYTES];
-    let written = digest::encode(digest, &mut file);
-    let bytes = written.bytes;
-    let word = &file[..bytes];
-    let read = braid::read_word(word);
-    let n = read.letters;
-    let reached = carried(Pair::start(), t_values, word, n);
+    let mut codes = [0u8; 1280];
+    let n = digest::encode_into(digest, &mut codes);
+    let reached = action::carry_letters(Pair::start(), t_values, &codes[..n]);
     reached.matrix
 }
 

@@ -1,13 +1,34 @@
 //! The exported functions of the library, as the Rust binding declares them, in wrappers that have the reference's
-//! types and give what comes back as it is, refusals too.
+//! types and give what comes back as it is, refusals too. The library has its matrices by columns and the reference by
+//! rows: each matrix changes its layout here, and nowhere else.
 
 use reference::key::Entries;
+use reference::matrix::at;
 use reference::pair::{Labels, TValues};
 use reference::{Cloak, Element, Key, Matrix, Pair, Word, Written};
 use walnut::exported::*;
 
+/// Each row and column, counted from 1.
+fn places() -> impl Iterator<Item = (usize, usize)> {
+    (1..=8).flat_map(|row| (1..=8).map(move |column| (row, column)))
+}
+
+/// A matrix of the library's, by rows.
+fn by_rows(columns: &[u8; 64]) -> Matrix {
+    let mut rows = [0; 64];
+    places().for_each(|(row, column)| rows[at(row, column)] = columns[walnut::place(row, column)]);
+    rows
+}
+
+/// A matrix for the library, by columns.
+fn by_columns(rows: &Matrix) -> [u8; 64] {
+    let mut columns = [0; 64];
+    places().for_each(|(row, column)| columns[walnut::place(row, column)] = rows[at(row, column)]);
+    columns
+}
+
 fn pair_of(pair: walnut::Pair) -> Pair {
-    Pair { matrix: pair.matrix, labels: pair.labels }
+    Pair { matrix: by_rows(&pair.matrix), labels: pair.labels }
 }
 
 fn written(number: Number) -> Written {
@@ -35,7 +56,7 @@ pub fn start() -> Pair {
 }
 
 pub fn multiply(pair: &mut Pair, t_values: &TValues, letter: u8) -> u8 {
-    let mut lent = walnut::Pair { matrix: pair.matrix, labels: pair.labels };
+    let mut lent = walnut::Pair { matrix: by_columns(&pair.matrix), labels: pair.labels };
     // SAFETY: see above.
     let answer = unsafe { walnut_multiply(&mut lent, t_values.as_ptr(), letter) };
     *pair = pair_of(lent);
@@ -45,12 +66,12 @@ pub fn multiply(pair: &mut Pair, t_values: &TValues, letter: u8) -> u8 {
 pub fn read_key(file: &[u8]) -> Key {
     // SAFETY: see above.
     let key = unsafe { walnut_read_key(file.as_ptr(), file.len()) };
-    Key { answer: key.answer, t_values: key.t_values, pair: pair_of(key.pair), second: key.second }
+    Key { answer: key.answer, t_values: key.t_values, pair: pair_of(key.pair), second: by_rows(&key.second) }
 }
 
 pub fn file_entries(matrix: &Matrix, entries: &mut Entries) {
     // SAFETY: see above.
-    unsafe { walnut_file_entries(matrix.as_ptr(), entries.as_mut_ptr()) }
+    unsafe { walnut_file_entries(by_columns(matrix).as_ptr(), entries.as_mut_ptr()) }
 }
 
 pub fn write_key(
@@ -105,4 +126,19 @@ pub fn cloaks(key: &[u8], labels: &[u8], word: &[u8]) -> Cloak {
     let cloak =
         unsafe { walnut_cloaks(file, bytes, labels.as_ptr(), labels.len(), word.as_ptr(), word.len()) };
     Cloak { answer: cloak.answer, yes: cloak.yes }
+}
+
+#[cfg(test)]
+mod tests {
+    /// Columns 2, 3 and 4 after b3 from the start, as they lie in the library's memory: row 3 has 2, 2, 1 there
+    /// (document 01's slip), and the rest is the identity's.
+    #[test]
+    fn columns_lie_together() {
+        let mut pair = walnut::Pair::start();
+        assert!(pair.multiply(&[1, 1, 2, 3, 4, 5, 6, 7], 2).is_ok());
+        assert_eq!(pair.matrix[..8], [1, 0, 0, 0, 0, 0, 0, 0]);
+        assert_eq!(pair.matrix[8..16], [0, 1, 2, 0, 0, 0, 0, 0]);
+        assert_eq!(pair.matrix[16..24], [0, 0, 2, 0, 0, 0, 0, 0]);
+        assert_eq!(pair.matrix[24..32], [0, 0, 1, 1, 0, 0, 0, 0]);
+    }
 }

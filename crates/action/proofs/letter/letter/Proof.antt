@@ -1,31 +1,51 @@
--- `action::letter::letter` meets its contract: the rows and the labels after the letter.
-use mathlib.Core.Path.{ap₂, _∙_}
-use Rattle.action.specs.Action.{pairOf}
-use Rattle.action.proofs.CarryLaws.{column-below, letter-is}
+-- `action::letter::letter` meets its contract: it crosses with the constants of the number that it takes.
+use Prim.Native.Nat.{_+_, _%_}
+use native.Mathlib.Omega.{arith}
 use borrow.Author.Needs.{needs}
+use Rattle.action.proofs.CarryLaws.{column-below}
+use Rattle.action.proofs.ColumnLaws.{letter-carried}
 use Rattle.action.proofs.letter.letter.Statement.{statement}
 use Rattle.action.proofs.letter.letter.Tie as tie
 
-taken-requires : tie.Need-taken-requires
-taken-requires c κs = column-below (c .before .args .code) (c .before .pre .1)
+cast-own : tie.Need-cast-own
+cast-own c = let s = c .before in omega (arith, s .pre .0 .below (s .args .code % 8))
 
-rows-requires : tie.Need-rows-requires
-rows-requires c κs =
-    let pre = c .before .before .before .pre in
-    (pre .0 .entries, pre .0 .products-are, column-below (c .before .before .before .args .code) (pre .1))
+element-copy-out-next : tie.Need-element-copy-out-next
+element-copy-out-next c = omega (arith, column-below (c .before .args .code) (c .before .pre .1))
 
-exchange-requires : tie.Need-exchange-requires
-exchange-requires c κs =
-    let pre = c .before .before .before .before .before .pre in
-    (pre .0 .places, column-below (c .before .before .before .before .before .args .code) (pre .1))
+cast-next : tie.Need-cast-next
+cast-next c = let s = c .before .before in omega (arith, s .pre .0 .below (s .args .code % 8 + 1))
+
+constants-at-requires : tie.Need-constants-at-requires
+constants-at-requires c κs =
+    let s = c .before .before in
+    (s .pre .0 .below (s .args .code % 8), s .pre .0 .below (s .args .code % 8 + 1))
+
+cross-requires : tie.Need-cross-requires
+cross-requires c κs =
+    let at = c .before .before .before .constants-at in
+    let s = c .before .before .before .before .before .before in
+    let held = s .pre .0 in
+    (held .nine, held .bytes, held .small, omega (arith, held .small, at .ensures .1), column-below (s .args .code) (s .pre .1))
 
 returns : tie.Need-returns
 returns c =
-    let b = c .before .before .before .before .before .before in
-    let a = b .args in
-    ap₂ pairOf (c .before .before .rows .ensures) (c .exchange .ensures)
-    ∙ letter-is (a .t-values .now) (a .reciprocals .now) (a .labels .now) (a .code) (b .pre .0 .reciprocals-are) (a .m .now) (b .pre .1)
-    (c .before .before .before .before .taken .result) (c .before .before .before .before .taken .ensures)
+    let at = c .before .before .before .before .constants-at in
+    let s = c .before .before .before .before .before .before .before in
+    let a = s .args in
+    letter-carried (a .bits) (a .constants .now) (a .columns .now) (a .labels .now) (c .cross .last .0) (c .cross .last .1 .0) (a .code) (at .result)
+    (s .pre .0) (s .pre .1) (at .ensures .0) (c .cross .ensures)
 
 pub letter-spec : {M : Type 1} → statement M
-letter-spec = tie.close (tie.spec taken-requires (λ c. search needs) rows-requires exchange-requires returns)
+letter-spec =
+    tie.close
+    (tie.spec
+    (λ c. search needs)
+    (λ c. search needs)
+    cast-own
+    (λ c. search needs)
+    element-copy-out-next
+    cast-next
+    constants-at-requires
+    cross-requires
+    returns)

@@ -1,27 +1,52 @@
--- `action::multiplier::one_letter` meets its contract: the packed word of one letter.
-use Prim.Native.Nat.{_*_}
-use mathlib.Core.Path.{_∙_}
-use mathlib.Core.List.{[], _∷_}
+-- `action::multiplier::one_letter` meets its contract: the pair's columns and labels, crossed with the number that the
+-- letter takes.
+use Prim.Native.Nat.{ℕ}
+use mathlib.Core.Path.{refl, ap, ap₂, _∙_}
+use mathlib.Core.List.{List}
 use native.Mathlib.Omega.{arith}
-use lib.ListN.{take}
-use Rattle.base.specs.Digits.{halves}
-use Rattle.field.specs.Gf32.{gf32}
-use Rattle.action.proofs.CarryLaws.{codes-word}
-use Rattle.action.proofs.MultiplierLaws.{code-fits, one-letter, one-word}
 use borrow.Author.Needs.{needs}
+use Rattle.field.specs.Gf32.{gf32, modulus}
+use Rattle.field.proofs.TableLaws.{gf32-degree}
+use Rattle.action.specs.Action.{pairOf, letterOn}
+use Rattle.action.proofs.CarryLaws.{column-below}
+use Rattle.action.proofs.ColumnLaws.{crossed-letter}
 use Rattle.action.proofs.multiplier.one_letter.Statement.{statement}
 use Rattle.action.proofs.multiplier.one_letter.Tie as tie
 
-mul-t5 : tie.Need-mul-t5
-mul-t5 c = omega (arith, code-fits (c .args .letter) (c .pre))
+constants-taken-requires : tie.Need-constants-taken-requires
+constants-taken-requires c κs =
+    let s = c .before .before .before .before in
+    (search needs, column-below (s .args .letter) (s .pre))
+
+cross-requires : tie.Need-cross-requires
+cross-requires c κs =
+    let columns = c .before .before .before in
+    let constants = columns .before .before in
+    let s = constants .before .before .before .before .before in
+    (columns .columns-of .ensures .0, constants .constants-taken .ensures .0, omega arith, search needs, column-below (s .args .letter) (s .pre))
 
 returns : tie.Need-returns
 returns c =
-    let s = c .before .before in
+    let crossed = c .before .before .before in
+    let columns = crossed .before .before .before .before in
+    let constants = columns .before .before in
+    let s = constants .before .before .before .before .before in
     let a = s .args in
-    c .carry .ensures
-    ∙ codes-word gf32 (a .t-values .now) (take 1 (halves (a .letter * 16 ∷ []))) (a .pair) (one-letter (a .letter) (s .pre))
-    ∙ one-word (a .t-values .now) (a .letter) (a .pair)
+    c .with .ensures
+    ∙ ap₂ pairOf (c .before .matrix-of .ensures) refl
+    ∙ crossed-letter 5 modulus gf32-degree (a .t-values .now) (constants .constants-taken .result) (columns .columns-of .result) (a .pair .labels)
+    (crossed .cross .last .0) (crossed .cross .last .1 .0) (a .letter) 0 (s .pre) (constants .constants-taken .ensures .1) (crossed .cross .ensures)
+    ∙ ap (λ (m : List ℕ). letterOn gf32 (a .t-values .now) (a .letter) (pairOf m (a .pair .labels))) (columns .columns-of .ensures .1)
 
 pub one-letter-spec : {M : Type 1} → statement M
-one-letter-spec = tie.close (tie.spec mul-t5 (λ c. search needs) (λ c κs. search needs) returns)
+one-letter-spec =
+    tie.close
+    (tie.spec
+    (λ c. search needs)
+    constants-taken-requires
+    (λ c κs. search needs)
+    (λ c. search needs)
+    cross-requires
+    (λ c κs. search needs)
+    (λ c κs. search needs)
+    returns)

@@ -1,0 +1,5 @@
+pub mod LaneLaws
+pub mod BitLaws
+pub mod TimesLaws
+pub mod ColumnLaws
+pub mod ConstantLaws

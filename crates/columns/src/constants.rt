@@ -1,0 +1,74 @@
+// The constants of a word: the products of each T-value and of its reciprocal with the powers of x.
+use crate::wide;
+ghost use mathlib.Core.Path.{_≡_};
+ghost use Prim.Native.Nat.{_+_, _*_, _^_, _<_, _≤_};
+ghost use lib.ListN.{length};
+ghost use Rattle.field.specs.Polynomial.{Degree, timesX, polynomials};
+ghost use Rattle.columns.specs.Constants.{Bytes, Multiples, Filled, AllFilled, Reciprocals, Constants};
+
+// x times an element, reduced by the modulus.
+fn times_x(a: u64, bits: usize, modulus: u64) -> u64
+    requires { ⌜ (bits ≤ 8) × (a < 2 ^ bits) ⌝ }
+    ensures { λ r. ⌜ r ≡ timesX bits modulus a ⌝ }
+{
+    let twice = a * 2;
+    let size: u64 = 1 << bits;
+    if twice < size { twice } else { twice ^ modulus }
+}
+
+// The products of a number with 1, x, x^2, .. go from a place on.
+fn multiples(list: &mut [u64], at: usize, number: u8, bits: usize, modulus: u64)
+    requires { ⌜ (at + 8 ≤ length (now list)) × Bytes (now list) × (bits ≤ 8) × Degree bits modulus ⌝ }
+    ensures { λ _. ⌜ Filled (polynomials bits modulus) bits number at bits (now (list .entry)) (now (list .exit)) ⌝ }
+{
+    let size: u64 = 1 << bits;
+    let mut product = wide(number) % size;
+    let mut i = 0;
+    while i < bits {
+        list[at + i] = product;
+        product = times_x(product, bits, modulus);
+        i += 1;
+    }
+}
+
+// The products of one number, from the first place on.
+pub fn multiples_of(number: u8, bits: usize, modulus: u64) -> [u64; 8]
+    requires { ⌜ (bits ≤ 8) × Degree bits modulus ⌝ }
+    ensures { λ r. ⌜ Bytes r × Multiples (polynomials bits modulus) bits r 0 number ⌝ }
+{
+    let mut list = [0u64; 8];
+    multiples(&mut list, 0, number, bits, modulus);
+    list
+}
+
+// Those of eight numbers do, from a place on, eight places for each.
+fn all_multiples(list: &mut [u64; 128], from: usize, numbers: &[u8; 8], bits: usize, modulus: u64)
+    requires { ⌜ (length (now list) ≡ 128) × Bytes (now list) × (from + 64 ≤ 128) × (bits ≤ 8) × Degree bits modulus ⌝ }
+    ensures { λ _. ⌜ AllFilled (polynomials bits modulus) bits (now (numbers .entry)) from 8 (now (list .entry)) (now (list .exit)) ⌝ }
+{
+    let mut a = 0;
+    while a < 8 {
+        multiples(list, from + 8 * a, numbers[a], bits, modulus);
+        a += 1;
+    }
+}
+
+// The constants of T-values and their reciprocals.
+pub fn constants_of(
+    t_values: &[u8; 8],
+    reciprocals: &[u8; 8],
+    bits: usize,
+    modulus: u64,
+) -> [u64; 128]
+    requires { ⌜
+        (bits ≤ 8)
+        × Degree bits modulus
+        × Reciprocals (polynomials bits modulus) (now «t_values») (now reciprocals)
+        ⌝ }
+    ensures { λ r. ⌜ Constants (polynomials bits modulus) bits (now («t_values» .entry)) r ⌝ }
+{
+    let mut list = [0u64; 128];
+    all_multiples(&mut list, 0, t_values, bits, modulus);
+    all_multiples(&mut list, 64, reciprocals, bits, modulus);
+    list
+}
