@@ -11,40 +11,69 @@ typedef struct {
     uint8_t matrix[64], labels[8];
 } pair;
 
+/* A field: the bits of an entry, its polynomial, the bytes of a key and of a digest, and its tables. */
 typedef struct {
+    unsigned bits, polynomial;
+    size_t key_bytes, digest_bytes;
+    uint8_t *products, *reciprocals;
+} field;
+
+typedef struct {
+    const field *over;
     uint8_t t_values[8], second[64];
     pair first;
 } key;
 
-static uint8_t products[1024], reciprocals[32];
+static uint8_t small_products[1024], small_reciprocals[32], large_products[65536], large_reciprocals[256];
+static const field small = {5, 0x25, 83, 32, small_products, small_reciprocals};
+static const field large = {8, 0x11D, 128, 64, large_products, large_reciprocals};
 
-static uint8_t polynomial_product(unsigned a, unsigned b)
+static uint8_t polynomial_product(const field *f, unsigned a, unsigned b)
 {
     unsigned product = 0;
-    for (; b; b >>= 1, a = a & 16 ? a << 1 ^ 37 : a << 1)
+    for (; b; b >>= 1, a = a >> (f->bits - 1) ? a << 1 ^ f->polynomial : a << 1)
         if (b & 1)
             product ^= a;
     return (uint8_t)product;
 }
 
-/* Fills the tables; called once. */
-void plain_tables(void)
+static void fill_tables(const field *f)
 {
-    for (unsigned a = 0; a < 32; a++)
-        for (unsigned b = 0; b < 32; b++) {
-            products[32 * a + b] = polynomial_product(a, b);
-            if (products[32 * a + b] == 1)
-                reciprocals[a] = (uint8_t)b;
+    for (unsigned a = 0; a < 1u << f->bits; a++)
+        for (unsigned b = 0; b < 1u << f->bits; b++) {
+            uint8_t product = f->products[a << f->bits | b] = polynomial_product(f, a, b);
+            if (product == 1)
+                f->reciprocals[a] = (uint8_t)b;
         }
 }
 
+/* Fills the tables; called once. */
+void plain_tables(void)
+{
+    fill_tables(&small);
+    fill_tables(&large);
+}
+
+/* The products of each T-value and of its reciprocal: rows of the table. */
+typedef struct {
+    const uint8_t *values[8], *inverses[8];
+} rows;
+
+static void rows_of(const field *f, const uint8_t *t_values, rows *r)
+{
+    for (int i = 0; i < 8; i++) {
+        r->values[i] = f->products + ((size_t)t_values[i] << f->bits);
+        r->inverses[i] = f->products + ((size_t)f->reciprocals[t_values[i]] << f->bits);
+    }
+}
+
 /* One letter; its sign is asked once, and not in every row. */
-static void letter_on(pair *p, const uint8_t *t_values, const uint8_t *inverses, unsigned code)
+static void letter_on(pair *p, const rows *r, unsigned code)
 {
     unsigned g = code & 7;
     uint8_t *own = p->matrix + g, *end = own + 64, label = p->labels[g], next = p->labels[g + 1];
     if (code & 8) {
-        const uint8_t *times = products + 32 * inverses[next];
+        const uint8_t *times = r->inverses[next];
         for (; own < end; own += 8) {
             uint8_t entry = own[0], product = times[entry];
             if (g > 0)
@@ -53,7 +82,7 @@ static void letter_on(pair *p, const uint8_t *t_values, const uint8_t *inverses,
             own[1] ^= product;
         }
     } else {
-        const uint8_t *times = products + 32 * t_values[label];
+        const uint8_t *times = r->values[label];
         for (; own < end; own += 8) {
             uint8_t entry = own[0], product = times[entry];
             if (g > 0)
@@ -71,51 +100,58 @@ static unsigned code_at(const uint8_t *packed, size_t k)
     return k % 2 ? packed[k / 2] & 15 : packed[k / 2] >> 4;
 }
 
-static void word_on(pair *p, const uint8_t *t_values, const uint8_t *packed, size_t n)
+static void word_on(pair *p, const field *f, const uint8_t *t_values, const uint8_t *packed, size_t n)
 {
-    uint8_t inverses[8];
-    for (int i = 0; i < 8; i++)
-        inverses[i] = reciprocals[t_values[i]];
+    rows r;
+    rows_of(f, t_values, &r);
     for (size_t k = 0; k < n; k++)
-        letter_on(p, t_values, inverses, code_at(packed, k));
+        letter_on(p, &r, code_at(packed, k));
 }
 
 /* A column of the matrix as one number, the first row's entry in the lowest byte: times t, it is the exclusive or, over the bits i of an
    entry, of bit i of every byte times t x^i, which stands in the constants. */
-static uint64_t times_column(const uint64_t *constants, uint64_t column)
+static inline uint64_t times_column(const uint64_t *constants, uint64_t column, unsigned bits)
 {
     uint64_t product = 0;
-    for (int i = 0; i < 5; i++)
+    for (unsigned i = 0; i < bits; i++)
         product ^= (column >> i & 0x0101010101010101) * constants[i];
     return product;
 }
 
-static void fill_constants(uint64_t *constants, uint8_t t)
+static void fill_constants(const field *f, uint64_t *constants, uint8_t t)
 {
-    for (unsigned i = 0; i < 5; i++)
-        constants[i] = products[32 * t + (1u << i)];
+    for (unsigned i = 0; i < f->bits; i++)
+        constants[i] = f->products[(size_t)t << f->bits | 1u << i];
 }
 
-/* The letters of a word on columns, with a spare one in front; no branch depends on a letter. */
-static void word_on_columns(pair *p, const uint8_t *t_values, const uint8_t *packed, size_t n)
+/* Letters on columns, with a spare one in front; no branch depends on a letter. */
+static inline void letters_on_columns(uint64_t *columns, uint8_t *labels, uint64_t (*constants)[8], const uint8_t *packed, size_t n, unsigned bits)
 {
-    uint64_t columns[9] = {0}, constants[16][8];
-    for (int a = 0; a < 8; a++) {
-        fill_constants(constants[a], t_values[a]);
-        fill_constants(constants[8 + a], reciprocals[t_values[a]]);
-        for (int r = 8; r-- > 0;)
-            columns[a + 1] = columns[a + 1] << 8 | p->matrix[8 * r + a];
-    }
     for (size_t k = 0; k < n; k++) {
         unsigned code = code_at(packed, k), g = code & 7, inverse = code >> 3;
-        uint8_t label = p->labels[g], next = p->labels[g + 1];
-        uint64_t column = columns[g + 1], product = times_column(constants[inverse ? 8 + next : label], column);
+        uint8_t label = labels[g], next = labels[g + 1];
+        uint64_t column = columns[g + 1], product = times_column(constants[inverse ? 8 + next : label], column, bits);
         columns[g] ^= inverse ? column : product;
         columns[g + 1] = product;
         columns[g + 2] ^= inverse ? product : column;
-        p->labels[g] = next;
-        p->labels[g + 1] = label;
+        labels[g] = next;
+        labels[g + 1] = label;
     }
+}
+
+static void word_on_columns(pair *p, const field *f, const uint8_t *t_values, const uint8_t *packed, size_t n)
+{
+    uint64_t columns[9] = {0}, constants[16][8];
+    for (int a = 0; a < 8; a++) {
+        fill_constants(f, constants[a], t_values[a]);
+        fill_constants(f, constants[8 + a], f->reciprocals[t_values[a]]);
+        for (int r = 8; r-- > 0;)
+            columns[a + 1] = columns[a + 1] << 8 | p->matrix[8 * r + a];
+    }
+    if (f->bits == 5)
+        letters_on_columns(columns, p->labels, constants, packed, n, 5);
+    else
+        letters_on_columns(columns, p->labels, constants, packed, n, 8);
     for (int c = 0; c < 8; c++)
         for (int r = 0; r < 8; r++)
             p->matrix[8 * r + c] = (uint8_t)(columns[c + 1] >> 8 * r);
@@ -142,15 +178,15 @@ static void unpack(const uint8_t *bytes, unsigned bits, size_t groups, uint8_t *
     }
 }
 
-static void unpack_matrix(const uint8_t *bytes, uint8_t *matrix)
+static void unpack_matrix(const uint8_t *bytes, unsigned bits, uint8_t *matrix)
 {
-    unpack(bytes, 5, 7, matrix);
+    unpack(bytes, bits, 7, matrix);
     memset(matrix + 56, 0, 7);
-    matrix[63] = bytes[35] >> 3;
+    matrix[63] = bytes[7 * bits] >> (8 - bits);
 }
 
 /* Elimination, column by column. */
-static bool is_invertible(const uint8_t *matrix)
+static bool is_invertible(const field *f, const uint8_t *matrix)
 {
     uint8_t rows[64];
     memcpy(rows, matrix, 64);
@@ -163,9 +199,9 @@ static bool is_invertible(const uint8_t *matrix)
         memcpy(held, pivot, 8);
         memcpy(pivot, own, 8);
         memcpy(own, held, 8);
-        const uint8_t *scale = products + 32 * reciprocals[held[c]];
+        const uint8_t *scale = f->products + ((size_t)f->reciprocals[held[c]] << f->bits);
         for (uint8_t *row = own + 8; row < rows + 64; row += 8) {
-            const uint8_t *factor = products + 32 * scale[row[c]];
+            const uint8_t *factor = f->products + ((size_t)scale[row[c]] << f->bits);
             for (unsigned i = c; i < 8; i++)
                 row[i] ^= factor[held[i]];
         }
@@ -175,25 +211,27 @@ static bool is_invertible(const uint8_t *matrix)
 
 static uint8_t read_key(const uint8_t *file, size_t n, key *k)
 {
-    if (n != 83)
+    const field *f = k->over = n == large.key_bytes ? &large : &small;
+    if (n != f->key_bytes)
         return 1;
     if (file[0] != 8)
         return 2;
-    if (file[1] != 0 || file[2] != 32)
+    if ((file[1] << 8 | file[2]) != 1 << f->bits)
         return 3;
-    unpack(file + 3, 5, 1, k->t_values);
+    const uint8_t *first = file + 3 + f->bits, *labels = first + 7 * f->bits + 1, *second = labels + 3;
+    unpack(file + 3, f->bits, 1, k->t_values);
     if (memchr(k->t_values, 0, 8))
         return 4;
     if (k->t_values[0] != 1 || k->t_values[1] != 1)
         return 5;
-    unpack(file + 44, 3, 1, k->first.labels);
+    unpack(labels, 3, 1, k->first.labels);
     if (!is_order(k->first.labels))
         return 6;
-    if ((file[43] | file[82]) & 7)
+    if ((labels[-1] | file[n - 1]) & ((1u << (8 - f->bits)) - 1))
         return 7;
-    unpack_matrix(file + 8, k->first.matrix);
-    unpack_matrix(file + 47, k->second);
-    return is_invertible(k->first.matrix) && is_invertible(k->second) ? 0 : 26;
+    unpack_matrix(first, f->bits, k->first.matrix);
+    unpack_matrix(second, f->bits, k->second);
+    return is_invertible(f, k->first.matrix) && is_invertible(f, k->second) ? 0 : 26;
 }
 
 static uint8_t read_word(const uint8_t *file, size_t n, size_t *letters)
@@ -237,26 +275,26 @@ static size_t half_byte_braid(unsigned half, uint8_t *codes)
     return (size_t)(at - codes);
 }
 
-static void digest_matrix(const uint8_t *t_values, const uint8_t *digest, pair *p)
+static void digest_matrix(const field *f, const uint8_t *t_values, const uint8_t *digest, pair *p)
 {
-    uint8_t codes[1280], inverses[8];
+    uint8_t codes[2560];
+    rows r;
     size_t n = 0;
-    for (size_t k = 0; k < 64; k++)
+    for (size_t k = 0; k < 2 * f->digest_bytes; k++)
         n += half_byte_braid(code_at(digest, k), codes + n);
-    for (int i = 0; i < 8; i++)
-        inverses[i] = reciprocals[t_values[i]];
+    rows_of(f, t_values, &r);
     start(p);
     for (size_t k = 0; k < n; k++)
-        letter_on(p, t_values, inverses, codes[k]);
+        letter_on(p, &r, codes[k]);
 }
 
-static void matrix_product(const uint8_t *a, const uint8_t *b, uint8_t *out)
+static void matrix_product(const field *f, const uint8_t *a, const uint8_t *b, uint8_t *out)
 {
     for (int r = 0; r < 8; r++)
         for (int c = 0; c < 8; c++) {
             uint8_t sum = 0;
             for (int k = 0; k < 8; k++)
-                sum ^= products[32 * a[8 * r + k] + b[8 * k + c]];
+                sum ^= f->products[(size_t)a[8 * r + k] << f->bits | b[8 * k + c]];
             out[8 * r + c] = sum;
         }
 }
@@ -269,13 +307,13 @@ uint8_t plain_verify(const uint8_t *file, size_t kn, const uint8_t *digest, size
     uint8_t wanted[64], answer = read_key(file, kn, &k);
     if (answer)
         return answer;
-    if (dn != 32)
+    if (dn != k.over->digest_bytes)
         return 8;
     if ((answer = read_word(word, wn, &letters)))
         return answer;
-    word_on(&k.first, k.t_values, word + 2, letters);
-    digest_matrix(k.t_values, digest, &reached);
-    matrix_product(reached.matrix, k.second, wanted);
+    word_on(&k.first, k.over, k.t_values, word + 2, letters);
+    digest_matrix(k.over, k.t_values, digest, &reached);
+    matrix_product(k.over, reached.matrix, k.second, wanted);
     return memcmp(k.first.matrix, wanted, 64) ? 14 : 0;
 }
 
@@ -295,7 +333,7 @@ unsigned plain_cloaks(const uint8_t *file, size_t kn, const uint8_t *labels, siz
     start(&before);
     memcpy(before.labels, labels, 8);
     after = before;
-    (by_columns ? word_on_columns : word_on)(&after, k.t_values, word + 2, letters);
+    (by_columns ? word_on_columns : word_on)(&after, k.over, k.t_values, word + 2, letters);
     return memcmp(&before, &after, sizeof before) == 0;
 }
 

@@ -7,37 +7,46 @@ const LETTERS: usize = 10_000;
 type Matrix = [[u8; 8]; 8];
 type Eight = [u8; 8];
 
-const fn polynomial_product(mut a: u8, mut b: u8) -> u8 {
-    let mut product = 0;
-    while b != 0 {
-        if b & 1 == 1 {
-            product ^= a;
+/// The products and reciprocals of a field with so many elements.
+struct Table<const SIZE: usize> {
+    products: [[u8; SIZE]; SIZE],
+    reciprocals: [u8; SIZE],
+}
+
+impl<const SIZE: usize> Table<SIZE> {
+    /// The bits of an entry.
+    const BITS: usize = SIZE.ilog2() as usize;
+
+    /// The tables of a polynomial: a × b from a × (b / 2).
+    const fn new(polynomial: usize) -> Table<SIZE> {
+        let mut table = Table { products: [[0; SIZE]; SIZE], reciprocals: [0; SIZE] };
+        let mut place = 0;
+        while place < SIZE * SIZE {
+            let (a, b) = (place / SIZE, place % SIZE);
+            let doubled = 2 * table.products[a][b / 2] as usize;
+            let half = if doubled < SIZE { doubled } else { doubled ^ polynomial };
+            let product = if b % 2 == 0 { half } else { half ^ a };
+            table.products[a][b] = product as u8;
+            if product == 1 {
+                table.reciprocals[a] = b as u8;
+            }
+            place += 1;
         }
-        a = if a & 16 == 16 { a << 1 ^ 37 } else { a << 1 };
-        b >>= 1;
+        table
     }
-    product
-}
 
-const fn products() -> [[u8; 32]; 32] {
-    let mut table = [[0; 32]; 32];
-    let mut a = 0;
-    while a < 32 {
-        let mut b = 0;
-        while b < 32 {
-            table[a][b] = polynomial_product(a as u8, b as u8);
-            b += 1;
-        }
-        a += 1;
+    /// The products of an element.
+    fn row(&self, element: u8) -> &[u8; SIZE] {
+        &self.products[usize::from(element)]
     }
-    table
+
+    fn reciprocal(&self, element: u8) -> u8 {
+        self.reciprocals[usize::from(element)]
+    }
 }
 
-static PRODUCTS: [[u8; 32]; 32] = products();
-
-fn reciprocal(a: u8) -> u8 {
-    PRODUCTS[usize::from(a)].iter().position(|product| *product == 1).unwrap_or(0) as u8
-}
+static SMALL: Table<32> = Table::new(0x25);
+static LARGE: Table<256> = Table::new(0x11D);
 
 #[derive(Clone, PartialEq)]
 struct Pair {
@@ -54,14 +63,14 @@ impl Pair {
         Pair { matrix, labels }
     }
 
-    fn letter(&mut self, t_values: &Eight, inverses: &Eight, code: u8) {
+    /// One letter, with the products of each T-value and of its reciprocal.
+    fn letter<const SIZE: usize>(&mut self, values: &Rows<SIZE>, inverses: &Rows<SIZE>, code: u8) {
         let (g, inverse) = (usize::from(code & 7), code & 8 != 0);
-        let taken = if inverse {
+        let times = if inverse {
             inverses[usize::from(self.labels[g + 1])]
         } else {
-            t_values[usize::from(self.labels[g])]
+            values[usize::from(self.labels[g])]
         };
-        let times = &PRODUCTS[usize::from(taken)];
         for row in &mut self.matrix {
             let own = row[g];
             let product = times[usize::from(own)];
@@ -75,14 +84,21 @@ impl Pair {
         self.labels.swap(g, g + 1);
     }
 
-    fn carried(mut self, t_values: &Eight, codes: impl Iterator<Item = u8>) -> Pair {
-        let inverses = t_values.map(reciprocal);
-        for code in codes {
-            self.letter(t_values, &inverses, code);
-        }
+    fn carried<const SIZE: usize>(
+        mut self,
+        table: &Table<SIZE>,
+        t_values: &Eight,
+        codes: impl Iterator<Item = u8>,
+    ) -> Pair {
+        let values = t_values.map(|value| table.row(value));
+        let inverses = t_values.map(|value| table.row(table.reciprocal(value)));
+        codes.for_each(|code| self.letter(&values, &inverses, code));
         self
     }
 }
+
+/// A row of the table for each label.
+type Rows<'a, const SIZE: usize> = [&'a [u8; SIZE]; 8];
 
 struct Key {
     t_values: Eight,
@@ -97,12 +113,12 @@ fn eight(bytes: &[u8]) -> Eight {
     std::array::from_fn(|place| (value >> ((7 - place) * bits) & ((1 << bits) - 1)) as u8)
 }
 
-fn matrix(bytes: &[u8]) -> Matrix {
+fn matrix(bytes: &[u8], bits: usize) -> Matrix {
     let mut matrix = [[0; 8]; 8];
-    for (row, group) in matrix.iter_mut().zip(bytes.chunks_exact(5)) {
+    for (row, group) in matrix.iter_mut().zip(bytes.chunks_exact(bits).take(7)) {
         *row = eight(group);
     }
-    matrix[7][7] = bytes[35] >> 3;
+    matrix[7][7] = bytes[7 * bits] >> (8 - bits);
     matrix
 }
 
@@ -111,14 +127,14 @@ fn is_order(labels: &[u8]) -> bool {
 }
 
 /// Elimination, column by column.
-fn is_invertible(mut matrix: Matrix) -> bool {
+fn is_invertible<const SIZE: usize>(table: &Table<SIZE>, mut matrix: Matrix) -> bool {
     for column in 0..8 {
         let Some(pivot) = (column..8).find(|row| matrix[*row][column] != 0) else { return false };
         matrix.swap(column, pivot);
         let pivot = matrix[column];
-        let scale = &PRODUCTS[usize::from(reciprocal(pivot[column]))];
+        let scale = table.row(table.reciprocal(pivot[column]));
         for row in &mut matrix[column + 1..] {
-            let factor = &PRODUCTS[usize::from(scale[usize::from(row[column])])];
+            let factor = table.row(scale[usize::from(row[column])]);
             for place in column..8 {
                 row[place] ^= factor[usize::from(pivot[place])];
             }
@@ -127,32 +143,35 @@ fn is_invertible(mut matrix: Matrix) -> bool {
     true
 }
 
-fn read_key(file: &[u8]) -> Result<Key, u8> {
-    if file.len() != 83 {
-        return Err(1);
-    }
-    if file[0] != 8 {
+/// A key of the field's length.
+fn read_key<const SIZE: usize>(table: &Table<SIZE>, file: &[u8]) -> Result<Key, u8> {
+    let bits = Table::<SIZE>::BITS;
+    let (head, rest) = file.split_at(3);
+    if head[0] != 8 {
         return Err(2);
     }
-    if file[1..3] != [0, 32] {
+    if usize::from(head[1]) << 8 | usize::from(head[2]) != SIZE {
         return Err(3);
     }
-    let t_values = eight(&file[3..8]);
+    let (t_values, rest) = rest.split_at(bits);
+    let t_values = eight(t_values);
     if t_values.contains(&0) {
         return Err(4);
     }
     if t_values[..2] != [1, 1] {
         return Err(5);
     }
-    let labels = eight(&file[44..47]);
+    let (first, rest) = rest.split_at(7 * bits + 1);
+    let (labels, second) = rest.split_at(3);
+    let labels = eight(labels);
     if !is_order(&labels) {
         return Err(6);
     }
-    if (file[43] | file[82]) & 7 != 0 {
+    if (first[7 * bits] | second[7 * bits]) & ((1 << (8 - bits)) - 1) != 0 {
         return Err(7);
     }
-    let (first, second) = (matrix(&file[8..44]), matrix(&file[47..]));
-    if !is_invertible(first) || !is_invertible(second) {
+    let (first, second) = (matrix(first, bits), matrix(second, bits));
+    if !is_invertible(table, first) || !is_invertible(table, second) {
         return Err(26);
     }
     Ok(Key { t_values, pair: Pair { matrix: first, labels }, second })
@@ -189,40 +208,64 @@ fn half_byte_braid(half: u8) -> impl Iterator<Item = u8> {
     down.chain(std::iter::repeat_n(selected, power)).chain(up)
 }
 
-fn matrix_product(a: &Matrix, b: &Matrix) -> Matrix {
+fn matrix_product<const SIZE: usize>(table: &Table<SIZE>, a: &Matrix, b: &Matrix) -> Matrix {
     let entry = |row: &Eight, column: usize| {
-        row.iter()
-            .zip(b)
-            .fold(0, |sum, (x, other)| sum ^ PRODUCTS[usize::from(*x)][usize::from(other[column])])
+        row.iter().zip(b).fold(0, |sum, (x, other)| sum ^ table.row(*x)[usize::from(other[column])])
     };
     std::array::from_fn(|row| std::array::from_fn(|column| entry(&a[row], column)))
 }
 
 const ORDER: Eight = [0, 1, 2, 3, 4, 5, 6, 7];
 
-pub fn verify(key: &[u8], digest: &[u8], word: &[u8]) -> Result<(), u8> {
-    let Key { t_values, pair, second } = read_key(key)?;
-    if digest.len() != 32 {
+fn verify_over<const SIZE: usize>(
+    table: &Table<SIZE>,
+    key: &[u8],
+    digest: &[u8],
+    word: &[u8],
+) -> Result<(), u8> {
+    let Key { t_values, pair, second } = read_key(table, key)?;
+    if digest.len() != if SIZE == 32 { 32 } else { 64 } {
         return Err(8);
     }
     let letters = read_word(word)?;
-    let reached = pair.carried(&t_values, letters);
+    let reached = pair.carried(table, &t_values, letters);
     let braid = halves(digest).flat_map(half_byte_braid);
-    let encoded = Pair::with_labels(ORDER).carried(&t_values, braid);
-    if reached.matrix == matrix_product(&encoded.matrix, &second) {
+    let encoded = Pair::with_labels(ORDER).carried(table, &t_values, braid);
+    if reached.matrix == matrix_product(table, &encoded.matrix, &second) {
         Ok(())
     } else {
         Err(14)
     }
 }
 
-pub fn cloaks(key: &[u8], labels: &[u8], word: &[u8]) -> Result<bool, u8> {
-    let key = read_key(key)?;
+pub fn verify(key: &[u8], digest: &[u8], word: &[u8]) -> Result<(), u8> {
+    match key.len() {
+        83 => verify_over(&SMALL, key, digest, word),
+        128 => verify_over(&LARGE, key, digest, word),
+        _ => Err(1),
+    }
+}
+
+fn cloaks_over<const SIZE: usize>(
+    table: &Table<SIZE>,
+    key: &[u8],
+    labels: &[u8],
+    word: &[u8],
+) -> Result<bool, u8> {
+    let key = read_key(table, key)?;
     let labels = Eight::try_from(labels).ok().filter(|labels| is_order(labels)).ok_or(25)?;
     let letters = read_word(word)?;
     let before = Pair::with_labels(labels);
-    let after = before.clone().carried(&key.t_values, letters);
+    let after = before.clone().carried(table, &key.t_values, letters);
     Ok(after == before)
+}
+
+pub fn cloaks(key: &[u8], labels: &[u8], word: &[u8]) -> Result<bool, u8> {
+    match key.len() {
+        83 => cloaks_over(&SMALL, key, labels, word),
+        128 => cloaks_over(&LARGE, key, labels, word),
+        _ => Err(1),
+    }
 }
 
 fn apart(c: u8, d: u8) -> u8 {

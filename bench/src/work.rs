@@ -5,12 +5,19 @@ use reference::rewrite::Move;
 use reference::start;
 use reference::testkit::{accepted_slip, move_list, Random, Slip};
 use reference::word::word_file;
+use reference::Field;
 use walnut::{Refusal, WORD_BYTES};
 
 use crate::{plain, plain_c};
 
-/// The letters of a typical signature: source 000's table 1 has a mean of 5,134.6 bits.
-const TYPICAL: usize = 1_283;
+/// The letters of a typical signature over a field: source 000's table 1 has a mean of 5,134.6 bits, its table 2 one of
+/// 9,932.4.
+const fn typical(field: Field) -> usize {
+    match field {
+        Field::Gf32 => 1_283,
+        Field::Gf256 => 2_483,
+    }
+}
 
 /// The letters of the longest word.
 const LONGEST: usize = 10_000;
@@ -112,24 +119,26 @@ impl Work {
 
 /// A slip of this word that the verdict accepts, under a key as keys are made: Pub(S) is where a long word carries the
 /// starting pair, so that its matrix has an inverse and few zeros.
-fn accepted(random: &mut Random, codes: &[u8]) -> Slip {
-    let (t_values, private, digest) = (random.key_t_values(), random.word(TYPICAL), random.digest());
-    accepted_slip(&t_values, &carried(&start(), &t_values, &private), &digest, codes)
+fn accepted(random: &mut Random, field: Field, codes: &[u8]) -> Slip {
+    let (t_values, private) = (random.key_t_values(field), random.word(typical(field)));
+    let digest = random.digest(field);
+    let pair = carried(field, &start(), &t_values, &private);
+    accepted_slip(field, &t_values, &pair, &digest, codes)
 }
 
 /// A slip of so many letters that the verdict accepts.
-fn slip(random: &mut Random, letters: usize) -> Work {
+fn slip(random: &mut Random, field: Field, letters: usize) -> Work {
     let codes = random.word(letters);
-    Work::Verdict(accepted(random, &codes))
+    Work::Verdict(accepted(random, field, &codes))
 }
 
 /// A word of 10,000 letters that cloaks: 5,000 letters, and the way back. The C goes over rows of bytes, or over columns
 /// of 64 bits as the library does.
-fn cloaking(random: &mut Random, by_columns: bool) -> Work {
+fn cloaking(random: &mut Random, field: Field, by_columns: bool) -> Work {
     let there = random.word(LONGEST / 2);
     let back = there.iter().rev().map(|code| code ^ 8);
     let codes: Vec<u8> = there.iter().copied().chain(back).collect();
-    Work::Cloaking { key: accepted(random, &[]).key, word: word_file(&codes), by_columns }
+    Work::Cloaking { key: accepted(random, field, &[]).key, word: word_file(&codes), by_columns }
 }
 
 /// 4,096 moves of all kinds, each possible on the word that the last one left.
@@ -159,22 +168,27 @@ fn reduction(random: &mut Random, letters: usize) -> Work {
 }
 
 /// How many cases there are.
-pub const CASES: usize = 10;
+pub const CASES: usize = 12;
 
 /// The case of a number, the same in every run.
 pub fn case(number: usize) -> Case {
     plain_c::tables();
     let random = &mut Random::seeded(1);
-    match number {
-        0 => Case { name: "verdict, 1,283 letters", parts: 1, work: slip(random, TYPICAL) },
-        1 => Case { name: "verdict, 10,000 letters", parts: 1, work: slip(random, LONGEST) },
-        2 => Case { name: "a letter (cloaking, 10,000)", parts: LONGEST, work: cloaking(random, false) },
-        3 => Case { name: "rewriter, 4,096 moves", parts: 1, work: rewriting(random) },
-        4 => Case { name: "rewriter, all in the middle", parts: 1, work: by_turns(LONGEST - 2, LONGEST / 2) },
-        5 => Case { name: "rewriter, all at the front", parts: 1, work: by_turns(LONGEST - 2, 0) },
-        6 => Case { name: "rewriter, no letters", parts: 1, work: by_turns(0, 0) },
-        7 => Case { name: "rewriter, no moves", parts: 1, work: no_moves(random, LONGEST - 2) },
-        8 => Case { name: "free reduction", parts: 1, work: reduction(random, LONGEST - 2) },
-        _ => Case { name: "a letter, C by columns too", parts: LONGEST, work: cloaking(random, true) },
-    }
+    let (small, large) = (Field::Gf32, Field::Gf256);
+    let middle = LONGEST / 2;
+    let (name, parts, work) = match number {
+        0 => ("verdict, 1,283 letters", 1, slip(random, small, typical(small))),
+        1 => ("verdict, 10,000 letters", 1, slip(random, small, LONGEST)),
+        2 => ("a letter (cloaking, 10,000)", LONGEST, cloaking(random, small, false)),
+        3 => ("256: verdict, 2,483 letters", 1, slip(random, large, typical(large))),
+        4 => ("256: a letter (cloaking)", LONGEST, cloaking(random, large, false)),
+        5 => ("rewriter, 4,096 moves", 1, rewriting(random)),
+        6 => ("rewriter, all in the middle", 1, by_turns(LONGEST - 2, middle)),
+        7 => ("rewriter, all at the front", 1, by_turns(LONGEST - 2, 0)),
+        8 => ("rewriter, no letters", 1, by_turns(0, 0)),
+        9 => ("rewriter, no moves", 1, no_moves(random, LONGEST - 2)),
+        10 => ("free reduction", 1, reduction(random, LONGEST - 2)),
+        _ => ("a letter, C by columns too", LONGEST, cloaking(random, small, true)),
+    };
+    Case { name, parts, work }
 }

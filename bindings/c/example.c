@@ -1,4 +1,4 @@
-/* Worked slips: fields, words, pairs, keys, moves, cloaking and the verdict. */
+/* Worked slips: fields, words, pairs, keys, moves, cloaking and the verdict, at both strengths. */
 #include <stdio.h>
 #include <string.h>
 
@@ -31,13 +31,13 @@ static void print_row(const char *text, const uint8_t matrix[64], int row)
     print_decimal(text, entries, 8);
 }
 
-/* Writes the key file of T-values, the pair Pub(S) and the matrix of Pub(S'). */
-static uint8_t write_key(const uint8_t t[8], const walnut_pair *pair, const uint8_t matrix[64], uint8_t key[WALNUT_KEY_BYTES])
+/* Writes the key file over a field of T-values, the pair Pub(S) and the matrix of Pub(S'). */
+static uint8_t write_key(bool large, const uint8_t t[8], const walnut_pair *pair, const uint8_t matrix[64], uint8_t *key, size_t n)
 {
     uint8_t first[57], second[57];
     walnut_file_entries(pair->matrix, first);
     walnut_file_entries(matrix, second);
-    return walnut_write_key(t, pair->labels, first, second, key, WALNUT_KEY_BYTES);
+    return walnut_write_key(large, t, pair->labels, first, second, key, n);
 }
 
 static void print_cloak(const char *text, const uint8_t *key, const uint8_t *word, size_t n)
@@ -46,11 +46,59 @@ static void print_cloak(const char *text, const uint8_t *key, const uint8_t *wor
     printf("%s cloaks: %s\n", text, cloak.yes ? "yes" : "no");
 }
 
+/* The field with 256 elements: numbers and keys. */
+static int larger_keys(uint8_t key[WALNUT_LARGE_KEY_BYTES])
+{
+    printf("over 256 elements 128 x 2 = %u\n", walnut_product(WALNUT_GF256, 128, 2).value);
+    printf("16 x 2 = %u\n", walnut_product(WALNUT_GF256, 16, 2).value);
+    printf("the reciprocal of 3 is %u\n", walnut_reciprocal(WALNUT_GF256, 3).value);
+    walnut_pair start = walnut_start(), inverse = start;
+    if (walnut_multiply(&inverse, WALNUT_GF256, t_values, 10) != 0)
+        return 1;
+    print_row("row 3 after b3':", inverse.matrix, 3);
+
+    uint8_t file[WALNUT_LARGE_KEY_BYTES], back[WALNUT_LARGE_KEY_BYTES];
+    if (write_key(WALNUT_GF256, t_values, &start, start.matrix, key, WALNUT_LARGE_KEY_BYTES) != 0 ||
+        write_key(WALNUT_GF256, t_values, &inverse, start.matrix, file, sizeof file) != 0)
+        return 1;
+    printf("the plain key: %d bytes, from", WALNUT_LARGE_KEY_BYTES);
+    print_hex("", key, 11);
+    print_hex("row 3 after b3' packs to", file + 27, 8);
+    walnut_key held = walnut_read_key(file, sizeof file);
+    print_row("row 3 of Pub(S):", held.pair.matrix, 3);
+    if (held.answer != 0 || write_key(held.large, held.t_values, &held.pair, held.second, back, sizeof back) != 0)
+        return 1;
+    printf("that key, read and written back, is the same: %s\n", memcmp(back, file, sizeof file) == 0 ? "yes" : "no");
+    memcpy(back, key, sizeof back);
+    back[1] = 0;
+    back[2] = 32;
+    printf("128 bytes with q = 32: answer %u\n", walnut_read_key(back, sizeof back).answer);
+    return 0;
+}
+
+/* The field with 256 elements: verdicts. */
+static int larger_field(void)
+{
+    uint8_t key[WALNUT_LARGE_KEY_BYTES];
+    if (larger_keys(key) != 0)
+        return 1;
+    const uint8_t digest[WALNUT_LARGE_DIGEST_BYTES] = {0}, none[2] = {0x00, 0x00};
+    uint8_t signature[130] = {0x01, 0x00};
+    memset(signature + 2, 0x66, 128);
+    printf("plain key, 64 zero bytes, 01 00 and 128 bytes of 66: answer %u\n",
+           walnut_verify(key, sizeof key, digest, sizeof digest, signature, sizeof signature));
+    printf("plain key, 64 zero bytes, 00 00: answer %u\n",
+           walnut_verify(key, sizeof key, digest, sizeof digest, none, sizeof none));
+    printf("plain key, 32 zero bytes: answer %u\n",
+           walnut_verify(key, sizeof key, digest, WALNUT_DIGEST_BYTES, signature, sizeof signature));
+    return 0;
+}
+
 int main(void)
 {
-    printf("16 x 2 = %u\n", walnut_product(16, 2).value);
-    printf("31 x 31 = %u\n", walnut_product(31, 31).value);
-    printf("the reciprocal of 3 is %u\n", walnut_reciprocal(3).value);
+    printf("16 x 2 = %u\n", walnut_product(WALNUT_GF32, 16, 2).value);
+    printf("31 x 31 = %u\n", walnut_product(WALNUT_GF32, 31, 31).value);
+    printf("the reciprocal of 3 is %u\n", walnut_reciprocal(WALNUT_GF32, 3).value);
 
     static uint8_t out[WALNUT_WORD_BYTES];
     const uint8_t codes[7] = {0, 9, 2, 3, 12, 5, 14};
@@ -59,13 +107,13 @@ int main(void)
     printf("its letters: %zu\n", walnut_read_word(out, written.bytes).letters);
 
     walnut_pair start = walnut_start(), pair = start;
-    if (walnut_multiply(&pair, t_values, 2) != 0)
+    if (walnut_multiply(&pair, WALNUT_GF32, t_values, 2) != 0)
         return 1;
     print_row("row 3 after b3:", pair.matrix, 3);
     print_decimal("column 4 after b3:", pair.matrix + 24, 8);
 
     uint8_t key[WALNUT_KEY_BYTES];
-    if (write_key(t_values, &start, start.matrix, key) != 0)
+    if (write_key(WALNUT_GF32, t_values, &start, start.matrix, key, sizeof key) != 0)
         return 1;
     print_hex("plain T-values pack to", key + 3, 5);
     print_hex("the list 0 to 7 packs to", key + 44, 3);
@@ -73,7 +121,8 @@ int main(void)
     /* Pub(S) is the starting pair times b3, and Pub(S') has the matrix of b3's inverse */
     walnut_pair inverse = start;
     uint8_t file[WALNUT_KEY_BYTES], back[WALNUT_KEY_BYTES];
-    if (walnut_multiply(&inverse, t_values, 10) != 0 || write_key(t_values, &pair, inverse.matrix, file) != 0)
+    if (walnut_multiply(&inverse, WALNUT_GF32, t_values, 10) != 0 ||
+        write_key(WALNUT_GF32, t_values, &pair, inverse.matrix, file, sizeof file) != 0)
         return 1;
     print_hex("row 3 after b3 packs to", file + 18, 5);
     walnut_key held = walnut_read_key(file, sizeof file);
@@ -82,12 +131,13 @@ int main(void)
     print_row("row 3 of Pub(S):", held.pair.matrix, 3);
     print_decimal("list of Pub(S):", held.pair.labels, 8);
     print_row("row 3 of Pub(S'):", held.second, 3);
-    if (held.answer != 0 || write_key(held.t_values, &held.pair, held.second, back) != 0)
+    if (held.answer != 0 || write_key(held.large, held.t_values, &held.pair, held.second, back, sizeof back) != 0)
         return 1;
     printf("that key, read and written back, is the same: %s\n", memcmp(back, file, sizeof file) == 0 ? "yes" : "no");
     walnut_pair blank = start;
     memset(blank.matrix, 0, sizeof blank.matrix);
-    printf("a key with both matrices zero: answer %u\n", write_key(t_values, &blank, blank.matrix, back));
+    printf("a key with both matrices zero: answer %u\n",
+           write_key(WALNUT_GF32, t_values, &blank, blank.matrix, back, sizeof back));
 
     const uint8_t three[4] = {0x00, 0x03, 0x01, 0x00}, turn[5] = {0, 1, 0, 0, 3};
     written = walnut_rewrite(three, sizeof three, turn, sizeof turn, out, sizeof out);
@@ -115,5 +165,5 @@ int main(void)
            walnut_verify(key, sizeof key, digest, sizeof digest, signature, sizeof signature));
     printf("plain key, zero digest, 00 00: answer %u\n",
            walnut_verify(key, sizeof key, digest, sizeof digest, none, sizeof none));
-    return 0;
+    return larger_field();
 }

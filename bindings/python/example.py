@@ -1,14 +1,15 @@
-"""Worked slips: fields, words, pairs, keys, moves, cloaking and the verdict."""
+"""Worked slips: fields, words, pairs, keys, moves, cloaking and the verdict, at both strengths."""
 
 import walnut
+from walnut import GF32, GF256
 
 T_VALUES = [1, 1, 2, 3, 4, 5, 6, 7]
 ORDER = range(8)
 
 
-def write_key(t_values, pair, second):
-    """The key file of T-values, the pair Pub(S) and the matrix of Pub(S')."""
-    return walnut.write_key(t_values, pair.labels, walnut.file_entries(pair.matrix), walnut.file_entries(second))
+def write_key(field, t_values, pair, second):
+    """The key file over a field of T-values, the pair Pub(S) and the matrix of Pub(S')."""
+    return walnut.write_key(field, t_values, pair.labels, walnut.file_entries(pair.matrix), walnut.file_entries(second))
 
 
 def text(data):
@@ -31,28 +32,28 @@ def answer_of(function, *arguments):
     return 0
 
 
-print("16 x 2 =", walnut.product(16, 2))
-print("31 x 31 =", walnut.product(31, 31))
-print("the reciprocal of 3 is", walnut.reciprocal(3))
+print("16 x 2 =", walnut.product(GF32, 16, 2))
+print("31 x 31 =", walnut.product(GF32, 31, 31))
+print("the reciprocal of 3 is", walnut.reciprocal(GF32, 3))
 
 word = walnut.write_word([0, 9, 2, 3, 12, 5, 14])
 print("b1 b2' b3 b4 b5' b6 b7' is", text(word))
 print("its letters:", walnut.read_word(word))
 
 pair = walnut.Pair.start()
-pair.multiply(T_VALUES, 2)
+pair.multiply(GF32, T_VALUES, 2)
 print("row 3 after b3:", *row(pair.matrix, 3))
 print("column 4 after b3:", *pair.matrix[24:32])
 
 start = walnut.Pair.start()
-key = write_key(T_VALUES, start, start.matrix)
+key = write_key(GF32, T_VALUES, start, start.matrix)
 print("plain T-values pack to", text(key[3:8]))
 print("the list 0 to 7 packs to", text(key[44:47]))
 
 # Pub(S) is the starting pair times b3, and Pub(S') has the matrix of b3's inverse
 inverse = walnut.Pair.start()
-inverse.multiply(T_VALUES, 10)
-file = write_key(T_VALUES, pair, inverse.matrix)
+inverse.multiply(GF32, T_VALUES, 10)
+file = write_key(GF32, T_VALUES, pair, inverse.matrix)
 print("row 3 after b3 packs to", text(file[18:23]))
 held = walnut.read_key(file)
 print("a key with b3 and b3' read back:")
@@ -60,10 +61,10 @@ print("T-values", *held.t_values)
 print("row 3 of Pub(S):", *row(held.pair.matrix, 3))
 print("list of Pub(S):", *held.pair.labels)
 print("row 3 of Pub(S'):", *row(held.second, 3))
-print("that key, read and written back, is the same:", yes_or_no(write_key(held.t_values, held.pair, held.second) == file))
+print("that key, read and written back, is the same:", yes_or_no(write_key(held.field, held.t_values, held.pair, held.second) == file))
 blank = walnut.Pair.start()
 blank.matrix = bytes(64)
-print("a key with both matrices zero: answer", answer_of(write_key, T_VALUES, blank, blank.matrix))
+print("a key with both matrices zero: answer", answer_of(write_key, GF32, T_VALUES, blank, blank.matrix))
 
 moved = walnut.rewrite(bytes.fromhex("00 03 01 00"), bytes.fromhex("00 01 00 00 03"))
 print("00 03 01 00 with kind 3 at place 0 gives", text(moved))
@@ -78,3 +79,25 @@ print("00 00 with kind 16 at place 1: answer", answer_of(walnut.rewrite, bytes(2
 signature = bytes.fromhex("00 80") + bytes([0x66]) * 64
 print("plain key, zero digest, 00 80 and 64 bytes of 66: answer", walnut.verify(key, bytes(32), signature))
 print("plain key, zero digest, 00 00: answer", walnut.verify(key, bytes(32), bytes(2)))
+
+# the same over the field with 256 elements
+print("over 256 elements 128 x 2 =", walnut.product(GF256, 128, 2))
+print("16 x 2 =", walnut.product(GF256, 16, 2))
+print("the reciprocal of 3 is", walnut.reciprocal(GF256, 3))
+inverse = walnut.Pair.start()
+inverse.multiply(GF256, T_VALUES, 10)
+print("row 3 after b3':", *row(inverse.matrix, 3))
+
+key = write_key(GF256, T_VALUES, start, start.matrix)
+print(f"the plain key: {len(key)} bytes, from", text(key[:11]))
+file = write_key(GF256, T_VALUES, inverse, start.matrix)
+print("row 3 after b3' packs to", text(file[27:35]))
+held = walnut.read_key(file)
+print("row 3 of Pub(S):", *row(held.pair.matrix, 3))
+print("that key, read and written back, is the same:", yes_or_no(write_key(held.field, held.t_values, held.pair, held.second) == file))
+print("128 bytes with q = 32: answer", answer_of(walnut.read_key, key[:1] + bytes([0, 32]) + key[3:]))
+
+signature = bytes.fromhex("01 00") + bytes([0x66]) * 128
+print("plain key, 64 zero bytes, 01 00 and 128 bytes of 66: answer", walnut.verify(key, bytes(64), signature))
+print("plain key, 64 zero bytes, 00 00: answer", walnut.verify(key, bytes(64), bytes(2)))
+print("plain key, 32 zero bytes: answer", walnut.verify(key, bytes(32), signature))

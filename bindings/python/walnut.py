@@ -1,4 +1,4 @@
-"""Braid words, keys, E-multiplication and verdicts for WalnutDSA at strength 128, over the proved library walnut.
+"""Braid words, keys, E-multiplication and verdicts for WalnutDSA at strengths 128 and 256, over the proved library walnut.
 
 Every function takes any bytes. It gives its value, or raises Refusal with the number of the first question that the input fails; the verdict
 alone gives its number. A number that is no byte, or a fixed array of another length, is no input of the library's: it raises ValueError.
@@ -6,24 +6,39 @@ The shared library libwalnut.so is looked for in the folder that the environment
 """
 
 import ctypes
+import enum
 import os
 from ctypes import POINTER, Structure, c_bool, c_char_p, c_size_t, c_uint8
 
-KEY_BYTES = 83
 WORD_BYTES = 5002
+
+
+class Field(enum.Enum):
+    """One of the two fields: as it is named to the library, the bytes of a key file over it, and of the digest that goes with such a key."""
+
+    GF32 = (False, 83, 32)
+    GF256 = (True, 128, 64)
+
+    def __init__(self, large, key_bytes, digest_bytes):
+        self.large = large
+        self.key_bytes = key_bytes
+        self.digest_bytes = digest_bytes
+
+
+GF32, GF256 = Field.GF32, Field.GF256
 
 # what failed, for each answer
 TEXTS = {
     # answers.txt: begin; tools/answers writes these lines
     0: "nothing: the input was accepted",
-    1: "the key file is not 83 bytes",
+    1: "the key file is neither 83 nor 128 bytes",
     2: "the key is not for eight strands",
-    3: "the key is not for the field with 32 elements",
+    3: "the key's field does not go with its length: 32 elements with 83 bytes, 256 with 128",
     4: "a T-value, or the number whose reciprocal is asked for, is zero",
     5: "the first two T-values are not both 1",
     6: "the list of labels is not 0 to 7, each once",
     7: "filler bits of the key are not zero",
-    8: "the digest is not 32 bytes",
+    8: "the digest is not 32 or 64 bytes, or not the one of the two that goes with the key",
     9: "the word has fewer than 2 bytes",
     10: "the word's number of letters is over 10,000",
     11: "the word's length is not what its number of letters needs",
@@ -31,8 +46,8 @@ TEXTS = {
     13: "an odd word's last half byte is not 0",
     14: "the matrices differ: the word is no signature of this digest under this key",
     15: "the output has fewer than 5,002 bytes",
-    16: "the key's output has fewer than 83 bytes",
-    17: "a T-value, a matrix entry or an operand is over 31: no element of the field",
+    16: "the key's output has fewer than 83 bytes, or than 128 over the field with 256 elements",
+    17: "a T-value, matrix entry or operand is no element: not below 32, or 256 in the larger field",
     18: "the move list has fewer than 2 bytes",
     19: "the move list states more than 4,096 moves",
     20: "the move list's length is not 2 + 3 times its number of moves",
@@ -78,7 +93,7 @@ class _Pair(Structure):
 
 
 class _Key(Structure):
-    _fields_ = [("answer", c_uint8), ("t_values", c_uint8 * 8), ("pair", _Pair), ("second", c_uint8 * 64)]
+    _fields_ = [("answer", c_uint8), ("large", c_bool), ("t_values", c_uint8 * 8), ("pair", _Pair), ("second", c_uint8 * 64)]
 
 
 _BYTES = [c_char_p, c_size_t]
@@ -100,13 +115,13 @@ def _exported(name, result, *arguments):
     return function
 
 
-_product = _exported("product", _Element, c_uint8, c_uint8)
-_reciprocal = _exported("reciprocal", _Element, c_uint8)
+_product = _exported("product", _Element, c_bool, c_uint8, c_uint8)
+_reciprocal = _exported("reciprocal", _Element, c_bool, c_uint8)
 _start = _exported("start", _Pair)
-_multiply = _exported("multiply", c_uint8, POINTER(_Pair), c_char_p, c_uint8)
+_multiply = _exported("multiply", c_uint8, POINTER(_Pair), c_bool, c_char_p, c_uint8)
 _read_key = _exported("read_key", _Key, _BYTES)
 _file_entries = _exported("file_entries", None, c_char_p, POINTER(c_uint8))
-_write_key = _exported("write_key", c_uint8, c_char_p, c_char_p, c_char_p, c_char_p, _OUT)
+_write_key = _exported("write_key", c_uint8, c_bool, c_char_p, c_char_p, c_char_p, c_char_p, _OUT)
 _read_word = _exported("read_word", _Number, _BYTES)
 _write_word = _exported("write_word", _Number, _BYTES, _OUT)
 _encode_digest = _exported("encode_digest", _Number, _BYTES, _OUT)
@@ -140,6 +155,13 @@ def _byte(number, name):
     if not 0 <= number <= 255:
         raise ValueError(f"{name}: {number} is no byte")
     return number
+
+
+def _large(field):
+    """A field as it is named to the library."""
+    if not isinstance(field, Field):
+        raise ValueError(f"{field!r} is no field: GF32 or GF256 is")
+    return field.large
 
 
 def _slices(*parts):
@@ -181,10 +203,10 @@ class Pair:
     def _of(cls, pair):
         return cls(pair.matrix, pair.labels)
 
-    def multiply(self, t_values, letter):
-        """Multiplies a letter, given by its code, into the pair. On a refusal the pair is as it was."""
+    def multiply(self, field, t_values, letter):
+        """Multiplies a letter, given by its code, into the pair, over a field. On a refusal the pair is as it was."""
         lent = _Pair((c_uint8 * 64)(*self.matrix), (c_uint8 * 8)(*self.labels))
-        _granted(_multiply(lent, _fixed(t_values, 8, "t_values"), _byte(letter, "letter")))
+        _granted(_multiply(lent, _large(field), _fixed(t_values, 8, "t_values"), _byte(letter, "letter")))
         self.matrix, self.labels = bytes(lent.matrix), bytes(lent.labels)
 
     def __eq__(self, other):
@@ -196,30 +218,32 @@ class Pair:
 
 
 class Key:
-    """A key: its T-values, the pair Pub(S) and the matrix of Pub(S'), column by column too."""
+    """A key: its field, its T-values, the pair Pub(S) and the matrix of Pub(S'), column by column too."""
 
-    def __init__(self, t_values, pair, second):
+    def __init__(self, field, t_values, pair, second):
+        self.field = field
         self.t_values = t_values
         self.pair = pair
         self.second = second
 
 
-def product(a, b):
-    """The product of two elements of the field."""
-    element = _product(_byte(a, "a"), _byte(b, "b"))
+def product(field, a, b):
+    """The product of two elements of a field."""
+    element = _product(_large(field), _byte(a, "a"), _byte(b, "b"))
     return _granted(element.answer, element.value)
 
 
-def reciprocal(a):
-    """The reciprocal of an element other than zero."""
-    element = _reciprocal(_byte(a, "a"))
+def reciprocal(field, a):
+    """The reciprocal of an element other than zero of a field."""
+    element = _reciprocal(_large(field), _byte(a, "a"))
     return _granted(element.answer, element.value)
 
 
 def read_key(file):
     """The key that a key file holds."""
     key = _read_key(*_slices(file))
-    return _granted(key.answer, Key(bytes(key.t_values), Pair._of(key.pair), bytes(key.second)))
+    field = GF256 if key.large else GF32
+    return _granted(key.answer, Key(field, bytes(key.t_values), Pair._of(key.pair), bytes(key.second)))
 
 
 def file_entries(matrix):
@@ -229,11 +253,12 @@ def file_entries(matrix):
     return bytes(entries)
 
 
-def write_key(t_values, labels, first, second):
-    """The key file of T-values, labels and each matrix's 57 entries."""
-    out = (c_uint8 * KEY_BYTES)()
+def write_key(field, t_values, labels, first, second):
+    """The key file over a field of T-values, labels and each matrix's 57 entries."""
+    large = _large(field)
+    out = (c_uint8 * field.key_bytes)()
     lists = [_fixed(t_values, 8, "t_values"), _fixed(labels, 8, "labels"), _fixed(first, 57, "first"), _fixed(second, 57, "second")]
-    return _granted(_write_key(*lists, out, KEY_BYTES), bytes(out))
+    return _granted(_write_key(large, *lists, out, field.key_bytes), bytes(out))
 
 
 def read_word(file):
@@ -248,7 +273,7 @@ def write_word(codes):
 
 
 def encode_digest(digest):
-    """The braid of a digest, as a word file."""
+    """The braid of a digest, of 32 bytes or 64, as a word file."""
     return _word_written(_encode_digest, digest)
 
 
@@ -263,11 +288,11 @@ def rewrite(word, moves):
 
 
 def verify(key, digest, word):
-    """The verdict's answer: 0 if the word is a signature of the digest under the key, 14 if not, or the number of the refusal."""
+    """The verdict's answer, over the key's field: 0 if the word is a signature of the digest under the key, 14 if not, or the number of the refusal."""
     return _verify(*_slices(key, digest, word))
 
 
 def cloaks(key, labels, word):
-    """Does the word cloak for the list under the key's T-values?"""
+    """Does the word cloak for the list under the key's T-values, over the key's field?"""
     cloak = _cloaks(*_slices(key, labels, word))
     return _granted(cloak.answer, cloak.yes)

@@ -1,8 +1,8 @@
 //! Cloaking (document 01, "Verdict and cloaking"; source 003, definition 4.1).
 
-use crate::key::{key_answer, read_key};
+use crate::key::{read_key, Key};
 use crate::matrix::identity;
-use crate::pair::{carried, Labels, Pair, TValues};
+use crate::pair::{carried, Labels, Pair};
 use crate::questions::{first_no, first_refusal, is_each_label_once};
 use crate::word::{letters, word_answer};
 
@@ -18,17 +18,19 @@ fn list_answer(labels: &[u8]) -> u8 {
     first_no(&[(25, is_each_label_once)], labels)
 }
 
-/// Does the word with these letters bring the identity matrix with this list back unchanged, list included?
-fn leaves_unchanged(t_values: &TValues, labels: Labels, codes: &[u8]) -> bool {
+/// Does the word with these letters bring the identity matrix with this list back unchanged, list included, over the
+/// key's field?
+fn leaves_unchanged(key: &Key, labels: Labels, codes: &[u8]) -> bool {
     let pair = Pair { matrix: identity(), labels };
-    carried(&pair, t_values, codes) == pair
+    carried(key.field, &pair, &key.t_values, codes) == pair
 }
 
 /// Does the word cloak for the list under the key's T-values? Answers: the key's 1 to 7 and 26, then 25, then
 /// the word's 9 to 13.
 pub fn cloaks(key: &[u8], labels: &[u8], word: &[u8]) -> Cloak {
-    let answer = first_refusal(&[key_answer(key), list_answer(labels), word_answer(word)]);
+    let key = read_key(key);
+    let answer = first_refusal(&[key.answer, list_answer(labels), word_answer(word)]);
     let list = Labels::try_from(labels).ok().filter(|_| answer == 0);
-    let yes = list.is_some_and(|labels| leaves_unchanged(&read_key(key).t_values, labels, &letters(word)));
+    let yes = list.is_some_and(|labels| leaves_unchanged(&key, labels, &letters(word)));
     Cloak { answer, yes }
 }

@@ -2,12 +2,10 @@
 //! generators and in that nothing is cancelled between half bytes).
 
 use crate::bits;
+use crate::field::Field;
 use crate::letter::Letter;
 use crate::questions::{first_no, first_refusal};
 use crate::word::{room_answer, write_file, Written};
-
-/// The bytes of a digest.
-const DIGEST_BYTES: usize = 32;
 
 /// The codes of the braid of one half byte: the power p of the pure braid generator of source 003, section 9,
 /// equation (11), for strands l and 8. It is b7 down to b_(l+1), then b_l 2 × p times, then the inverses of
@@ -31,14 +29,23 @@ pub fn digest_braid(digest: &[u8]) -> Vec<u8> {
     bits::numbers(&bits::of_bytes(digest), 4).into_iter().flat_map(half_byte_braid).collect()
 }
 
-/// The answer to a digest's question: 8, or 0.
-pub fn digest_answer(digest: &[u8]) -> u8 {
-    first_no(&[(8, |length: &usize| *length == DIGEST_BYTES)], &digest.len())
+/// The answer to a digest's question under a key over this field: 8, or 0. It is to have the bytes that go with the
+/// key.
+pub fn digest_answer(field: Field, digest: &[u8]) -> u8 {
+    first_no(&[(8, |(field, bytes): &(Field, usize)| *bytes == field.digest_bytes())], &(field, digest.len()))
+}
+
+/// The answer to a digest's question where there is no key: 8, or 0. It is to have 32 bytes or 64.
+fn any_digest_answer(digest: &[u8]) -> u8 {
+    first_no(
+        &[(8, |bytes: &usize| Field::BOTH.iter().any(|field| *bytes == field.digest_bytes()))],
+        &digest.len(),
+    )
 }
 
 /// The encoder, used alone: writes the whole braid as a word file. Answers: 15, 8.
 pub fn encode_digest(digest: &[u8], out: &mut [u8]) -> Written {
-    match first_refusal(&[room_answer(out), digest_answer(digest)]) {
+    match first_refusal(&[room_answer(out), any_digest_answer(digest)]) {
         0 => write_file(&digest_braid(digest), out),
         answer => Written::refusal(answer),
     }

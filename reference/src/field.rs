@@ -1,25 +1,26 @@
-//! The field of 32 elements (document 01, "The field"; source 000, section 11.1).
+//! The two fields: of 32 elements (document 01, "The field"; source 000, section 11.1) and of 256 (document 02,
+//! section 7).
 //!
 //! A number's bits are the coefficients of a polynomial over two elements. Sums are exclusive or, and minus
-//! changes nothing. Products are taken of the polynomials and divided by x^5 + x^2 + 1; the rest is the
-//! product in the field.
+//! changes nothing. Products are taken of the polynomials and divided by the field's own polynomial; the rest is
+//! the product in the field.
 
-use crate::questions::first_no;
-use crate::FIELD_SIZE;
+use crate::questions::{first_no, Question};
 
-/// x^5 + x^2 + 1.
-const MODULUS: u16 = 0b10_0101;
+/// One of the two fields. All that differs between strengths 128 and 256 is read off it.
+#[derive(Clone, Copy, Debug, PartialEq, Eq, PartialOrd, Ord)]
+pub enum Field {
+    /// 32 elements: strength 128.
+    Gf32,
+    /// 256 elements: strength 256.
+    Gf256,
+}
 
-/// An element of the field with the answer to the questions put on the way to it.
+/// An element of a field with the answer to the questions put on the way to it.
 #[derive(Clone, Copy, Debug, PartialEq, Eq)]
 pub struct Element {
     pub answer: u8,
     pub value: u8,
-}
-
-/// Is the number an element, that is, below 32? (Question 17.)
-pub fn is_element(number: u8) -> bool {
-    number < FIELD_SIZE
 }
 
 /// The number of bits of a polynomial up to its highest term: its degree plus one, 0 for zero.
@@ -27,8 +28,8 @@ fn bit_length(polynomial: u16) -> u32 {
     u16::BITS - polynomial.leading_zeros()
 }
 
-/// The product of two polynomials of at most eight bits each: a shifted copy of the one for every term of
-/// the other.
+/// The product of two polynomials of at most sixteen bits in all, the second of at most eight: a shifted copy of
+/// the first for every term of the second.
 fn polynomial_product(left: u16, right: u16) -> u16 {
     (0..8).filter(|term| right >> term & 1 == 1).fold(0, |sum, term| sum ^ left << term)
 }
@@ -44,43 +45,96 @@ fn long_division(dividend: u16, divisor: u16) -> (u16, u16) {
     (quotient, rest)
 }
 
-/// The element that a polynomial leaves on division by the modulus.
-fn reduced(polynomial: u16) -> u8 {
-    let (_, rest) = long_division(polynomial, MODULUS);
-    rest as u8
-}
+impl Field {
+    pub const BOTH: [Field; 2] = [Field::Gf32, Field::Gf256];
 
-/// The product of two elements.
-pub fn times(left: u8, right: u8) -> u8 {
-    reduced(polynomial_product(left.into(), right.into()))
-}
-
-/// The reciprocal of an element other than zero, by Euclid's algorithm on the modulus and the element, which
-/// have no common divisor but 1. Each `(rest, factor)` satisfies rest = factor × element, up to a multiple of
-/// the modulus.
-pub fn inverse(element: u8) -> u8 {
-    let mut before = (MODULUS, 0);
-    let mut now = (u16::from(element), 1);
-    while now.0 != 0 {
-        let (quotient, rest) = long_division(before.0, now.0);
-        let factor = before.1 ^ polynomial_product(quotient, now.1);
-        (before, now) = (now, (rest, factor));
+    /// The field's polynomial: x^5 + x^2 + 1, or x^8 + x^4 + x^3 + x^2 + 1.
+    fn modulus(self) -> u16 {
+        match self {
+            Field::Gf32 => 0b10_0101,
+            Field::Gf256 => 0b1_0001_1101,
+        }
     }
-    reduced(before.1)
+
+    /// q, the number of its elements.
+    pub fn size(self) -> u16 {
+        match self {
+            Field::Gf32 => 32,
+            Field::Gf256 => 256,
+        }
+    }
+
+    /// The bytes of a key file over it.
+    pub fn key_bytes(self) -> usize {
+        match self {
+            Field::Gf32 => 83,
+            Field::Gf256 => 128,
+        }
+    }
+
+    /// The bytes of the digest that goes with such a key.
+    pub fn digest_bytes(self) -> usize {
+        match self {
+            Field::Gf32 => 32,
+            Field::Gf256 => 64,
+        }
+    }
+
+    /// Is the number an element, that is, below q? (Question 17.)
+    pub fn has(self, number: u8) -> bool {
+        u16::from(number) < self.size()
+    }
+
+    /// The element that a polynomial leaves on division by the field's.
+    fn reduced(self, polynomial: u16) -> u8 {
+        let (_, rest) = long_division(polynomial, self.modulus());
+        rest as u8
+    }
+
+    /// The product of two elements.
+    pub fn times(self, left: u8, right: u8) -> u8 {
+        self.reduced(polynomial_product(left.into(), right.into()))
+    }
+
+    /// The reciprocal of an element other than zero, by Euclid's algorithm on the field's polynomial and the
+    /// element, which have no common divisor but 1. Each `(rest, factor)` satisfies rest = factor × element, up to
+    /// a multiple of that polynomial.
+    pub fn inverse(self, element: u8) -> u8 {
+        let mut before = (self.modulus(), 0);
+        let mut now = (u16::from(element), 1);
+        while now.0 != 0 {
+            let (quotient, rest) = long_division(before.0, now.0);
+            let factor = before.1 ^ polynomial_product(quotient, now.1);
+            (before, now) = (now, (rest, factor));
+        }
+        self.reduced(before.1)
+    }
 }
+
+/// What product and reciprocal are asked about.
+struct Operands {
+    field: Field,
+    numbers: Vec<u8>,
+}
+
+/// The question whether all operands are elements.
+const ELEMENTS: Question<Operands> = (17, |of| of.numbers.iter().all(|number| of.field.has(*number)));
+
+/// The question whether none is zero.
+const NOT_ZERO: Question<Operands> = (4, |of| !of.numbers.contains(&0));
 
 /// The field product, used alone. Answer: 17.
-pub fn product(left: u8, right: u8) -> Element {
-    match first_no(&[(17, |pair: &[u8; 2]| pair.iter().all(|n| is_element(*n)))], &[left, right]) {
-        0 => Element { answer: 0, value: times(left, right) },
+pub fn product(field: Field, left: u8, right: u8) -> Element {
+    match first_no(&[ELEMENTS], &Operands { field, numbers: vec![left, right] }) {
+        0 => Element { answer: 0, value: field.times(left, right) },
         answer => Element { answer, value: 0 },
     }
 }
 
 /// The reciprocal, used alone. Answers: 17, then 4 for zero.
-pub fn reciprocal(element: u8) -> Element {
-    match first_no(&[(17, |n: &u8| is_element(*n)), (4, |n: &u8| *n != 0)], &element) {
-        0 => Element { answer: 0, value: inverse(element) },
+pub fn reciprocal(field: Field, element: u8) -> Element {
+    match first_no(&[ELEMENTS, NOT_ZERO], &Operands { field, numbers: vec![element] }) {
+        0 => Element { answer: 0, value: field.inverse(element) },
         answer => Element { answer, value: 0 },
     }
 }

@@ -1,19 +1,16 @@
-//! Key files (document 01, "Files"; document 02, section 1; source 000, sections 10 and 10.1).
+//! Key files (document 01, "Files"; document 02, sections 1 and 7; source 000, sections 10 and 10.1).
 //!
-//! 83 bytes, that is 664 bits: N, q, eight T-values, the matrix of Pub(S), its list, the matrix of Pub(S').
-//! A matrix is 57 entries of five bits and three bits of filler.
+//! N, q, eight T-values, the matrix of Pub(S), its list, the matrix of Pub(S'). A matrix is 57 entries of five bits and
+//! three bits of filler, or of eight bits without filler: 664 bits in all, that is 83 bytes, or 1,024, that is 128.
 
 use std::ops::Range;
 
 use crate::bits;
-use crate::field::is_element;
+use crate::field::Field;
 use crate::matrix::{at, is_invertible, Matrix};
 use crate::pair::{Labels, Pair, TValues};
 use crate::questions::{first_no, is_each_label_once, Question};
 use crate::STRANDS;
-
-/// The bytes of a key file.
-pub const KEY_BYTES: usize = 83;
 
 /// The entries of a matrix that a key file holds: rows 1 to 7 whole, then the last entry of row 8.
 pub const PACKED_ENTRIES: usize = 57;
@@ -21,47 +18,108 @@ pub const PACKED_ENTRIES: usize = 57;
 /// The entries of a matrix in the order of the file.
 pub type Entries = [u8; PACKED_ENTRIES];
 
-/// The bits of an element and of a label.
-const ELEMENT_BITS: usize = 5;
+/// The bits of a label.
 const LABEL_BITS: usize = 3;
 
-/// Where each part stands in the string of 664 bits.
+/// Where a file has N and q, in bits.
 const N: Range<usize> = 0..8;
 const Q: Range<usize> = 8..24;
-const T_VALUES: Range<usize> = 24..64;
-const FIRST: Range<usize> = 64..349;
-const FIRST_FILLER: Range<usize> = 349..352;
-const LABELS: Range<usize> = 352..376;
-const SECOND: Range<usize> = 376..661;
-const SECOND_FILLER: Range<usize> = 661..664;
 
-/// A key as read: T-values, Pub(S) and the matrix of Pub(S'); on a refusal all zeros but the answer.
+/// Where each further part stands in a file's string of bits, and how wide an element is.
+#[derive(Debug, PartialEq, Eq)]
+pub struct Layout {
+    pub element: usize,
+    pub t_values: Range<usize>,
+    pub first: Range<usize>,
+    pub first_filler: Range<usize>,
+    pub labels: Range<usize>,
+    pub second: Range<usize>,
+    pub second_filler: Range<usize>,
+}
+
+/// A key file over the field with 32 elements.
+const SMALL: Layout = Layout {
+    element: 5,
+    t_values: 24..64,
+    first: 64..349,
+    first_filler: 349..352,
+    labels: 352..376,
+    second: 376..661,
+    second_filler: 661..664,
+};
+
+/// A key file over the field with 256 elements: the filler has no bits.
+const LARGE: Layout = Layout {
+    element: 8,
+    t_values: 24..88,
+    first: 88..544,
+    first_filler: 544..544,
+    labels: 544..568,
+    second: 568..1_024,
+    second_filler: 1_024..1_024,
+};
+
+/// The layout of a key file over a field.
+pub fn layout(field: Field) -> &'static Layout {
+    match field {
+        Field::Gf32 => &SMALL,
+        Field::Gf256 => &LARGE,
+    }
+}
+
+/// A key as read: its field, T-values, Pub(S) and the matrix of Pub(S'); on a refusal the field with 32 elements, and
+/// all zeros but the answer.
 #[derive(Clone, Copy, Debug, PartialEq, Eq)]
 pub struct Key {
     pub answer: u8,
+    pub field: Field,
     pub t_values: TValues,
     pub pair: Pair,
     pub second: Matrix,
 }
 
+impl Key {
+    /// The key of a refusal.
+    pub fn refusal(answer: u8) -> Key {
+        Key { answer, field: Field::Gf32, t_values: [0; STRANDS], pair: Pair::ZEROS, second: [0; 64] }
+    }
+}
+
 /// The number in a part of the file.
-fn number(file: &[u8], part: Range<usize>) -> u16 {
-    bits::number(&bits::of_bytes(file)[part])
+fn number(file: &[u8], part: &Range<usize>) -> u16 {
+    bits::number(&bits::of_bytes(file)[part.clone()])
 }
 
 /// The equally wide numbers in a part of the file.
-fn numbers(file: &[u8], part: Range<usize>, width: usize) -> Vec<u8> {
-    bits::numbers(&bits::of_bytes(file)[part], width)
+fn numbers(file: &[u8], part: &Range<usize>, width: usize) -> Vec<u8> {
+    bits::numbers(&bits::of_bytes(file)[part.clone()], width)
 }
 
-/// The T-values of a file of 83 bytes.
+/// The field whose keys have the file's length, if there is one.
+fn field_of_length(file: &[u8]) -> Option<Field> {
+    Field::BOTH.into_iter().find(|field| field.key_bytes() == file.len())
+}
+
+/// The field of a file of 83 or 128 bytes.
+fn field_of(file: &[u8]) -> Field {
+    field_of_length(file).expect("the length was asked for before")
+}
+
+/// The T-values of a file of 83 or 128 bytes.
 fn t_values(file: &[u8]) -> Vec<u8> {
-    numbers(file, T_VALUES, ELEMENT_BITS)
+    let layout = layout(field_of(file));
+    numbers(file, &layout.t_values, layout.element)
 }
 
-/// The list of a file of 83 bytes.
+/// The list of such a file.
 fn labels(file: &[u8]) -> Vec<u8> {
-    numbers(file, LABELS, LABEL_BITS)
+    numbers(file, &layout(field_of(file)).labels, LABEL_BITS)
+}
+
+/// Are the filler bits of such a file zero, as far as it has any?
+fn is_filled_with_zeros(file: &[u8]) -> bool {
+    let layout = layout(field_of(file));
+    [&layout.first_filler, &layout.second_filler].into_iter().all(|filler| number(file, filler) == 0)
 }
 
 /// The places of the entries that a file holds, in its order.
@@ -79,21 +137,22 @@ pub fn key_matrix(entries: &[u8]) -> Matrix {
     matrix
 }
 
-/// The whole matrix in a part of a file of 83 bytes.
-fn matrix(file: &[u8], part: Range<usize>) -> Matrix {
-    key_matrix(&numbers(file, part, ELEMENT_BITS))
+/// The whole matrices of a file of 83 or 128 bytes.
+fn matrices(file: &[u8]) -> [Matrix; 2] {
+    let layout = layout(field_of(file));
+    [&layout.first, &layout.second].map(|part| key_matrix(&numbers(file, part, layout.element)))
 }
 
 /// The questions of a key file.
 const QUESTIONS: [Question<[u8]>; 8] = [
-    (1, |file| file.len() == KEY_BYTES),
-    (2, |file| number(file, N) == 8),
-    (3, |file| number(file, Q) == 32),
+    (1, |file| field_of_length(file).is_some()),
+    (2, |file| number(file, &N) == 8),
+    (3, |file| number(file, &Q) == field_of(file).size()),
     (4, |file| !t_values(file).contains(&0)),
     (5, |file| t_values(file)[..2] == [1, 1]),
     (6, |file| is_each_label_once(&labels(file))),
-    (7, |file| number(file, FIRST_FILLER) == 0 && number(file, SECOND_FILLER) == 0),
-    (26, |file| is_invertible(&matrix(file, FIRST)) && is_invertible(&matrix(file, SECOND))),
+    (7, |file| is_filled_with_zeros(file)),
+    (26, |file| matrices(file).iter().all(|matrix| is_invertible(field_of(file), matrix))),
 ];
 
 /// The answer to a key file's questions: 1 to 7, 26, or 0.
@@ -110,15 +169,13 @@ fn eight(numbers: &[u8]) -> [u8; STRANDS] {
 
 /// Reads a key. Answers: 1 to 7, 26.
 pub fn read_key(file: &[u8]) -> Key {
-    match key_answer(file) {
-        0 => Key {
-            answer: 0,
-            t_values: eight(&t_values(file)),
-            pair: Pair { matrix: matrix(file, FIRST), labels: eight(&labels(file)) },
-            second: matrix(file, SECOND),
-        },
-        answer => Key { answer, t_values: [0; STRANDS], pair: Pair::ZEROS, second: [0; 64] },
+    let answer = key_answer(file);
+    if answer != 0 {
+        return Key::refusal(answer);
     }
+    let [first, second] = matrices(file);
+    let pair = Pair { matrix: first, labels: eight(&labels(file)) };
+    Key { answer, field: field_of(file), t_values: eight(&t_values(file)), pair, second }
 }
 
 /// The entries that a key file has of a matrix: rows 1 to 7 whole, then the last entry of row 8.
@@ -133,23 +190,23 @@ pub fn file_entries(matrix: &Matrix) -> Entries {
 /// What the key writer is given, and the room that its output has.
 struct Parts {
     room: usize,
+    field: Field,
     t_values: TValues,
     labels: Labels,
-    first: Entries,
-    second: Entries,
+    matrices: [Entries; 2],
 }
 
 /// The questions of the key writer.
 const WRITER_QUESTIONS: [Question<Parts>; 6] = [
-    (16, |parts| parts.room >= KEY_BYTES),
+    (16, |parts| parts.room >= parts.field.key_bytes()),
     (17, |parts| {
-        let entries = parts.first.iter().chain(&parts.second);
-        parts.t_values.iter().chain(entries).all(|n| is_element(*n))
+        let entries = parts.matrices.iter().flatten();
+        parts.t_values.iter().chain(entries).all(|number| parts.field.has(*number))
     }),
     (4, |parts| !parts.t_values.contains(&0)),
     (5, |parts| parts.t_values[..2] == [1, 1]),
     (6, |parts| is_each_label_once(&parts.labels)),
-    (26, |parts| [parts.first, parts.second].iter().all(|entries| is_invertible(&key_matrix(entries)))),
+    (26, |parts| parts.matrices.iter().all(|entries| is_invertible(parts.field, &key_matrix(entries)))),
 ];
 
 /// Appends numbers of so many bits each.
@@ -159,37 +216,37 @@ fn push_all(bits: &mut Vec<bool>, numbers: &[u8], width: usize) {
     }
 }
 
-/// Appends a matrix: its 57 entries and three zero bits.
-fn push_matrix(bits: &mut Vec<bool>, entries: &Entries) {
-    push_all(bits, entries, ELEMENT_BITS);
-    bits::push(bits, 0, 3);
-}
-
-/// The 83 bytes of a key.
+/// The bytes of a key.
 fn key_file(parts: &Parts) -> Vec<u8> {
+    let layout = layout(parts.field);
+    let [first, second] = &parts.matrices;
     let mut bits = Vec::new();
     bits::push(&mut bits, 8, 8);
-    bits::push(&mut bits, 32, 16);
-    push_all(&mut bits, &parts.t_values, ELEMENT_BITS);
-    push_matrix(&mut bits, &parts.first);
+    bits::push(&mut bits, parts.field.size(), 16);
+    push_all(&mut bits, &parts.t_values, layout.element);
+    push_all(&mut bits, first, layout.element);
+    bits::push(&mut bits, 0, layout.first_filler.len() as u32);
     push_all(&mut bits, &parts.labels, LABEL_BITS);
-    push_matrix(&mut bits, &parts.second);
+    push_all(&mut bits, second, layout.element);
+    bits::push(&mut bits, 0, layout.second_filler.len() as u32);
     bits::to_bytes(&bits)
 }
 
-/// Writes a key into the output's first 83 bytes. Answers: 16, 17, 4, 5, 6, 26.
+/// Writes a key over the field that is named into the output's first 83 or 128 bytes. Answers: 16, 17, 4, 5, 6, 26.
 pub fn write_key(
+    field: Field,
     t_values: &TValues,
     labels: &Labels,
     first: &Entries,
     second: &Entries,
     out: &mut [u8],
 ) -> u8 {
-    let parts =
-        Parts { room: out.len(), t_values: *t_values, labels: *labels, first: *first, second: *second };
+    let matrices = [*first, *second];
+    let parts = Parts { room: out.len(), field, t_values: *t_values, labels: *labels, matrices };
     let answer = first_no(&WRITER_QUESTIONS, &parts);
     if answer == 0 {
-        out[..KEY_BYTES].copy_from_slice(&key_file(&parts));
+        let file = key_file(&parts);
+        out[..file.len()].copy_from_slice(&file);
     }
     answer
 }

@@ -1,14 +1,16 @@
 //! A second, independent road to the operations of document 01 ("Loan-slip signatures: braid words, keys and
-//! moves") and of document 02's first section, to run beside another implementation.
+//! moves") and of document 02's sections 1 and 7, to run beside another implementation.
 //!
 //! It is written for plainness, not speed, and takes another way wherever there is one:
 //!
-//! - the field multiplies the two bit strings as polynomials and divides by x^5 + x^2 + 1, without tables;
-//!   a reciprocal is found by Euclid's algorithm on polynomials ([`field`]);
+//! - the fields multiply the two bit strings as polynomials and divide by x^5 + x^2 + 1 or by
+//!   x^8 + x^4 + x^3 + x^2 + 1, without tables; a reciprocal is found by Euclid's algorithm on polynomials
+//!   ([`field`]);
 //! - whether a matrix has an inverse is asked of its determinant, worked out by expansion, without elimination
 //!   ([`matrix`]);
 //! - a letter acts on a pair as a whole coloured Burau matrix, by the general matrix product ([`pair`]);
-//! - files are packed and unpacked over an explicit string of bits ([`bits`]);
+//! - files are packed and unpacked over an explicit string of bits ([`bits`]), where each part of a key of either
+//!   size has its place ([`key`]);
 //! - free reduction removes the first cancelling neighbours, again and again ([`reduce`]);
 //! - a move splices other letters into a run of letters, and the next one starts from what it left
 //!   ([`rewrite`](mod@rewrite));
@@ -20,11 +22,12 @@
 //!
 //! The functions that mirror the exported interface are gathered here; each layer's own definitions stand in
 //! its module. The [`verdict`], the rewriter, [`cloak`] and [`reduce`] stand above [`pair`], [`key`],
-//! [`digest`] and [`word`]. What tests need besides, such as matrices of a chosen rank, slips that the verdict
-//! accepts and move lists that the rewriter accepts, is in [`testkit`].
+//! [`digest`] and [`word`], and the [`desk`] above the verdict. What tests need besides, such as matrices of a
+//! chosen rank, slips that the verdict accepts and move lists that the rewriter accepts, is in [`testkit`].
 
 pub mod bits;
 pub mod cloak;
+pub mod desk;
 pub mod digest;
 pub mod field;
 pub mod key;
@@ -40,7 +43,7 @@ pub mod word;
 
 pub use cloak::{cloaks, Cloak};
 pub use digest::encode_digest;
-pub use field::{product, reciprocal, Element};
+pub use field::{product, reciprocal, Element, Field};
 pub use key::{file_entries, read_key, write_key, Key};
 pub use matrix::{matrix_product, Matrix};
 pub use pair::{multiply, start, Pair};
@@ -51,6 +54,3 @@ pub use word::{code_part, letter_at, letters, read_word, write_word, Word, WordR
 
 /// N, the number of strands (document 01, head).
 pub const STRANDS: usize = 8;
-
-/// q, the number of field elements (document 01, head).
-pub const FIELD_SIZE: u8 = 32;

@@ -1,6 +1,6 @@
-//! 8 by 8 matrices over the field, row by row in one run of 64 entries.
+//! 8 by 8 matrices over a field, row by row in one run of 64 entries.
 
-use crate::field::times;
+use crate::field::Field;
 use crate::STRANDS;
 
 /// Entry (r, c), both counted from 1, stands at 8 × (r - 1) + (c - 1).
@@ -21,12 +21,12 @@ pub fn identity() -> Matrix {
 }
 
 /// The matrix product: row by column, with the field's sums and products.
-pub fn matrix_product(left: &Matrix, right: &Matrix) -> Matrix {
+pub fn matrix_product(field: Field, left: &Matrix, right: &Matrix) -> Matrix {
     let mut result = [0; 64];
     for row in 1..=STRANDS {
         for column in 1..=STRANDS {
             result[at(row, column)] = (1..=STRANDS)
-                .map(|k| times(left[at(row, k)], right[at(k, column)]))
+                .map(|k| field.times(left[at(row, k)], right[at(k, column)]))
                 .fold(0, |sum, term| sum ^ term);
         }
     }
@@ -36,7 +36,7 @@ pub fn matrix_product(left: &Matrix, right: &Matrix) -> Matrix {
 /// The determinant, by expansion: the first rows, on as many columns, have the sum over these columns of the last of
 /// those rows' entry there times the determinant of the rows before it on the other columns; signs change nothing.
 /// A set of columns is a number whose bits are the columns, and all sets are worked out, smaller ones first.
-pub fn determinant(matrix: &Matrix) -> u8 {
+pub fn determinant(field: Field, matrix: &Matrix) -> u8 {
     let mut minors = [0; 1 << STRANDS];
     minors[0] = 1;
     for columns in 1_usize..1 << STRANDS {
@@ -44,12 +44,12 @@ pub fn determinant(matrix: &Matrix) -> u8 {
         minors[columns] = (1..=STRANDS)
             .map(|column| (column, columns & !(1 << (column - 1))))
             .filter(|(_, others)| *others != columns)
-            .fold(0, |sum, (column, others)| sum ^ times(matrix[at(row, column)], minors[others]));
+            .fold(0, |sum, (column, others)| sum ^ field.times(matrix[at(row, column)], minors[others]));
     }
     minors[(1 << STRANDS) - 1]
 }
 
 /// Can the matrix be inverted? (Question 26.) Over a field that is so exactly where its determinant is not 0.
-pub fn is_invertible(matrix: &Matrix) -> bool {
-    determinant(matrix) != 0
+pub fn is_invertible(field: Field, matrix: &Matrix) -> bool {
+    determinant(field, matrix) != 0
 }

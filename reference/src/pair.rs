@@ -4,7 +4,7 @@
 //! times a letter is (M · CB, σ · σ_i), where CB is the letter's matrix with t_k taken as the T-value of the
 //! label σ(k), and σ_i changes i and i + 1. Document 01 says the same by columns.
 
-use crate::field::{inverse, is_element};
+use crate::field::Field;
 use crate::letter::{is_letter, letters_of, Letter};
 use crate::matrix::{at, identity, matrix_product, Matrix};
 use crate::questions::{first_no, is_each_label_once, Question};
@@ -41,11 +41,11 @@ fn permuted(t_values: &TValues, labels: &Labels) -> TValues {
 /// The coloured Burau matrix of a letter (source 003, section 2, equations (2) and (3) and the one after
 /// them), for values t_1 to t_8. It is the identity but for row i, which holds t_i, t_i, 1 for b_i, and
 /// 1, 1/t_(i+1), 1/t_(i+1) for its inverse, in columns i - 1, i, i + 1. For i = 1 the first of the three is
-/// left out. Minus signs change nothing in this field.
-pub fn coloured_burau(letter: Letter, t: &TValues) -> Matrix {
+/// left out. Minus signs change nothing in either field.
+pub fn coloured_burau(field: Field, letter: Letter, t: &TValues) -> Matrix {
     let i = letter.generator;
     let (left, middle, right) = if letter.inverse {
-        let s = inverse(t[i]);
+        let s = field.inverse(t[i]);
         (1, s, s)
     } else {
         (t[i - 1], t[i - 1], 1)
@@ -72,39 +72,40 @@ fn composed(labels: &Labels, places: [usize; STRANDS]) -> Labels {
 }
 
 /// A pair times one letter.
-pub fn e_multiplied(pair: &Pair, t_values: &TValues, letter: Letter) -> Pair {
-    let burau = coloured_burau(letter, &permuted(t_values, &pair.labels));
+pub fn e_multiplied(field: Field, pair: &Pair, t_values: &TValues, letter: Letter) -> Pair {
+    let burau = coloured_burau(field, letter, &permuted(t_values, &pair.labels));
     Pair {
-        matrix: matrix_product(&pair.matrix, &burau),
+        matrix: matrix_product(field, &pair.matrix, &burau),
         labels: composed(&pair.labels, transposition(letter.generator)),
     }
 }
 
 /// A pair carried by a word: times its letters, first to last. The codes are letters.
-pub fn carried(pair: &Pair, t_values: &TValues, codes: &[u8]) -> Pair {
-    letters_of(codes).into_iter().fold(*pair, |pair, letter| e_multiplied(&pair, t_values, letter))
+pub fn carried(field: Field, pair: &Pair, t_values: &TValues, codes: &[u8]) -> Pair {
+    letters_of(codes).into_iter().fold(*pair, |pair, letter| e_multiplied(field, &pair, t_values, letter))
 }
 
 /// What the multiplier is asked about.
 struct Step {
     pair: Pair,
+    field: Field,
     t_values: TValues,
     letter: u8,
 }
 
 /// The questions of the multiplier, used alone.
 const QUESTIONS: [Question<Step>; 4] = [
-    (17, |step| step.t_values.iter().chain(&step.pair.matrix).all(|n| is_element(*n))),
+    (17, |step| step.t_values.iter().chain(&step.pair.matrix).all(|n| step.field.has(*n))),
     (4, |step| !step.t_values.contains(&0)),
     (6, |step| is_each_label_once(&step.pair.labels)),
     (12, |step| is_letter(step.letter)),
 ];
 
-/// The multiplier, used alone: one letter changes the lent pair. Answers: 17, 4, 6, 12.
-pub fn multiply(pair: &mut Pair, t_values: &TValues, letter: u8) -> u8 {
-    let answer = first_no(&QUESTIONS, &Step { pair: *pair, t_values: *t_values, letter });
+/// The multiplier, used alone: one letter changes the lent pair, over the field that is named. Answers: 17, 4, 6, 12.
+pub fn multiply(pair: &mut Pair, field: Field, t_values: &TValues, letter: u8) -> u8 {
+    let answer = first_no(&QUESTIONS, &Step { pair: *pair, field, t_values: *t_values, letter });
     if answer == 0 {
-        *pair = carried(pair, t_values, &[letter]);
+        *pair = carried(field, pair, t_values, &[letter]);
     }
     answer
 }

@@ -1,7 +1,7 @@
 //! The verdict (document 01, "Verdict and cloaking"; source 000, section 6).
 
 use crate::digest::{digest_answer, digest_braid};
-use crate::key::{key_answer, read_key, Key};
+use crate::key::{read_key, Key};
 use crate::matrix::{matrix_product, Matrix};
 use crate::pair::{carried, start};
 use crate::questions::{first_no, first_refusal};
@@ -9,27 +9,28 @@ use crate::word::{letters, word_answer};
 
 /// The matrix that the signature's letters reach from Pub(S).
 fn signed(key: &Key, codes: &[u8]) -> Matrix {
-    carried(&key.pair, &key.t_values, codes).matrix
+    carried(key.field, &key.pair, &key.t_values, codes).matrix
 }
 
 /// The matrix that the digest's braid reaches from the starting pair, times the matrix of Pub(S').
 fn target(key: &Key, digest: &[u8]) -> Matrix {
-    let reached = carried(&start(), &key.t_values, &digest_braid(digest)).matrix;
-    matrix_product(&reached, &key.second)
+    let reached = carried(key.field, &start(), &key.t_values, &digest_braid(digest)).matrix;
+    matrix_product(key.field, &reached, &key.second)
 }
 
 /// The answer of the verdict's own question on an accepted key, digest and word: 14, or 0. Lists are not
 /// compared.
-fn equality_answer(key: &[u8], digest: &[u8], word: &[u8]) -> u8 {
-    let key = read_key(key);
-    let matrices = [signed(&key, &letters(word)), target(&key, digest)];
+fn equality_answer(key: &Key, digest: &[u8], word: &[u8]) -> u8 {
+    let matrices = [signed(key, &letters(word)), target(key, digest)];
     first_no(&[(14, |matrices: &[Matrix; 2]| matrices[0] == matrices[1])], &matrices)
 }
 
-/// The verdict on a slip. Answers: the key's 1 to 7 and 26, the digest's 8, the word's 9 to 13, then 14.
+/// The verdict on a slip, over the key's field. Answers: the key's 1 to 7 and 26, the digest's 8, the word's 9 to 13,
+/// then 14.
 pub fn verify(key: &[u8], digest: &[u8], word: &[u8]) -> u8 {
-    match first_refusal(&[key_answer(key), digest_answer(digest), word_answer(word)]) {
-        0 => equality_answer(key, digest, word),
+    let key = read_key(key);
+    match first_refusal(&[key.answer, digest_answer(key.field, digest), word_answer(word)]) {
+        0 => equality_answer(&key, digest, word),
         answer => answer,
     }
 }

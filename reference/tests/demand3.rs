@@ -10,7 +10,7 @@ use reference::rewrite::{move_answer, moves, Move, MOST_MOVES};
 use reference::testkit::matrices::has_key_shape;
 use reference::testkit::{accepted_slip, exponent_sum, inverse_matrix, move_list, Slip};
 use reference::word::word_file;
-use reference::{free_reduce, letters, read_key, read_word, rewrite, verify};
+use reference::{free_reduce, letters, read_key, read_word, rewrite, verify, Field};
 
 const ROUNDS: usize = 300;
 
@@ -25,12 +25,14 @@ fn rewriting(random: &mut Random, codes: &[u8], most: usize) -> (Vec<u8>, Vec<u8
     (list, file)
 }
 
-/// The new word is accepted, carries a random pair where the old one did, and has its exponent sum.
+/// The new word is accepted, carries a random pair over either field where the old one did, and has its exponent sum.
 fn assert_same_braid(random: &mut Random, old: &[u8], file: &[u8]) {
     assert_eq!(read_word(file).answer, 0);
     let new = letters(file);
-    let (pair, t_values) = (random.pair(), random.t_values());
-    assert_eq!(carried(&pair, &t_values, old), carried(&pair, &t_values, &new));
+    for field in Field::BOTH {
+        let (pair, t_values) = (random.pair(field), random.t_values(field));
+        assert_eq!(carried(field, &pair, &t_values, old), carried(field, &pair, &t_values, &new));
+    }
     assert_eq!(exponent_sum(old), exponent_sum(&new));
 }
 
@@ -69,31 +71,34 @@ fn long_words_and_long_lists() {
 #[test]
 fn verdicts_stay() {
     let mut random = Random::seeded(33);
-    let mut answers = [0; 15];
-    for round in 0..60 {
-        let length = random.within(0, 50);
-        let codes = random.tangled_word(length);
-        let slip = accepted(&mut random, &codes);
-        let judged = if round % 2 == 0 { codes } else { random.tangled_word(length) };
-        let before = verify(&slip.key, &slip.digest, &word_file(&judged));
-        assert!(before == 0 || round % 2 == 1);
-        let (_, file) = rewriting(&mut random, &judged, 60);
-        assert_eq!(verify(&slip.key, &slip.digest, &file), before);
-        let reduced = output(|out| free_reduce(&file, out));
-        assert_eq!(verify(&slip.key, &slip.digest, &reduced), before);
-        answers[usize::from(before)] += 1;
+    for field in Field::BOTH {
+        let mut answers = [0; 15];
+        for round in 0..60 {
+            let length = random.within(0, 50);
+            let codes = random.tangled_word(length);
+            let slip = accepted(&mut random, field, &codes);
+            let judged = if round % 2 == 0 { codes } else { random.tangled_word(length) };
+            let before = verify(&slip.key, &slip.digest, &word_file(&judged));
+            assert!(before == 0 || round % 2 == 1);
+            let (_, file) = rewriting(&mut random, &judged, 60);
+            assert_eq!(verify(&slip.key, &slip.digest, &file), before);
+            let reduced = output(|out| free_reduce(&file, out));
+            assert_eq!(verify(&slip.key, &slip.digest, &reduced), before);
+            answers[usize::from(before)] += 1;
+        }
+        assert_eq!(answers[0] + answers[14], 60);
+        assert!(answers[14] > 20);
     }
-    assert_eq!(answers[0] + answers[14], 60);
-    assert!(answers[14] > 20);
 }
 
 /// A key, digest and word chosen freely, not solved for: the verdict is 14 before and after.
 #[test]
 fn verdicts_of_free_keys_stay() {
     let mut random = Random::seeded(34);
-    for _ in 0..20 {
-        let key = random.invertible_key();
-        let (digest, codes) = (random.digest(), random.tangled_word(20));
+    for round in 0..40 {
+        let field = Field::BOTH[round % 2];
+        let key = random.invertible_key(field);
+        let (digest, codes) = (random.digest(field), random.tangled_word(20));
         let before = verify(&key, &digest, &word_file(&codes));
         let (_, file) = rewriting(&mut random, &codes, 40);
         assert_eq!((before, verify(&key, &digest, &file)), (14, 14));
@@ -101,9 +106,9 @@ fn verdicts_of_free_keys_stay() {
 }
 
 /// An accepted slip with a random digest.
-fn accepted(random: &mut Random, codes: &[u8]) -> Slip {
-    let digest = random.digest();
-    random.accepted_slip(&digest, codes)
+fn accepted(random: &mut Random, field: Field, codes: &[u8]) -> Slip {
+    let digest = random.digest(field);
+    random.accepted_slip(field, &digest, codes)
 }
 
 // ---- The means of these tests ----
@@ -113,16 +118,17 @@ fn accepted(random: &mut Random, codes: &[u8]) -> Slip {
 #[test]
 fn solved_slips_are_accepted() {
     let mut random = Random::seeded(36);
-    for _ in 0..20 {
-        let (t_values, codes, digest) = (random.key_t_values(), random.word(30), random.digest());
-        let pair = random.invertible_key_pair();
-        assert!(has_key_shape(&carried(&pair, &t_values, &codes).matrix));
-        let slip = accepted_slip(&t_values, &pair, &digest, &codes);
+    for round in 0..40 {
+        let field = Field::BOTH[round % 2];
+        let (t_values, codes, digest) = (random.key_t_values(field), random.word(30), random.digest(field));
+        let pair = random.invertible_key_pair(field);
+        assert!(has_key_shape(&carried(field, &pair, &t_values, &codes).matrix));
+        let slip = accepted_slip(field, &t_values, &pair, &digest, &codes);
         let key = read_key(&slip.key);
-        assert_eq!((key.answer, key.t_values, key.pair), (0, t_values, pair));
-        assert!(inverse_matrix(&key.second).is_some());
+        assert_eq!((key.answer, key.field, key.t_values, key.pair), (0, field, t_values, pair));
+        assert!(inverse_matrix(field, &key.second).is_some());
         assert_eq!(verify(&slip.key, &slip.digest, &slip.word), 0);
-        assert_eq!(verify(&slip.key, &random.digest(), &slip.word), 14);
+        assert_eq!(verify(&slip.key, &random.digest(field), &slip.word), 14);
     }
 }
 

@@ -1,23 +1,27 @@
 //! Which matrices have an inverse (document 02, section 1): determinants beside elimination, and keys with matrices of
-//! every rank.
+//! every rank. All of it over both fields (section 7).
 
 mod common;
 
-use common::{blank_key, hex, key_with_matrices, plain_key, Random, PLAIN_LIST, PLAIN_T_VALUES};
-use reference::field::times;
+use common::{blank_key_over, hex, key_with_matrices, plain_key_over, Random, PLAIN_LIST, PLAIN_T_VALUES};
 use reference::matrix::{at, determinant, identity, is_invertible};
 use reference::testkit::inverse_matrix;
 use reference::testkit::matrices::{has_key_shape, rank};
 use reference::{
-    cloaks, file_entries, matrix_product, read_key, verify, write_key, Cloak, Key, Matrix, Pair,
+    cloaks, file_entries, matrix_product, read_key, verify, write_key, Cloak, Field, Key, Matrix, Pair,
 };
 
 const ROUNDS: usize = 300;
 
 /// A matrix of any entries, with many zeros or few.
-fn matrix(random: &mut Random) -> Matrix {
+fn matrix(random: &mut Random, field: Field) -> Matrix {
     let few = random.one_in(2);
-    random.elements().map(|entry: u8| if few && !random.one_in(4) { 0 } else { entry })
+    random.elements(field).map(|entry: u8| if few && !random.one_in(4) { 0 } else { entry })
+}
+
+/// So many rounds, with a field each, by turns.
+fn rounds(count: usize) -> impl Iterator<Item = (usize, Field)> {
+    (0..count).flat_map(|round| Field::BOTH.map(|field| (round, field)))
 }
 
 /// The identity with a square of other entries at its end, given row by row.
@@ -37,26 +41,29 @@ fn with_square<const SIZE: usize>(rows: [[u8; SIZE]; SIZE]) -> Matrix {
 #[test]
 fn small_determinants() {
     let mut random = Random::seeded(41);
-    for _ in 0..ROUNDS {
-        let [a, b, c, d, e, f, g, h, i] = random.elements::<9>();
-        assert_eq!(determinant(&with_square([[a, b], [c, d]])), times(a, d) ^ times(b, c));
+    for (_, field) in rounds(ROUNDS) {
+        let times = |left, right| field.times(left, right);
+        let [a, b, c, d, e, f, g, h, i] = random.elements::<9>(field);
+        assert_eq!(determinant(field, &with_square([[a, b], [c, d]])), times(a, d) ^ times(b, c));
         let terms = [(a, e, i), (b, f, g), (c, d, h), (c, e, g), (b, d, i), (a, f, h)];
         let sum = terms.into_iter().fold(0, |sum, (x, y, z)| sum ^ times(times(x, y), z));
-        assert_eq!(determinant(&with_square([[a, b, c], [d, e, f], [g, h, i]])), sum);
+        assert_eq!(determinant(field, &with_square([[a, b, c], [d, e, f], [g, h, i]])), sum);
     }
 }
 
 #[test]
 fn determinants_of_plain_matrices() {
     let mut random = Random::seeded(42);
-    assert_eq!((determinant(&identity()), determinant(&[0; 64]), determinant(&[7; 64])), (1, 0, 0));
-    for _ in 0..ROUNDS {
+    for (_, field) in rounds(ROUNDS) {
+        let determinant = |matrix: &Matrix| determinant(field, matrix);
+        assert_eq!((determinant(&identity()), determinant(&[0; 64]), determinant(&[7; 64])), (1, 0, 0));
         assert_eq!(determinant(&random.permutation_matrix()), 1);
-        let mut triangular = random.elements();
+        let mut triangular = random.elements(field);
         for (row, column) in (2..=8).flat_map(|row| (1..row).map(move |column| (row, column))) {
             triangular[at(row, column)] = 0;
         }
-        let diagonal = (1..=8).map(|place| triangular[at(place, place)]).fold(1, times);
+        let diagonal = (1..=8).map(|place| triangular[at(place, place)]);
+        let diagonal = diagonal.fold(1, |product, entry| field.times(product, entry));
         assert_eq!(determinant(&triangular), diagonal);
     }
 }
@@ -64,10 +71,11 @@ fn determinants_of_plain_matrices() {
 #[test]
 fn products_multiply_determinants() {
     let mut random = Random::seeded(43);
-    for _ in 0..ROUNDS {
-        let (left, right) = (matrix(&mut random), matrix(&mut random));
-        let product = matrix_product(&left, &right);
-        assert_eq!(determinant(&product), times(determinant(&left), determinant(&right)));
+    for (_, field) in rounds(ROUNDS) {
+        let (left, right) = (matrix(&mut random, field), matrix(&mut random, field));
+        let product = matrix_product(field, &left, &right);
+        let [left, right] = [left, right].map(|matrix| determinant(field, &matrix));
+        assert_eq!(determinant(field, &product), field.times(left, right));
     }
 }
 
@@ -76,43 +84,46 @@ fn products_multiply_determinants() {
 #[test]
 fn determinants_agree_with_elimination() {
     let mut random = Random::seeded(44);
-    let mut ranks = [0; 9];
-    for round in 0..10 * ROUNDS {
+    let mut ranks = [[0; 9]; 2];
+    for (round, field) in rounds(10 * ROUNDS) {
         let matrix = match round % 3 {
-            0 => matrix(&mut random),
-            1 => random.key_matrix_of_rank(round / 3 % 9),
-            _ => random.sparse_key_matrix(),
+            0 => matrix(&mut random, field),
+            1 => random.key_matrix_of_rank(field, round / 3 % 9),
+            _ => random.sparse_key_matrix(field),
         };
-        let inverse = inverse_matrix(&matrix);
-        assert_eq!(is_invertible(&matrix), inverse.is_some());
-        assert_eq!(rank(&matrix) == 8, inverse.is_some());
-        ranks[rank(&matrix)] += 1;
+        let (inverse, rank) = (inverse_matrix(field, &matrix), rank(field, &matrix));
+        assert_eq!(is_invertible(field, &matrix), inverse.is_some());
+        assert_eq!(rank == 8, inverse.is_some());
+        ranks[usize::from(field == Field::Gf256)][rank] += 1;
         if let Some(inverse) = inverse {
-            assert_eq!(matrix_product(&matrix, &inverse), identity());
-            assert_eq!(matrix_product(&inverse, &matrix), identity());
+            assert_eq!(matrix_product(field, &matrix, &inverse), identity());
+            assert_eq!(matrix_product(field, &inverse, &matrix), identity());
         }
     }
-    assert!(ranks.iter().all(|matrices| *matrices > ROUNDS / 10), "{ranks:?}");
-    assert_eq!((rank(&identity()), rank(&[0; 64]), rank(&[7; 64])), (8, 0, 1));
+    assert!(ranks.iter().flatten().all(|matrices| *matrices > ROUNDS / 10), "{ranks:?}");
+    for field in Field::BOTH {
+        assert_eq!((rank(field, &identity()), rank(field, &[0; 64]), rank(field, &[7; 64])), (8, 0, 1));
+    }
 }
 
 // ---- Keys ----
 
 /// The answer to a key with these matrices, which reader, writer, verdict and cloaking give alike: on 26 the writer
-/// leaves its output, and what is read is zeros.
-fn answer(first: &Matrix, second: &Matrix) -> u8 {
-    let key = key_with_matrices(first, second);
-    let mut out = vec![0xAA; 83];
+/// leaves its output, and what is read is zeros and names the field with 32 elements.
+fn answer(field: Field, first: &Matrix, second: &Matrix) -> u8 {
+    let key = key_with_matrices(field, first, second);
+    let mut out = vec![0xAA; key.len()];
     let (entries, others) = (file_entries(first), file_entries(second));
-    let answer = write_key(&PLAIN_T_VALUES, &PLAIN_LIST, &entries, &others, &mut out);
+    let answer = write_key(field, &PLAIN_T_VALUES, &PLAIN_LIST, &entries, &others, &mut out);
     let read = read_key(&key);
     if answer == 0 {
         let pair = Pair { matrix: *first, labels: PLAIN_LIST };
-        assert_eq!(read, Key { answer, t_values: PLAIN_T_VALUES, pair, second: *second });
+        assert_eq!(read, Key { answer, field, t_values: PLAIN_T_VALUES, pair, second: *second });
         assert_eq!(out, key);
     } else {
-        assert_eq!(read, Key { answer, t_values: [0; 8], pair: Pair::ZEROS, second: [0; 64] });
-        assert_eq!(out, [0xAA; 83]);
+        let (field, pair) = (Field::Gf32, Pair::ZEROS);
+        assert_eq!(read, Key { answer, field, t_values: [0; 8], pair, second: [0; 64] });
+        assert_eq!(out, vec![0xAA; key.len()]);
         assert_eq!(verify(&key, &[], &[]), answer);
         assert_eq!(cloaks(&key, &[], &[]), Cloak { answer, yes: false });
     }
@@ -125,17 +136,17 @@ fn answer(first: &Matrix, second: &Matrix) -> u8 {
 #[test]
 fn keys_of_every_rank() {
     let mut random = Random::seeded(45);
-    for wanted in 0..=8 {
+    for (wanted, field) in rounds(9) {
         let expected = if wanted == 8 { 0 } else { 26 };
         let mut last_entries = [0; 2];
         for _ in 0..ROUNDS / 10 {
-            let (matrix, other) = (random.key_matrix_of_rank(wanted), random.key_matrix_of_rank(wanted));
-            let good = random.invertible_key_matrix();
-            assert!(has_key_shape(&matrix) && rank(&matrix) == wanted);
-            assert_eq!(answer(&matrix, &good), expected);
-            assert_eq!(answer(&good, &matrix), expected);
-            assert_eq!(answer(&matrix, &other), expected);
-            assert_eq!(answer(&good, &good), 0);
+            let [matrix, other] = [0; 2].map(|_| random.key_matrix_of_rank(field, wanted));
+            let good = random.invertible_key_matrix(field);
+            assert!(has_key_shape(&matrix) && rank(field, &matrix) == wanted);
+            assert_eq!(answer(field, &matrix, &good), expected);
+            assert_eq!(answer(field, &good, &matrix), expected);
+            assert_eq!(answer(field, &matrix, &other), expected);
+            assert_eq!(answer(field, &good, &good), 0);
             last_entries[usize::from(matrix[at(8, 8)] != 0)] += 1;
         }
         let [zero, other] = last_entries.map(|matrices| matrices > 0);
@@ -148,11 +159,16 @@ fn keys_of_every_rank() {
 fn identity_with_one_entry_changed() {
     let places = (1..=7).flat_map(|row| (1..=8).map(move |column| (row, column)));
     for (row, column) in places.chain([(8, 8)]) {
-        for entry in [0, 1, 2, 31] {
+        for (field, entry) in [0, 1, 2, 31]
+            .map(|entry| (Field::Gf32, entry))
+            .into_iter()
+            .chain([0, 1, 2, 31, 32, 128, 255].map(|entry| (Field::Gf256, entry)))
+        {
             let mut matrix = identity();
             matrix[at(row, column)] = entry;
             let expected = if row == column && entry == 0 { 26 } else { 0 };
-            assert_eq!((answer(&matrix, &identity()), answer(&identity(), &matrix)), (expected, expected));
+            let answers = (answer(field, &matrix, &identity()), answer(field, &identity(), &matrix));
+            assert_eq!(answers, (expected, expected));
         }
     }
 }
@@ -161,7 +177,8 @@ fn identity_with_one_entry_changed() {
 #[test]
 fn keys_of_permutations() {
     let mut random = Random::seeded(46);
-    for _ in 0..ROUNDS / 10 {
+    for (_, field) in rounds(ROUNDS / 10) {
+        let answer = |first: &Matrix, second: &Matrix| answer(field, first, second);
         let (matrix, other) = (random.permutation_matrix(), random.permutation_matrix());
         assert_eq!(answer(&matrix, &other), 0);
         let mut moved = matrix;
@@ -169,8 +186,8 @@ fn keys_of_permutations() {
         (1..=7).for_each(|row| moved.swap(at(row, column), at(row, 8)));
         moved[at(8, 8)] = 0;
         assert_eq!((answer(&moved, &other), answer(&other, &moved)), (26, 26));
-        let singular = random.singular_key_matrix();
-        assert!(has_key_shape(&singular) && rank(&singular) < 8);
+        let singular = random.singular_key_matrix(field);
+        assert!(has_key_shape(&singular) && rank(field, &singular) < 8);
         assert_eq!((answer(&singular, &other), answer(&other, &singular)), (26, 26));
     }
 }
@@ -178,10 +195,12 @@ fn keys_of_permutations() {
 /// The blank key, and a plain key with one blank matrix.
 #[test]
 fn keys_of_zeros() {
-    assert_eq!(key_with_matrices(&[0; 64], &[0; 64]), blank_key());
-    assert_eq!(key_with_matrices(&identity(), &identity()), plain_key());
-    assert_eq!(answer(&[0; 64], &[0; 64]), 26);
-    assert_eq!(answer(&[0; 64], &identity()), 26);
-    assert_eq!(answer(&identity(), &[0; 64]), 26);
-    assert_eq!(answer(&identity(), &identity()), 0);
+    for field in Field::BOTH {
+        assert_eq!(key_with_matrices(field, &[0; 64], &[0; 64]), blank_key_over(field));
+        assert_eq!(key_with_matrices(field, &identity(), &identity()), plain_key_over(field));
+        assert_eq!(answer(field, &[0; 64], &[0; 64]), 26);
+        assert_eq!(answer(field, &[0; 64], &identity()), 26);
+        assert_eq!(answer(field, &identity(), &[0; 64]), 26);
+        assert_eq!(answer(field, &identity(), &identity()), 0);
+    }
 }

@@ -3,24 +3,25 @@
 
 mod common;
 
-use common::{hex, key_with_matrices, plain_key, Random, PLAIN_LIST, PLAIN_T_VALUES};
+use common::{hex, key_with_matrices, matrix_bytes, plain_key_over, Random, PLAIN_LIST, PLAIN_T_VALUES};
 use reference::digest::digest_braid;
 use reference::matrix::{at, identity};
 use reference::pair::carried;
 use reference::reduce::{cancels, freely_reduced};
 use reference::testkit::inverse_matrix;
+use reference::Field::{Gf256, Gf32};
 use reference::{
     cloaks, encode_digest, file_entries, free_reduce, letters, matrix_product, multiply, product, read_key,
-    read_word, reciprocal, write_key, write_word, Matrix, Pair, WordReader,
+    read_word, reciprocal, write_key, write_word, Field, Key, Matrix, Pair, WordReader,
 };
 
 const ROUNDS: usize = 200;
 
 /// The product of two elements, which must be one.
-fn times(left: u8, right: u8) -> u8 {
-    let element = product(left, right);
+fn times(field: Field, left: u8, right: u8) -> u8 {
+    let element = product(field, left, right);
     assert_eq!(element.answer, 0);
-    assert!(element.value < 32);
+    assert!(u16::from(element.value) < field.size());
     element.value
 }
 
@@ -34,53 +35,78 @@ fn inverted(word: &[u8]) -> Vec<u8> {
     word.iter().rev().map(|code| code ^ 8).collect()
 }
 
-/// Do two words carry the same random pairs to the same pairs?
+/// Do two words carry the same random pairs to the same pairs, over both fields?
 fn assert_equal_braids(random: &mut Random, left: &[u8], right: &[u8]) {
-    let (pair, t_values) = (random.pair(), random.t_values());
-    assert_eq!(carried(&pair, &t_values, left), carried(&pair, &t_values, right), "{left:X?} {right:X?}");
+    for field in Field::BOTH {
+        let (pair, t_values) = (random.pair(field), random.t_values(field));
+        let carry = |word| carried(field, &pair, &t_values, word);
+        assert_eq!(carry(left), carry(right), "{field:?} {left:X?} {right:X?}");
+    }
 }
 
 // ---- The field ----
 
+/// All products of a field, once: the laws below are asked of the table.
+fn table(field: Field) -> Vec<Vec<u8>> {
+    let elements = || (0..=255).filter(|number| u16::from(*number) < field.size());
+    elements().map(|a| elements().map(|b| times(field, a, b)).collect()).collect()
+}
+
 #[test]
 fn field_laws() {
-    for a in 0..32 {
-        assert_eq!(times(1, a), a);
-        assert_eq!(times(0, a), 0);
-        for b in 0..32 {
-            assert_eq!(times(a, b), times(b, a));
-            assert_eq!(times(a, b) == 0, a == 0 || b == 0);
-            for c in 0..32 {
-                assert_eq!(times(times(a, b), c), times(a, times(b, c)));
-                assert_eq!(times(a, b ^ c), times(a, b) ^ times(a, c));
+    for field in Field::BOTH {
+        let table = table(field);
+        let times = |a: usize, b: usize| usize::from(table[a][b]);
+        let size = table.len();
+        assert_eq!(size, field.size().into());
+        for a in 0..size {
+            assert_eq!((times(1, a), times(0, a)), (a, 0));
+            for b in 0..size {
+                assert_eq!(times(a, b), times(b, a));
+                assert_eq!(times(a, b) == 0, a == 0 || b == 0);
+                for c in 0..size {
+                    assert_eq!(times(times(a, b), c), times(a, times(b, c)));
+                    assert_eq!(times(a, b ^ c), times(a, b) ^ times(a, c));
+                }
             }
         }
     }
 }
 
-/// Times x is a shift, and x^5 is x^2 + 1: with the laws above this fixes every product.
+/// Times x is a shift, and x^5 is x^2 + 1, or x^8 is x^4 + x^3 + x^2 + 1: with the laws above this fixes every product.
 #[test]
 fn times_x() {
     for a in 0..32 {
         let shifted = 2 * a;
-        assert_eq!(times(2, a), if shifted < 32 { shifted } else { shifted ^ 0b10_0101 });
+        assert_eq!(times(Gf32, 2, a), if shifted < 32 { shifted } else { shifted ^ 0b10_0101 });
+    }
+    for a in 0..=255 {
+        let shifted = 2 * u16::from(a);
+        let expected = if shifted < 256 { shifted } else { shifted ^ 0b1_0001_1101 };
+        assert_eq!(u16::from(times(Gf256, 2, a)), expected);
     }
 }
 
+/// A reciprocal's product with its element is 1: for all 31, and for all 255.
 #[test]
 fn reciprocals() {
-    for a in 1..32 {
-        let element = reciprocal(a);
-        assert_eq!((element.answer, times(a, element.value)), (0, 1));
+    for (field, last) in [(Gf32, 31), (Gf256, 255)] {
+        for a in 1..=last {
+            let element = reciprocal(field, a);
+            assert_eq!((element.answer, times(field, a, element.value)), (0, 1));
+        }
     }
 }
 
+/// Over the field with 32 elements a number over 31 is none; over the one with 256 every byte is one.
 #[test]
 fn numbers_that_are_no_elements() {
     for a in 0..=255 {
-        assert_eq!(reciprocal(a).answer, [0, 4, 17][usize::from(a == 0) + 2 * usize::from(a > 31)]);
+        assert_eq!(reciprocal(Gf32, a).answer, [0, 4, 17][usize::from(a == 0) + 2 * usize::from(a > 31)]);
+        assert_eq!(reciprocal(Gf256, a).answer, if a == 0 { 4 } else { 0 });
         for b in 0..=255 {
-            assert_eq!(product(a, b).answer, if a > 31 || b > 31 { 17 } else { 0 });
+            assert_eq!(product(Gf32, a, b).answer, if a > 31 || b > 31 { 17 } else { 0 });
+            assert_eq!(product(Gf256, a, b).answer, 0);
         }
     }
 }
@@ -90,20 +116,21 @@ fn numbers_that_are_no_elements() {
 #[test]
 fn matrix_laws() {
     let mut random = Random(1);
-    for _ in 0..ROUNDS {
-        let (a, b, c) = (random.elements(), random.elements(), random.elements());
-        assert_eq!(matrix_product(&a, &identity()), a);
-        assert_eq!(matrix_product(&identity(), &a), a);
-        assert_eq!(matrix_product(&matrix_product(&a, &b), &c), matrix_product(&a, &matrix_product(&b, &c)));
+    for round in 0..2 * ROUNDS {
+        let field = Field::BOTH[round % 2];
+        let times = |left: &Matrix, right: &Matrix| matrix_product(field, left, right);
+        let (a, b, c) = (random.elements(field), random.elements(field), random.elements(field));
+        assert_eq!((times(&a, &identity()), times(&identity(), &a)), (a, a));
+        assert_eq!(times(&times(&a, &b), &c), times(&a, &times(&b, &c)));
     }
 }
 
 /// A letter in the words of document 01: columns gain multiples of the old column i.
-fn by_columns(pair: &Pair, t_values: &[u8; 8], i: usize, inverse: bool) -> Pair {
+fn by_columns(field: Field, pair: &Pair, t_values: &[u8; 8], i: usize, inverse: bool) -> Pair {
     let mut result = *pair;
     let t_value = |position: usize| t_values[usize::from(pair.labels[position - 1])];
     let (left, middle, right) = if inverse {
-        let s = reciprocal(t_value(i + 1)).value;
+        let s = reciprocal(field, t_value(i + 1)).value;
         (1, s, s)
     } else {
         (t_value(i), t_value(i), 1)
@@ -111,10 +138,10 @@ fn by_columns(pair: &Pair, t_values: &[u8; 8], i: usize, inverse: bool) -> Pair 
     for row in 1..=8 {
         let old = pair.matrix[at(row, i)];
         if i > 1 {
-            result.matrix[at(row, i - 1)] ^= times(left, old);
+            result.matrix[at(row, i - 1)] ^= times(field, left, old);
         }
-        result.matrix[at(row, i + 1)] ^= times(right, old);
-        result.matrix[at(row, i)] = times(middle, old);
+        result.matrix[at(row, i + 1)] ^= times(field, right, old);
+        result.matrix[at(row, i)] = times(field, middle, old);
     }
     result.labels.swap(i - 1, i);
     result
@@ -125,10 +152,10 @@ fn letters_change_columns_as_document_01_says() {
     let mut random = Random(2);
     for _ in 0..ROUNDS {
         for i in 1..=7 {
-            for inverse in [false, true] {
-                let (mut pair, t_values) = (random.pair(), random.t_values());
-                let expected = by_columns(&pair, &t_values, i, inverse);
-                assert_eq!(multiply(&mut pair, &t_values, letter(i, inverse)), 0);
+            for (field, inverse) in [(Gf32, false), (Gf32, true), (Gf256, false), (Gf256, true)] {
+                let (mut pair, t_values) = (random.pair(field), random.t_values(field));
+                let expected = by_columns(field, &pair, &t_values, i, inverse);
+                assert_eq!(multiply(&mut pair, field, &t_values, letter(i, inverse)), 0);
                 assert_eq!(pair, expected);
             }
         }
@@ -139,13 +166,14 @@ fn letters_change_columns_as_document_01_says() {
 #[test]
 fn matrices_from_the_left_go_through() {
     let mut random = Random(3);
-    for _ in 0..ROUNDS {
-        let (pair, t_values, word) = (random.pair(), random.t_values(), random.word(9));
-        let left = random.elements();
-        let moved = Pair { matrix: matrix_product(&left, &pair.matrix), ..pair };
-        let after = carried(&pair, &t_values, &word);
-        let expected = Pair { matrix: matrix_product(&left, &after.matrix), ..after };
-        assert_eq!(carried(&moved, &t_values, &word), expected);
+    for round in 0..2 * ROUNDS {
+        let field = Field::BOTH[round % 2];
+        let (pair, t_values, word) = (random.pair(field), random.t_values(field), random.word(9));
+        let left = random.elements(field);
+        let moved = Pair { matrix: matrix_product(field, &left, &pair.matrix), ..pair };
+        let after = carried(field, &pair, &t_values, &word);
+        let expected = Pair { matrix: matrix_product(field, &left, &after.matrix), ..after };
+        assert_eq!(carried(field, &moved, &t_values, &word), expected);
     }
 }
 
@@ -322,9 +350,9 @@ fn cancelling_letters() {
 
 // ---- Keys ----
 
-/// 26 if one of the matrices has no inverse, by elimination; 0 otherwise.
-fn inverse_answer(matrices: [Matrix; 2]) -> u8 {
-    if matrices.iter().all(|matrix| inverse_matrix(matrix).is_some()) {
+/// 26 if one of the matrices has no inverse over the field, by elimination; 0 otherwise.
+fn inverse_answer(field: Field, matrices: [Matrix; 2]) -> u8 {
+    if matrices.iter().all(|matrix| inverse_matrix(field, matrix).is_some()) {
         0
     } else {
         26
@@ -334,78 +362,86 @@ fn inverse_answer(matrices: [Matrix; 2]) -> u8 {
 #[test]
 fn keys_come_back() {
     let mut random = Random(13);
-    for _ in 0..ROUNDS {
-        let (t_values, labels) = (random.key_t_values(), random.labels());
-        let (first, second) = (random.invertible_key_matrix(), random.invertible_key_matrix());
+    for round in 0..2 * ROUNDS {
+        let (field, bytes) = [(Gf32, 83), (Gf256, 128)][round % 2];
+        let (t_values, labels) = (random.key_t_values(field), random.labels());
+        let (first, second) = (random.invertible_key_matrix(field), random.invertible_key_matrix(field));
         let entries = [file_entries(&first), file_entries(&second)];
-        let mut file = vec![0x55; 85];
-        assert_eq!(write_key(&t_values, &labels, &entries[0], &entries[1], &mut file), 0);
-        assert_eq!(file[83..], [0x55, 0x55]);
-        let key = read_key(&file[..83]);
-        assert_eq!((key.answer, key.t_values, key.pair.labels), (0, t_values, labels));
-        assert_eq!((key.pair.matrix, key.second), (first, second));
+        let mut file = vec![0x55; bytes + 2];
+        assert_eq!(write_key(field, &t_values, &labels, &entries[0], &entries[1], &mut file), 0);
+        assert_eq!(file[bytes..], [0x55, 0x55]);
+        let key = read_key(&file[..bytes]);
+        assert_eq!(key, Key { answer: 0, field, t_values, pair: Pair { matrix: first, labels }, second });
         assert!([first, second].iter().all(|matrix| matrix[56..63] == [0; 7]));
     }
 }
 
-/// Random matrix bytes with the filler cleared: an accepted file is written back byte for byte.
+/// Random matrix bytes, in the smaller field with the filler cleared: an accepted file is written back byte for byte.
 #[test]
 fn key_files_come_back() {
     let mut random = Random(14);
-    let mut accepted = 0;
-    for _ in 0..ROUNDS {
-        let mut file = plain_key();
-        for place in (8..44).chain(47..83) {
-            file[place] = random.below(256) as u8;
+    for field in Field::BOTH {
+        let mut accepted = 0;
+        for _ in 0..ROUNDS {
+            let mut file = plain_key_over(field);
+            for part in matrix_bytes(field) {
+                file[part.clone()].copy_from_slice(&random.bytes(part.len()));
+                if field == Gf32 {
+                    file[part.end - 1] &= 0xF8;
+                }
+            }
+            let key = read_key(&file);
+            if key.answer == 26 {
+                continue;
+            }
+            accepted += 1;
+            assert_eq!((key.answer, key.field), (0, field));
+            let mut out = vec![0; file.len()];
+            let (first, second) = (file_entries(&key.pair.matrix), file_entries(&key.second));
+            assert_eq!(write_key(field, &key.t_values, &key.pair.labels, &first, &second, &mut out), 0);
+            assert_eq!(out, file);
         }
-        file[43] &= 0xF8;
-        file[82] &= 0xF8;
-        let key = read_key(&file);
-        if key.answer == 26 {
-            continue;
-        }
-        accepted += 1;
-        assert_eq!(key.answer, 0);
-        let mut out = vec![0; 83];
-        let (first, second) = (file_entries(&key.pair.matrix), file_entries(&key.second));
-        assert_eq!(write_key(&key.t_values, &key.pair.labels, &first, &second, &mut out), 0);
-        assert_eq!(out, file);
+        assert!(accepted > ROUNDS / 2);
     }
-    assert!(accepted > ROUNDS / 2);
 }
 
 /// Keys with many zeros in their matrices, of which many have no inverse: writer and reader ask alike.
 #[test]
 fn keys_with_many_zeros() {
     let mut random = Random(17);
-    let mut refused = 0;
-    for _ in 0..ROUNDS {
-        let (first, second) = (random.sparse_key_matrix(), random.sparse_key_matrix());
-        let expected = inverse_answer([first, second]);
-        let (entries, others) = (file_entries(&first), file_entries(&second));
-        let mut out = vec![0; 83];
-        assert_eq!(write_key(&PLAIN_T_VALUES, &PLAIN_LIST, &entries, &others, &mut out), expected);
-        let file = key_with_matrices(&first, &second);
-        assert_eq!(read_key(&file).answer, expected);
-        refused += usize::from(expected == 26);
+    for field in Field::BOTH {
+        let mut refused = 0;
+        for _ in 0..ROUNDS {
+            let (first, second) = (random.sparse_key_matrix(field), random.sparse_key_matrix(field));
+            let expected = inverse_answer(field, [first, second]);
+            let (entries, others) = (file_entries(&first), file_entries(&second));
+            let mut out = vec![0; 128];
+            let answer = write_key(field, &PLAIN_T_VALUES, &PLAIN_LIST, &entries, &others, &mut out);
+            assert_eq!(answer, expected);
+            assert_eq!(read_key(&key_with_matrices(field, &first, &second)).answer, expected);
+            refused += usize::from(expected == 26);
+        }
+        assert!((ROUNDS / 20..ROUNDS).contains(&refused), "{refused}");
     }
-    assert!((ROUNDS / 10..ROUNDS).contains(&refused), "{refused}");
 }
 
 /// Every single bit of filler is asked about, and no other bit of the matrices but those of the diagonal: each one
-/// there is the only entry of its row.
+/// there is the only entry of its row. The larger field has no filler.
 #[test]
 fn filler_of_keys() {
-    let diagonal = [0, 9, 18, 27, 36, 45, 54, 56].map(|entry| 5 * entry + 4);
-    for bit in 0..664 {
-        let mut file = plain_key();
-        file[bit / 8] ^= 0x80 >> (bit % 8);
-        let answer = read_key(&file).answer;
-        let filler = (349..352).contains(&bit) || (661..664).contains(&bit);
-        assert_eq!(answer == 7, filler, "{bit}");
-        if (64..349).contains(&bit) || (376..661).contains(&bit) {
-            let place = if bit < 349 { bit - 64 } else { bit - 376 };
-            assert_eq!(answer, if diagonal.contains(&place) { 26 } else { 0 }, "{bit}");
+    for (field, width, first, second, fillers) in
+        [(Gf32, 5, 64..349, 376..661, [349..352, 661..664]), (Gf256, 8, 88..544, 568..1_024, [0..0, 0..0])]
+    {
+        let diagonal = [0, 9, 18, 27, 36, 45, 54, 56].map(|entry| width * entry + width - 1);
+        for bit in 0..8 * plain_key_over(field).len() {
+            let mut file = plain_key_over(field);
+            file[bit / 8] ^= 0x80 >> (bit % 8);
+            let answer = read_key(&file).answer;
+            assert_eq!(answer == 7, fillers.iter().any(|filler| filler.contains(&bit)), "{bit}");
+            for matrix in [&first, &second].into_iter().filter(|matrix| matrix.contains(&bit)) {
+                let one = diagonal.contains(&(bit - matrix.start));
+                assert_eq!(answer, if one { 26 } else { 0 }, "{bit}");
+            }
         }
     }
 }
@@ -416,16 +452,17 @@ fn filler_of_keys() {
 #[test]
 fn digest_braids() {
     let mut random = Random(15);
-    for _ in 0..ROUNDS / 4 {
-        let digest = [0; 32].map(|_: u8| random.below(256) as u8);
+    for round in 0..ROUNDS / 2 {
+        let field = Field::BOTH[round % 2];
+        let digest = random.digest(field);
         let mut out = vec![0; 5_002];
         let written = encode_digest(&digest, &mut out);
         assert_eq!(written.answer, 0);
         let codes = letters(&out[..written.bytes]);
         assert_eq!(codes, digest_braid(&digest));
         assert_eq!(codes, [digest_braid(&digest[..11]), digest_braid(&digest[11..])].concat());
-        let pair = random.pair();
-        assert_eq!(carried(&pair, &random.t_values(), &codes).labels, pair.labels);
+        let pair = random.pair(field);
+        assert_eq!(carried(field, &pair, &random.t_values(field), &codes).labels, pair.labels);
     }
 }
 
@@ -434,11 +471,11 @@ fn digest_braids() {
 #[test]
 fn cloaking_elements() {
     let mut random = Random(16);
-    let key = plain_key();
+    let keys = Field::BOTH.map(plain_key_over);
     let mut found = 0;
     while found < 20 {
         let (list, w, i) = (random.labels(), random.word(10), random.below(7) as u8);
-        let reached = carried(&Pair { labels: list, ..reference::start() }, &[1; 8], &w).labels;
+        let reached = carried(Gf32, &Pair { labels: list, ..reference::start() }, &[1; 8], &w).labels;
         if reached[usize::from(i)] > 1 || reached[usize::from(i) + 1] > 1 {
             continue;
         }
@@ -448,12 +485,12 @@ fn cloaking_elements() {
         for word in [element.clone(), inverted(&element), element.repeat(3)] {
             let bytes = write_word(&word, &mut out).bytes;
             let file = out[..bytes].to_vec();
-            assert!(cloaks(&key, &list, &file).yes);
+            assert!(keys.iter().all(|key| cloaks(key, &list, &file).yes));
             let bytes = free_reduce(&file, &mut out).bytes;
-            assert!(cloaks(&key, &list, &out[..bytes]).yes);
+            assert!(keys.iter().all(|key| cloaks(key, &list, &out[..bytes]).yes));
         }
     }
-    assert!(cloaks(&key, &PLAIN_LIST, &hex("00 02 88")).yes);
+    assert!(keys.iter().all(|key| cloaks(key, &PLAIN_LIST, &hex("00 02 88")).yes));
 }
 
 /// b1 b1 5,000 times: as long as a word may be.
@@ -461,5 +498,5 @@ fn cloaking_elements() {
 fn longest_cloaking_word() {
     let mut word = hex("27 10");
     word.resize(5_002, 0);
-    assert!(cloaks(&plain_key(), &PLAIN_LIST, &word).yes);
+    assert!(Field::BOTH.map(plain_key_over).iter().all(|key| cloaks(key, &PLAIN_LIST, &word).yes));
 }

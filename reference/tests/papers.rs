@@ -1,5 +1,5 @@
-//! The worked examples of the papers. What is expected is typed from them, or follows from them by the
-//! reasoning written beside it; none of it was computed by the code under test.
+//! The worked examples of the papers at strength 128; `larger.rs` has strength 256. What is expected is typed from
+//! them, or follows from them by the reasoning written beside it; none of it was computed by the code under test.
 
 mod common;
 
@@ -10,10 +10,11 @@ use common::{
 use reference::digest::half_byte_braid;
 use reference::letter::{is_letter, Letter};
 use reference::matrix::at;
+use reference::Field::Gf32;
 use reference::{
     cloaks, code_part, encode_digest, file_entries, free_reduce, letter_at, letters, matrix_product,
-    multiply, product, read_key, read_word, reciprocal, start, write_key, write_word, Cloak, Element, Pair,
-    Word, WordReader, Written,
+    multiply, product, read_key, read_word, reciprocal, start, write_key, write_word, Cloak, Element, Key,
+    Pair, Word, WordReader, Written,
 };
 
 /// The starting pair carried by letters written as in source 004: 3 is b3, -3 its inverse.
@@ -23,7 +24,7 @@ fn carried(t_values: &[u8; 8], braid: &[i8]) -> Pair {
 
 fn carried_from(mut pair: Pair, t_values: &[u8; 8], braid: &[i8]) -> Pair {
     for letter in braid {
-        assert_eq!(multiply(&mut pair, t_values, code(*letter)), 0);
+        assert_eq!(multiply(&mut pair, Gf32, t_values, code(*letter)), 0);
     }
     pair
 }
@@ -53,33 +54,33 @@ fn yes(key: &[u8], list: [u8; 8], word: &[u8]) -> bool {
 
 #[test]
 fn products_and_reciprocals_of_the_slips() {
-    assert_eq!(product(16, 2), Element { answer: 0, value: 5 });
-    assert_eq!(product(31, 31), Element { answer: 0, value: 18 });
-    assert_eq!(reciprocal(3), Element { answer: 0, value: 28 });
+    assert_eq!(product(Gf32, 16, 2), Element { answer: 0, value: 5 });
+    assert_eq!(product(Gf32, 31, 31), Element { answer: 0, value: 18 });
+    assert_eq!(reciprocal(Gf32, 3), Element { answer: 0, value: 28 });
 }
 
 /// x (x^4 + x) = x^5 + x^2 = 1, so 2 and 18 are reciprocal; (x^2 + x + 1)(x^3 + x^2) = x^5 + x^2 = 1, so 7 and
 /// 12 are; 31 × 31 = 18 is half of 1, so the reciprocal of 31 is 2 × 31 = 27.
 #[test]
 fn products_that_follow_by_hand() {
-    assert_eq!(product(2, 18).value, 1);
-    assert_eq!(reciprocal(2).value, 18);
-    assert_eq!(reciprocal(7).value, 12);
-    assert_eq!(product(2, 31).value, 27);
-    assert_eq!(reciprocal(31).value, 27);
-    assert_eq!(reciprocal(28).value, 3);
-    assert_eq!(reciprocal(1), Element { answer: 0, value: 1 });
-    assert_eq!(product(0, 31), Element { answer: 0, value: 0 });
+    assert_eq!(product(Gf32, 2, 18).value, 1);
+    assert_eq!(reciprocal(Gf32, 2).value, 18);
+    assert_eq!(reciprocal(Gf32, 7).value, 12);
+    assert_eq!(product(Gf32, 2, 31).value, 27);
+    assert_eq!(reciprocal(Gf32, 31).value, 27);
+    assert_eq!(reciprocal(Gf32, 28).value, 3);
+    assert_eq!(reciprocal(Gf32, 1), Element { answer: 0, value: 1 });
+    assert_eq!(product(Gf32, 0, 31), Element { answer: 0, value: 0 });
 }
 
 #[test]
 fn field_refusals() {
     for (left, right) in [(32, 0), (0, 32), (255, 255), (31, 32)] {
-        assert_eq!(product(left, right), Element { answer: 17, value: 0 });
+        assert_eq!(product(Gf32, left, right), Element { answer: 17, value: 0 });
     }
-    assert_eq!(reciprocal(32), Element { answer: 17, value: 0 });
-    assert_eq!(reciprocal(255), Element { answer: 17, value: 0 });
-    assert_eq!(reciprocal(0), Element { answer: 4, value: 0 });
+    assert_eq!(reciprocal(Gf32, 32), Element { answer: 17, value: 0 });
+    assert_eq!(reciprocal(Gf32, 255), Element { answer: 17, value: 0 });
+    assert_eq!(reciprocal(Gf32, 0), Element { answer: 4, value: 0 });
 }
 
 // ---- Letters and pairs (document 01; source 003, section 2; source 004, sections 5.2, 6.4 and 8.4) ----
@@ -200,8 +201,8 @@ fn product_of_two_letter_matrices() {
     let at_three = start_with_row(3, [0, 3, 3, 1, 0, 0, 0, 0], PLAIN_LIST).matrix;
     let both = start_with_row(3, [0, 4, 6, 3, 0, 0, 0, 0], PLAIN_LIST).matrix;
     let other = start_with_row(3, [0, 5, 6, 2, 0, 0, 0, 0], PLAIN_LIST).matrix;
-    assert_eq!(matrix_product(&at_two, &at_three), both);
-    assert_eq!(matrix_product(&at_three, &at_two), other);
+    assert_eq!(matrix_product(Gf32, &at_two, &at_three), both);
+    assert_eq!(matrix_product(Gf32, &at_three, &at_two), other);
 }
 
 #[test]
@@ -227,7 +228,7 @@ fn multiplier_refusals_in_order() {
         (start(), PLAIN_T_VALUES, 255, 12),
     ] {
         let mut lent = pair;
-        assert_eq!(multiply(&mut lent, &t_values, letter), expected);
+        assert_eq!(multiply(&mut lent, Gf32, &t_values, letter), expected);
         assert_eq!(lent, pair, "a refusal changed the pair");
     }
 }
@@ -378,7 +379,7 @@ fn identity_entries() -> [u8; 57] {
 #[test]
 fn plain_key_is_read() {
     let key = read_key(&plain_key());
-    assert_eq!(key.answer, 0);
+    assert_eq!((key.answer, key.field), (0, Gf32));
     assert_eq!(key.t_values, PLAIN_T_VALUES);
     assert_eq!(key.pair, start());
     assert_eq!(key.second, start().matrix);
@@ -388,7 +389,7 @@ fn plain_key_is_read() {
 fn plain_key_is_written() {
     let mut out = vec![0xAA; 90];
     let entries = identity_entries();
-    assert_eq!(write_key(&PLAIN_T_VALUES, &PLAIN_LIST, &entries, &entries, &mut out), 0);
+    assert_eq!(write_key(Gf32, &PLAIN_T_VALUES, &PLAIN_LIST, &entries, &entries, &mut out), 0);
     assert_eq!(out[..83], plain_key());
     assert_eq!(out[..8], hex("08 00 20 08 44 32 14 C7"));
     assert_eq!(out[44..47], hex("05 39 77"));
@@ -436,7 +437,7 @@ fn every_entry_has_its_place() {
     let expected = hex(&format!("08 00 20 08 44 32 14 C7 {packed} FA C6 88 {PACKED_IDENTITY}"));
     let mut out = vec![0; 83];
     let reversed = [7, 6, 5, 4, 3, 2, 1, 0];
-    assert_eq!(write_key(&PLAIN_T_VALUES, &reversed, &first, &identity_entries(), &mut out), 0);
+    assert_eq!(write_key(Gf32, &PLAIN_T_VALUES, &reversed, &first, &identity_entries(), &mut out), 0);
     assert_eq!(out, expected);
     let key = read_key(&expected);
     assert_eq!(key.pair.labels, reversed);
@@ -448,9 +449,9 @@ fn every_entry_has_its_place() {
 #[test]
 fn key_refusals_in_order() {
     let refused = |file: &[u8], expected: u8| {
-        let key = read_key(file);
-        assert_eq!(key.answer, expected);
-        assert_eq!((key.t_values, key.pair, key.second), ([0; 8], Pair::ZEROS, [0; 64]));
+        let zeros =
+            Key { answer: expected, field: Gf32, t_values: [0; 8], pair: Pair::ZEROS, second: [0; 64] };
+        assert_eq!(read_key(file), zeros);
         assert_eq!(cloaks(file, &[], &[]), Cloak { answer: expected, yes: false });
     };
     refused(&[], 1);
@@ -533,7 +534,7 @@ fn key_writer_refusals_in_order() {
         (PLAIN_T_VALUES, PLAIN_LIST, good, row_lost, 83, 26),
     ] {
         let mut out = vec![0xAA; size];
-        assert_eq!(write_key(&t_values, &labels, &first, &second, &mut out), expected);
+        assert_eq!(write_key(Gf32, &t_values, &labels, &first, &second, &mut out), expected);
         assert!(out.iter().all(|byte| *byte == 0xAA), "a refusal changed the output");
     }
 }
@@ -591,7 +592,7 @@ fn digests_as_words() {
 #[test]
 fn encoder_refusals_in_order() {
     refuses(15, 5_001, |out| encode_digest(&[0; 31], out));
-    for length in [0, 31, 33, 64] {
+    for length in [0, 31, 33, 48, 63, 65, 128] {
         refuses(8, 5_002, |out| encode_digest(&vec![0; length], out));
     }
 }

@@ -1,6 +1,7 @@
-//! Worked slips: fields, words, pairs, keys, moves, cloaking and the verdict.
+//! Worked slips: fields, words, pairs, keys, moves, cloaking and the verdict, at both strengths.
 
-use walnut::{Pair, Refusal, KEY_BYTES, WORD_BYTES};
+use walnut::Field::{self, Gf256, Gf32};
+use walnut::{Pair, Refusal, WORD_BYTES};
 
 const T_VALUES: [u8; 8] = [1, 1, 2, 3, 4, 5, 6, 7];
 const ORDER: [u8; 8] = [0, 1, 2, 3, 4, 5, 6, 7];
@@ -25,11 +26,11 @@ fn row(matrix: &[u8; 64], row: usize) -> String {
     decimal(&(1..=8).map(|column| matrix[walnut::place(row, column)]).collect::<Vec<_>>())
 }
 
-/// The key file of T-values, the pair Pub(S) and the matrix of Pub(S').
-fn key_file(t_values: &[u8; 8], pair: &Pair, second: &[u8; 64]) -> Result<[u8; KEY_BYTES], Refusal> {
+/// The key file over a field of T-values, the pair Pub(S) and the matrix of Pub(S').
+fn key_file(field: Field, t_values: &[u8; 8], pair: &Pair, second: &[u8; 64]) -> Result<Vec<u8>, Refusal> {
     let (first, second) = (walnut::file_entries(&pair.matrix), walnut::file_entries(second));
-    let mut key = [0; KEY_BYTES];
-    walnut::write_key(t_values, &pair.labels, &first, &second, &mut key)?;
+    let mut key = vec![0; field.key_bytes()];
+    walnut::write_key(field, t_values, &pair.labels, &first, &second, &mut key)?;
     Ok(key)
 }
 
@@ -42,9 +43,9 @@ fn yes_or_no(yes: bool) -> &'static str {
 }
 
 fn main() -> Result<(), Refusal> {
-    println!("16 x 2 = {}", walnut::product(16, 2)?);
-    println!("31 x 31 = {}", walnut::product(31, 31)?);
-    println!("the reciprocal of 3 is {}", walnut::reciprocal(3)?);
+    println!("16 x 2 = {}", walnut::product(Gf32, 16, 2)?);
+    println!("31 x 31 = {}", walnut::product(Gf32, 31, 31)?);
+    println!("the reciprocal of 3 is {}", walnut::reciprocal(Gf32, 3)?);
 
     let mut out = [0; WORD_BYTES];
     let word = walnut::write_word(&[0, 9, 2, 3, 12, 5, 14], &mut out)?;
@@ -52,19 +53,19 @@ fn main() -> Result<(), Refusal> {
     println!("its letters: {}", walnut::read_word(word)?);
 
     let mut pair = Pair::start();
-    pair.multiply(&T_VALUES, 2)?;
+    pair.multiply(Gf32, &T_VALUES, 2)?;
     println!("row 3 after b3: {}", row(&pair.matrix, 3));
     println!("column 4 after b3: {}", decimal(&pair.matrix[24..32]));
 
     let start = Pair::start();
-    let key = key_file(&T_VALUES, &start, &start.matrix)?;
+    let key = key_file(Gf32, &T_VALUES, &start, &start.matrix)?;
     println!("plain T-values pack to {}", hex(&key[3..8]));
     println!("the list 0 to 7 packs to {}", hex(&key[44..47]));
 
     // Pub(S) is the starting pair times b3, and Pub(S') has the matrix of b3's inverse
     let mut inverse = Pair::start();
-    inverse.multiply(&T_VALUES, 10)?;
-    let file = key_file(&T_VALUES, &pair, &inverse.matrix)?;
+    inverse.multiply(Gf32, &T_VALUES, 10)?;
+    let file = key_file(Gf32, &T_VALUES, &pair, &inverse.matrix)?;
     println!("row 3 after b3 packs to {}", hex(&file[18..23]));
     let held = walnut::read_key(&file)?;
     println!("a key with b3 and b3' read back:");
@@ -72,10 +73,13 @@ fn main() -> Result<(), Refusal> {
     println!("row 3 of Pub(S): {}", row(&held.pair.matrix, 3));
     println!("list of Pub(S): {}", decimal(&held.pair.labels));
     println!("row 3 of Pub(S'): {}", row(&held.second, 3));
-    let back = key_file(&held.t_values, &held.pair, &held.second)?;
+    let back = key_file(held.field, &held.t_values, &held.pair, &held.second)?;
     println!("that key, read and written back, is the same: {}", yes_or_no(back == file));
     let blank = Pair { matrix: [0; 64], ..Pair::start() };
-    println!("a key with both matrices zero: answer {}", answer(key_file(&T_VALUES, &blank, &blank.matrix)));
+    println!(
+        "a key with both matrices zero: answer {}",
+        answer(key_file(Gf32, &T_VALUES, &blank, &blank.matrix))
+    );
 
     let moved = walnut::rewrite(&[0, 3, 1, 0], &[0, 1, 0, 0, 3], &mut out)?;
     println!("00 03 01 00 with kind 3 at place 0 gives {}", hex(moved));
@@ -92,5 +96,36 @@ fn main() -> Result<(), Refusal> {
     let verdict = walnut::verify(&key, &[0; 32], &signature);
     println!("plain key, zero digest, 00 80 and 64 bytes of 66: answer {}", answer(verdict));
     println!("plain key, zero digest, 00 00: answer {}", answer(walnut::verify(&key, &[0; 32], &[0, 0])));
+    larger_field()
+}
+
+/// The same over the field with 256 elements.
+fn larger_field() -> Result<(), Refusal> {
+    println!("over 256 elements 128 x 2 = {}", walnut::product(Gf256, 128, 2)?);
+    println!("16 x 2 = {}", walnut::product(Gf256, 16, 2)?);
+    println!("the reciprocal of 3 is {}", walnut::reciprocal(Gf256, 3)?);
+    let mut inverse = Pair::start();
+    inverse.multiply(Gf256, &T_VALUES, 10)?;
+    println!("row 3 after b3': {}", row(&inverse.matrix, 3));
+
+    let start = Pair::start();
+    let key = key_file(Gf256, &T_VALUES, &start, &start.matrix)?;
+    println!("the plain key: {} bytes, from {}", key.len(), hex(&key[..11]));
+    let file = key_file(Gf256, &T_VALUES, &inverse, &start.matrix)?;
+    println!("row 3 after b3' packs to {}", hex(&file[27..35]));
+    let held = walnut::read_key(&file)?;
+    println!("row 3 of Pub(S): {}", row(&held.pair.matrix, 3));
+    let back = key_file(held.field, &held.t_values, &held.pair, &held.second)?;
+    println!("that key, read and written back, is the same: {}", yes_or_no(back == file));
+    let mut small = key.clone();
+    small[1..3].copy_from_slice(&[0, 32]);
+    println!("128 bytes with q = 32: answer {}", answer(walnut::read_key(&small)));
+
+    let mut signature = vec![0x01, 0x00];
+    signature.resize(130, 0x66);
+    let verdict = walnut::verify(&key, &[0; 64], &signature);
+    println!("plain key, 64 zero bytes, 01 00 and 128 bytes of 66: answer {}", answer(verdict));
+    println!("plain key, 64 zero bytes, 00 00: answer {}", answer(walnut::verify(&key, &[0; 64], &[0, 0])));
+    println!("plain key, 32 zero bytes: answer {}", answer(walnut::verify(&key, &[0; 32], &signature)));
     Ok(())
 }

@@ -24,19 +24,21 @@ pub struct Cloak {
 #[repr(C)]
 pub struct Key {
     pub answer: u8,
+    pub large: bool,
     pub t_values: [u8; 8],
     pub pair: Pair,
     pub second: [u8; 64],
 }
 
 extern "C" {
-    pub fn walnut_product(a: u8, b: u8) -> Element;
-    pub fn walnut_reciprocal(a: u8) -> Element;
+    pub fn walnut_product(large: bool, a: u8, b: u8) -> Element;
+    pub fn walnut_reciprocal(large: bool, a: u8) -> Element;
     pub fn walnut_start() -> Pair;
-    pub fn walnut_multiply(pair: *mut Pair, t_values: *const u8, letter: u8) -> u8;
+    pub fn walnut_multiply(pair: *mut Pair, large: bool, t_values: *const u8, letter: u8) -> u8;
     pub fn walnut_read_key(file: *const u8, len: usize) -> Key;
     pub fn walnut_file_entries(matrix: *const u8, entries: *mut u8);
     pub fn walnut_write_key(
+        large: bool,
         t_values: *const u8,
         labels: *const u8,
         first: *const u8,

@@ -1,5 +1,5 @@
 //! Safe functions over the proved library `walnut`: braid words, keys, E-multiplication and verdicts for WalnutDSA
-//! at strength 128.
+//! at strengths 128 and 256.
 //!
 //! Every function takes any bytes. It gives its value, or the [`Refusal`] that holds the number of the first
 //! question that the input fails; on a refusal nothing that was lent is changed.
@@ -12,8 +12,46 @@ use refusal::granted;
 
 pub use refusal::Refusal;
 
-/// The bytes of a key file.
-pub const KEY_BYTES: usize = 83;
+/// One of the two fields, with the sizes that go with it. A key knows its field.
+#[derive(Clone, Copy, Debug, PartialEq, Eq, Hash)]
+pub enum Field {
+    /// 32 elements: strength 128.
+    Gf32,
+    /// 256 elements: strength 256.
+    Gf256,
+}
+
+impl Field {
+    /// The bytes of a key file over it.
+    pub const fn key_bytes(self) -> usize {
+        match self {
+            Field::Gf32 => 83,
+            Field::Gf256 => 128,
+        }
+    }
+
+    /// The bytes of the digest that goes with such a key.
+    pub const fn digest_bytes(self) -> usize {
+        match self {
+            Field::Gf32 => 32,
+            Field::Gf256 => 64,
+        }
+    }
+
+    /// As it is named to the library.
+    fn large(self) -> bool {
+        self == Field::Gf256
+    }
+
+    /// As the library names it.
+    fn named(large: bool) -> Field {
+        if large {
+            Field::Gf256
+        } else {
+            Field::Gf32
+        }
+    }
+}
 
 /// The bytes of the longest word file, and so the least that an output for words must have.
 pub const WORD_BYTES: usize = 5002;
@@ -33,9 +71,10 @@ pub struct Pair {
     pub labels: [u8; 8],
 }
 
-/// A key: its T-values, the pair Pub(S) and the matrix of Pub(S'), column by column too.
+/// A key: its field, its T-values, the pair Pub(S) and the matrix of Pub(S'), column by column too.
 #[derive(Clone, Copy, Debug, PartialEq, Eq)]
 pub struct Key {
+    pub field: Field,
     pub t_values: [u8; 8],
     pub pair: Pair,
     pub second: [u8; 64],
@@ -44,17 +83,17 @@ pub struct Key {
 // In every function below the pointers come from references and slices that live through the call, each with its
 // own length, and what is written is lent uniquely. The exported functions take any bytes.
 
-/// The product of two elements of the field.
-pub fn product(a: u8, b: u8) -> Result<u8, Refusal> {
+/// The product of two elements of a field.
+pub fn product(field: Field, a: u8, b: u8) -> Result<u8, Refusal> {
     // SAFETY: numbers alone pass.
-    let element = unsafe { walnut_product(a, b) };
+    let element = unsafe { walnut_product(field.large(), a, b) };
     granted(element.answer, element.value)
 }
 
-/// The reciprocal of an element other than zero.
-pub fn reciprocal(a: u8) -> Result<u8, Refusal> {
+/// The reciprocal of an element other than zero of a field.
+pub fn reciprocal(field: Field, a: u8) -> Result<u8, Refusal> {
     // SAFETY: numbers alone pass.
-    let element = unsafe { walnut_reciprocal(a) };
+    let element = unsafe { walnut_reciprocal(field.large(), a) };
     granted(element.answer, element.value)
 }
 
@@ -65,10 +104,10 @@ impl Pair {
         unsafe { walnut_start() }
     }
 
-    /// Multiplies a letter, given by its code, into the pair.
-    pub fn multiply(&mut self, t_values: &[u8; 8], letter: u8) -> Result<(), Refusal> {
+    /// Multiplies a letter, given by its code, into the pair, over a field.
+    pub fn multiply(&mut self, field: Field, t_values: &[u8; 8], letter: u8) -> Result<(), Refusal> {
         // SAFETY: see above.
-        let answer = unsafe { walnut_multiply(self, t_values.as_ptr(), letter) };
+        let answer = unsafe { walnut_multiply(self, field.large(), t_values.as_ptr(), letter) };
         granted(answer, ())
     }
 }
@@ -77,7 +116,8 @@ impl Pair {
 pub fn read_key(file: &[u8]) -> Result<Key, Refusal> {
     // SAFETY: see above.
     let key = unsafe { walnut_read_key(file.as_ptr(), file.len()) };
-    granted(key.answer, Key { t_values: key.t_values, pair: key.pair, second: key.second })
+    let field = Field::named(key.large);
+    granted(key.answer, Key { field, t_values: key.t_values, pair: key.pair, second: key.second })
 }
 
 /// The 57 entries that a key file has of a matrix, in the file's order: rows 1 to 7 whole, then the last entry of row
@@ -89,19 +129,22 @@ pub fn file_entries(matrix: &[u8; 64]) -> [u8; 57] {
     entries
 }
 
-/// Writes a key file to the output's first 83 bytes, from T-values, labels and each matrix's 57 entries.
-pub fn write_key(
+/// Writes a key file over a field, from T-values, labels and each matrix's 57 entries; gives the part of the output
+/// that holds it.
+pub fn write_key<'a>(
+    field: Field,
     t_values: &[u8; 8],
     labels: &[u8; 8],
     first: &[u8; 57],
     second: &[u8; 57],
-    out: &mut [u8],
-) -> Result<(), Refusal> {
-    let (t_values, labels) = (t_values.as_ptr(), labels.as_ptr());
+    out: &'a mut [u8],
+) -> Result<&'a mut [u8], Refusal> {
+    let (large, t_values, labels) = (field.large(), t_values.as_ptr(), labels.as_ptr());
     let (first, second) = (first.as_ptr(), second.as_ptr());
     // SAFETY: see above.
-    let answer = unsafe { walnut_write_key(t_values, labels, first, second, out.as_mut_ptr(), out.len()) };
-    granted(answer, ())
+    let answer =
+        unsafe { walnut_write_key(large, t_values, labels, first, second, out.as_mut_ptr(), out.len()) };
+    granted(answer, field.key_bytes()).map(|bytes| &mut out[..bytes])
 }
 
 /// Reads a word file: the number of its letters.
@@ -123,7 +166,7 @@ pub fn write_word<'a>(codes: &[u8], out: &'a mut [u8]) -> Result<&'a mut [u8], R
     written(number, out)
 }
 
-/// Writes the braid of a digest as a word file; gives the part of the output that holds it.
+/// Writes the braid of a digest, of 32 bytes or 64, as a word file; gives the part of the output that holds it.
 pub fn encode_digest<'a>(digest: &[u8], out: &'a mut [u8]) -> Result<&'a mut [u8], Refusal> {
     // SAFETY: see above.
     let number = unsafe { walnut_encode_digest(digest.as_ptr(), digest.len(), out.as_mut_ptr(), out.len()) };
@@ -145,7 +188,8 @@ pub fn rewrite<'a>(word: &[u8], moves: &[u8], out: &'a mut [u8]) -> Result<&'a m
     written(number, out)
 }
 
-/// The verdict: is the word a signature of the digest under the key? [`Refusal::MATRICES_DIFFER`] if it is not.
+/// The verdict, over the key's field: is the word a signature of the digest under the key?
+/// [`Refusal::MATRICES_DIFFER`] if it is not.
 pub fn verify(key: &[u8], digest: &[u8], word: &[u8]) -> Result<(), Refusal> {
     let (file, bytes) = (key.as_ptr(), key.len());
     // SAFETY: see above.
@@ -154,7 +198,7 @@ pub fn verify(key: &[u8], digest: &[u8], word: &[u8]) -> Result<(), Refusal> {
     granted(answer, ())
 }
 
-/// Does the word cloak for the list under the key's T-values?
+/// Does the word cloak for the list under the key's T-values, over the key's field?
 pub fn cloaks(key: &[u8], labels: &[u8], word: &[u8]) -> Result<bool, Refusal> {
     let (file, bytes) = (key.as_ptr(), key.len());
     // SAFETY: see above.

@@ -7,14 +7,14 @@ use std::fmt;
 fn text(number: u8) -> &'static str {
     match number {
         // answers.txt: begin; tools/answers writes these lines
-        1 => "the key file is not 83 bytes",
+        1 => "the key file is neither 83 nor 128 bytes",
         2 => "the key is not for eight strands",
-        3 => "the key is not for the field with 32 elements",
+        3 => "the key's field does not go with its length: 32 elements with 83 bytes, 256 with 128",
         4 => "a T-value, or the number whose reciprocal is asked for, is zero",
         5 => "the first two T-values are not both 1",
         6 => "the list of labels is not 0 to 7, each once",
         7 => "filler bits of the key are not zero",
-        8 => "the digest is not 32 bytes",
+        8 => "the digest is not 32 or 64 bytes, or not the one of the two that goes with the key",
         9 => "the word has fewer than 2 bytes",
         10 => "the word's number of letters is over 10,000",
         11 => "the word's length is not what its number of letters needs",
@@ -22,8 +22,8 @@ fn text(number: u8) -> &'static str {
         13 => "an odd word's last half byte is not 0",
         14 => "the matrices differ: the word is no signature of this digest under this key",
         15 => "the output has fewer than 5,002 bytes",
-        16 => "the key's output has fewer than 83 bytes",
-        17 => "a T-value, a matrix entry or an operand is over 31: no element of the field",
+        16 => "the key's output has fewer than 83 bytes, or than 128 over the field with 256 elements",
+        17 => "a T-value, matrix entry or operand is no element: not below 32, or 256 in the larger field",
         18 => "the move list has fewer than 2 bytes",
         19 => "the move list states more than 4,096 moves",
         20 => "the move list's length is not 2 + 3 times its number of moves",

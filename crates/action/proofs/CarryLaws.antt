@@ -16,7 +16,6 @@ use Rattle.base.specs.Digits.{halves}
 use Rattle.base.proofs.ListLaws.{and-true, and-right, every-getD, every-append, every-take}
 use Rattle.base.proofs.DigitLaws.{length-halves, take-halves, halves-append}
 use Rattle.field.specs.Binary.{Operations}
-use Rattle.field.specs.Gf32.{gf32}
 use Rattle.braid.specs.Letters.{isLetter, isInverse, generator}
 use Rattle.braid.proofs.LetterLaws.{letter-cases}
 use Rattle.action.specs.declared.Pair.{Pair}

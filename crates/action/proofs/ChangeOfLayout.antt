@@ -11,7 +11,9 @@ use Rattle.base.specs.Questions.{_else_, firstNo, granted}
 use Rattle.base.specs.Lists.{valuesFrom}
 use Rattle.base.proofs.QuestionLaws.{granted-ap}
 use Rattle.field.specs.Binary.{Operations}
-use Rattle.field.specs.Gf32.{gf32, isElement}
+use Rattle.field.specs.Fields.{operations}
+use Rattle.field.specs.Elements.{isElement}
+use Rattle.field.specs.declared.Field.{Field}
 use Rattle.matrix.specs.Layout.{entry}
 use Rattle.matrix.specs.ByRows.{turned, entryByRows}
 use Rattle.matrix.proofs.LayoutLaws.{matrixOf-ext}
@@ -47,21 +49,21 @@ word-turned F ts [] p = refl
 word-turned F ts (c ∷ w) p = ap (wordOn F ts w) (letter-turned F ts c p) ∙ word-turned F ts w (letterByRows F ts c p)
 
 -- the multiplier, lent a pair p, by value or by reference: its answer, and what it gives where a refusal gives q
-module _ (p : Pair) (ts : List ℕ) (c : ℕ) (size : length (p .matrix) ≡ 64) where
-  pub answer-turned : firstNo (multiplierQuestions (turnedPair p) ts c) ≡ firstNo (multiplierQuestions p ts c)
+module _ (f : Field) (p : Pair) (ts : List ℕ) (c : ℕ) (size : length (p .matrix) ≡ 64) where
+  pub answer-turned : firstNo (multiplierQuestions f (turnedPair p) ts c) ≡ firstNo (multiplierQuestions f p ts c)
   unfolding turnedPair
   answer-turned =
-      ap (λ (b : Bool). firstNo ((elements ts && b else 17) ∷ drop 1 (multiplierQuestions p ts c))) (every-turned isElement (p .matrix) size)
+      ap (λ (b : Bool). firstNo ((elements f ts && b else 17) ∷ drop 1 (multiplierQuestions f p ts c))) (every-turned (isElement f) (p .matrix) size)
 
   pub given-turned : (q : Pair)
-      → granted (firstNo (multiplierQuestions (turnedPair p) ts c)) (letterOn gf32 ts c (turnedPair p)) (turnedPair q)
-      ≡ turnedPair (granted (firstNo (multiplierQuestions p ts c)) (letterByRows gf32 ts c p) q)
+      → granted (firstNo (multiplierQuestions f (turnedPair p) ts c)) (letterOn (operations f) ts c (turnedPair p)) (turnedPair q)
+      ≡ turnedPair (granted (firstNo (multiplierQuestions f p ts c)) (letterByRows (operations f) ts c p) q)
   given-turned q =
-      ap₂ (λ (n : ℕ) (r : Pair). granted n r (turnedPair q)) answer-turned (letter-turned gf32 ts c p)
-      ∙ sym (granted-ap turnedPair (firstNo (multiplierQuestions p ts c)) (letterByRows gf32 ts c p) q)
+      ap₂ (λ (n : ℕ) (r : Pair). granted n r (turnedPair q)) answer-turned (letter-turned (operations f) ts c p)
+      ∙ sym (granted-ap turnedPair (firstNo (multiplierQuestions f p ts c)) (letterByRows (operations f) ts c p) q)
 
   -- by value
-  pub multiplier-turned : {answer : ℕ} {after : Pair} → Multiplies (turnedPair p) ts c answer after
-      → after ≡ turnedPair (granted (firstNo (multiplierQuestions p ts c)) (letterByRows gf32 ts c p) zeroPair)
+  pub multiplier-turned : {answer : ℕ} {after : Pair} → Multiplies f (turnedPair p) ts c answer after
+      → after ≡ turnedPair (granted (firstNo (multiplierQuestions f p ts c)) (letterByRows (operations f) ts c p) zeroPair)
   unfolding zeroPair turned turnedPair valuesFrom
   multiplier-turned m = m .pair-is ∙ given-turned zeroPair

@@ -10,7 +10,9 @@ use lib.ListN.{length, getD}
 use Rattle.base.proofs.ListLaws.{and-left, every-getD}
 use Rattle.base.proofs.DigitLaws.{all-below}
 use Rattle.base.specs.Lists.{every, count, values, eachOnce}
-use Rattle.field.specs.Gf32.{gf32}
+use Rattle.field.specs.Fields.{operations}
+use Rattle.field.specs.declared.Field.{Field}
+use Rattle.field.proofs.Fields.{binary}
 use Rattle.action.specs.declared.Pair.{Pair}
 use Rattle.braid.specs.Strands.{isOrder}
 use Rattle.action.specs.Multiplier.{elements, nonzero}
@@ -22,21 +24,21 @@ unfolding eachOnce
 order-below labels e =
     all-below 8 labels (omega arith) (and-left (every (λ x. ltb x 8) labels) (every (λ a. eqb (count a labels) 1) (values (λ a. a) 8)) e)
 
-pub tested-pair : (p : Pair) → length (p .matrix) ≡ 64 → length (p .labels) ≡ 8 → elements (p .matrix) ≡ true → isOrder (p .labels) ≡ true
-    → GoodPair gf32 p
-tested-pair p m l e o =
+pub tested-pair : (f : Field) (p : Pair) → length (p .matrix) ≡ 64 → length (p .labels) ≡ 8 → elements f (p .matrix) ≡ true → isOrder (p .labels) ≡ true
+    → GoodPair (operations f) p
+tested-pair f p m l e o =
     record {
       entries = m;
-      entry-below = all-below 32 (p .matrix) (omega arith) e;
+      entry-below = all-below (operations f .size) (p .matrix) (binary f .zero-below) e;
       strands = l;
       label-below = order-below (p .labels) o;
     }
 
-pub tested-values : (ts : List ℕ) → length ts ≡ 8 → elements ts ≡ true → nonzero ts ≡ true → TValues gf32 ts
-tested-values ts l e n =
+pub tested-values : (f : Field) (ts : List ℕ) → length ts ≡ 8 → elements f ts ≡ true → nonzero ts ≡ true → TValues (operations f) ts
+tested-values f ts l e n =
     record {
       above-zero = λ a h. positive (getD ts a 0) (every-getD (λ t. not (eqb t 0)) ts n a (omega arith));
-      below-size = λ a h. all-below 32 ts (omega arith) e a;
+      below-size = λ a h. all-below (operations f .size) ts (binary f .zero-below) e a;
     }
   where
     positive : (t : ℕ) → not (eqb t 0) ≡ true → 0 < t

@@ -11,23 +11,25 @@ use Rattle.base.specs.Lists.{every}
 use Rattle.base.specs.Digits.{halves}
 use Rattle.base.proofs.QuestionLaws.{granted-zero, granted-refused, answers-passed}
 use Rattle.base.proofs.ListLaws.{and-both}
-use Rattle.field.specs.Gf32.{gf32}
+use Rattle.field.specs.Binary.{Operations}
+use Rattle.field.specs.Fields.{operations}
+use Rattle.field.specs.declared.Field.{Field}
 use Rattle.braid.specs.Letters.{isLetter}
 use Rattle.braid.proofs.LetterLaws.{letter-cases}
 use Rattle.action.specs.declared.Pair.{Pair}
 use Rattle.action.specs.Action.{letterOn, wordOn}
 use Rattle.action.specs.Multiplier.{multiplierQuestions, zeroPair, Multiplies}
 
-module _ (p : Pair) (ts : List ℕ) (c : ℕ) where
+module _ (f : Field) (p : Pair) (ts : List ℕ) (c : ℕ) where
   -- answer 0: the code is a letter
-  pub granted-letter : firstNo (multiplierQuestions p ts c) ≡ 0 → isLetter c ≡ true
-  granted-letter e = answers-passed (multiplierQuestions p ts c) tt e .1 .1 .1 .0
+  pub granted-letter : firstNo (multiplierQuestions f p ts c) ≡ 0 → isLetter c ≡ true
+  granted-letter e = answers-passed (multiplierQuestions f p ts c) tt e .1 .1 .1 .0
 
   -- what is given
-  pub multiplied : {answer : ℕ} {after : Pair} → answer ≡ firstNo (multiplierQuestions p ts c) → answer ≡ 0 → after ≡ letterOn gf32 ts c p
-      → Multiplies p ts c answer after
-  multiplied a z e = record { answer-is = a; pair-is = e ∙ sym (granted-zero (letterOn gf32 ts c p) zeroPair (sym a ∙ z)) }
+  pub multiplied : {answer : ℕ} {after : Pair} → answer ≡ firstNo (multiplierQuestions f p ts c) → answer ≡ 0 → after ≡ letterOn (operations f) ts c p
+      → Multiplies f p ts c answer after
+  multiplied a z e = record { answer-is = a; pair-is = e ∙ sym (granted-zero (letterOn (operations f) ts c p) zeroPair (sym a ∙ z)) }
 
-  pub refused : {answer : ℕ} {after : Pair} → answer ≡ firstNo (multiplierQuestions p ts c) → (answer ≡ 0 → ⊥) → after ≡ zeroPair
-      → Multiplies p ts c answer after
-  refused a n e = record { answer-is = a; pair-is = e ∙ sym (granted-refused (letterOn gf32 ts c p) zeroPair (λ z. n (a ∙ z))) }
+  pub refused : {answer : ℕ} {after : Pair} → answer ≡ firstNo (multiplierQuestions f p ts c) → (answer ≡ 0 → ⊥) → after ≡ zeroPair
+      → Multiplies f p ts c answer after
+  refused a n e = record { answer-is = a; pair-is = e ∙ sym (granted-refused (letterOn (operations f) ts c p) zeroPair (λ z. n (a ∙ z))) }

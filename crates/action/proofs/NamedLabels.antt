@@ -1,6 +1,6 @@
 -- Labels by name: a word moves places of a list as it moves the labels that stand there, and the T-values by place are
 -- those of the labels. So the loop may hold places, whatever the labels are.
-use Prim.Native.Nat.{ℕ, _+_, _%_, _<_}
+use Prim.Native.Nat.{_≤_, ℕ, _+_, _%_, _<_}
 use mathlib.Core.Path.{_≡_, refl, sym, ap, ap₂, _∙_}
 use mathlib.Core.Bool.{Bool, true, cond}
 use mathlib.Core.List.{List, [], _∷_}
@@ -12,8 +12,7 @@ use Rattle.base.specs.Lists.{every, values, valuesFrom}
 use Rattle.base.proofs.DigitLaws.{all-below}
 use Rattle.base.proofs.ListLaws.{and-left, and-right, length-values, getD-values, values-of}
 use Rattle.field.specs.Binary.{Operations}
-use Rattle.field.specs.Gf32.{gf32, modulus}
-use Rattle.field.proofs.TableLaws.{gf32-degree}
+use Rattle.field.specs.Polynomial.{Degree, polynomials}
 use Rattle.columns.specs.Lanes.{columnsMatrix}
 use Rattle.columns.specs.Constants.{Bytes, Constants}
 use Rattle.braid.specs.Letters.{isLetter, isInverse, generator}
@@ -107,16 +106,16 @@ first-below : (k : ℕ) → getD first k 0 < 8
 unfolding valuesFrom every
 first-below = all-below 8 first (omega arith) refl
 
-pub begun : (cs columns : List ℕ) → Bytes cs → length columns ≡ 9 → Held 5 cs columns first
+pub begun : {bits : ℕ} → bits ≤ 8 → (cs columns : List ℕ) → Bytes cs → length columns ≡ 9 → Held bits cs columns first
 unfolding valuesFrom
-begun cs columns b l = record { small = omega arith; bytes = b; nine = l; eight = refl; below = first-below }
+begun narrow cs columns b l = record { small = narrow; bytes = b; nine = l; eight = refl; below = first-below }
 
 -- the pair that comes of it is the pair that the word carries the first to
-pub ended : (ts names m cs w columns columns′ places : List ℕ) → length names ≡ 8 → columnsMatrix columns ≡ m → Constants gf32 5 (valuesAt ts names) cs
-    → every isLetter w ≡ true → Carried 5 cs w columns first columns′ places
-    → pairOf (columnsMatrix columns′) (named names places) ≡ wordOn gf32 ts w (pairOf m names)
+pub ended : {bits p : ℕ} → Degree bits p → (ts names m cs w columns columns′ places : List ℕ) → length names ≡ 8 → columnsMatrix columns ≡ m → Constants (polynomials bits p) bits (valuesAt ts names) cs
+    → every isLetter w ≡ true → Carried bits cs w columns first columns′ places
+    → pairOf (columnsMatrix columns′) (named names places) ≡ wordOn (polynomials bits p) ts w (pairOf m names)
 unfolding valuesFrom
-ended ts names m cs w columns columns′ places l e constants letters carried =
-    ap (λ (q : Pair). pairOf (q .matrix) (named names (q .labels))) (carried .carries modulus gf32-degree (valuesAt ts names) constants)
-    ∙ word-named names gf32 ts w (columnsMatrix columns) first letters refl first-below
-    ∙ ap₂ (λ (m labels : List ℕ). wordOn gf32 ts w (pairOf m labels)) e (named-itself names l)
+ended {bits} {p} degree ts names m cs w columns columns′ places l e constants letters carried =
+    ap (λ (q : Pair). pairOf (q .matrix) (named names (q .labels))) (carried .carries p degree (valuesAt ts names) constants)
+    ∙ word-named names (polynomials bits p) ts w (columnsMatrix columns) first letters refl first-below
+    ∙ ap₂ (λ (m labels : List ℕ). wordOn (polynomials bits p) ts w (pairOf m labels)) e (named-itself names l)

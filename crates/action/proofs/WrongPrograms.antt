@@ -14,6 +14,7 @@ use Rattle.base.specs.Lists.{every, count, values, valuesFrom, eachOnce}
 use Rattle.base.proofs.QuestionLaws.{granted-zero}
 use Rattle.field.specs.Polynomial.{timesX, horner, times, first, reciprocalOf}
 use Rattle.field.specs.Gf32.{gf32}
+use Rattle.field.specs.declared.Field.the-variants.{Gf32}
 use Rattle.braid.specs.Letters.{generator, isInverse}
 use Rattle.action.specs.declared.Pair.{Pair}
 use Rattle.action.specs.declared.Multiplied.{Multiplied}
@@ -61,10 +62,10 @@ pub record Accepted (p : Pair) (ts : List ℕ) (c : ℕ) : Type 0 where
   pub entries : length (p .matrix) ≡ 64
   pub strands : length (p .labels) ≡ 8
   pub t-values : length ts ≡ 8
-  pub passed : firstNo (multiplierQuestions p ts c) ≡ 0
+  pub passed : firstNo (multiplierQuestions Gf32 p ts c) ≡ 0
 
 abbrev pub Meets : Multiplier → Type 0
-Meets f = (p : Pair) (ts : List ℕ) (c : ℕ) → Accepted p ts c → Multiplies p ts c (f p ts c .answer) (f p ts c .pair)
+Meets f = (p : Pair) (ts : List ℕ) (c : ℕ) → Accepted p ts c → Multiplies Gf32 p ts c (f p ts c .answer) (f p ts c .pair)
 
 -- the inputs that tell: the T-values 1 1 2 3 4 5 6 7, and the identity matrix with the list 0 to 7 or another
 abbrev plain : List ℕ
@@ -92,7 +93,7 @@ module _ (f : Multiplier) (meets : Meets f) where
 
   -- then g shows what the letter shows
   shows : {inverse : Bool} {g : LetterOn} (look : Pair → ℕ) (order : List ℕ) (c : ℕ) → Gives inverse g → length order ≡ 8
-      → firstNo (multiplierQuestions (identityWith order) plain c) ≡ 0 → isInverse c ≡ inverse
+      → firstNo (multiplierQuestions Gf32 (identityWith order) plain c) ≡ 0 → isInverse c ≡ inverse
       → look (letterOn gf32 plain c (identityWith order)) ≡ look (g plain c (identityWith order))
   unfolding identity rowOf columnOf matrixOf valuesFrom
   shows look order c gives l q s =

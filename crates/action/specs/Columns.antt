@@ -1,4 +1,5 @@
--- A pair as the loop over letters holds it, for private contracts: the matrix by columns of 64 bits, behind a spare one.
+-- A pair as the loop over letters holds it, for private contracts: the matrix by columns of 64 bits, behind a spare
+-- one.
 use Prim.Native.Nat.{ℕ, _+_, _<_, _≤_}
 use mathlib.Core.Path.{_≡_}
 use mathlib.Core.Bool.{Bool, cond}
@@ -19,8 +20,8 @@ use Rattle.action.specs.Action.{Share, tValue, positiveShare, inverseSha
 abbrev pub heldPair : List ℕ → List ℕ → Pair
 heldPair columns labels = pairOf (columnsMatrix columns) labels
 
--- the names that stand at the places of a list: the loop's labels are places of the list that it began with, so that any
--- list will do
+-- the names that stand at the places of a list: the loop's labels are places of the list that it began with, so that
+-- any list will do
 unfoldable pub named : List ℕ → List ℕ → List ℕ
 named names places = values (λ k. getD names (getD places k 0) 0) 8
 
@@ -49,12 +50,13 @@ pub record Spread (x y z g : ℕ) (columns after : List ℕ) : Type 0 where
 unfoldable pub shareBy : Operations → Bool → ℕ → Share
 shareBy F inverse t = cond inverse (inverseShare F t) (positiveShare F t)
 
--- the number that a letter takes: the T-value of its own label, or for an inverse letter the reciprocal of the next one's
+-- the number that a letter takes: the T-value of its own label, or for an inverse letter the reciprocal of the next
+-- one's
 unfoldable pub takenBy : Operations → List ℕ → List ℕ → Bool → ℕ → ℕ
 takenBy F ts labels inverse g = cond inverse (F .inv (tValue ts labels (g + 1))) (tValue ts labels g)
 
--- columns and labels after a letter whose own column is g, over every field, whatever number t it takes: the constants of
--- t stand from a place on
+-- columns and labels after a letter whose own column is g, over every field, whatever number t it takes: the constants
+-- of t stand from a place on
 pub record Crossed (bits : ℕ) (constants : List ℕ) (at g : ℕ) (inverse : Bool) (columns labels columns′ labels′ : List ℕ) : Type 0 where
   pub nine : length columns′ ≡ 9
   pub exchanged : labels′ ≡ swapped g labels

@@ -7,24 +7,26 @@ use lib.Dec.{eqb}
 use lib.ListN.{replicate}
 use Rattle.base.specs.Questions.{Question, _else_, firstNo, granted}
 use Rattle.base.specs.Lists.{every}
-use Rattle.field.specs.Gf32.{gf32, isElement}
+use Rattle.field.specs.Fields.{operations}
+use Rattle.field.specs.Elements.{isElement}
+use Rattle.field.specs.declared.Field.{Field}
 use Rattle.braid.specs.Letters.{isLetter}
 use Rattle.action.specs.declared.Pair.{Pair}
 use Rattle.action.specs.Action.{pairOf, letterOn}
 use Rattle.braid.specs.Strands.{isOrder}
 
 -- The tests that keys and cloaking ask too. Are T-values or entries elements of the field?
-abbrev pub elements : List ℕ → Bool
-elements xs = every isElement xs
+abbrev pub elements : Field → List ℕ → Bool
+elements f xs = every (isElement f) xs
 
 -- is no T-value zero?
 abbrev pub nonzero : List ℕ → Bool
 nonzero ts = every (λ t. not (eqb t 0)) ts
 
 -- The multiplier alone: 17 for T-values and entries, then 4, 6, 12
-abbrev pub multiplierQuestions : Pair → List ℕ → ℕ → List Question
-multiplierQuestions p ts c =
-    (elements ts && elements (p .matrix) else 17)
+abbrev pub multiplierQuestions : Field → Pair → List ℕ → ℕ → List Question
+multiplierQuestions f p ts c =
+    (elements f ts && elements f (p .matrix) else 17)
     ∷ (nonzero ts else 4)
     ∷ (isOrder (p .labels) else 6)
     ∷ (isLetter c else 12)
@@ -35,6 +37,6 @@ unfoldable pub zeroPair : Pair
 zeroPair = pairOf (replicate 64 0) (replicate 8 0)
 
 -- an answer, and beside it the pair with the letter multiplied in, or zeros
-pub record Multiplies (p : Pair) (ts : List ℕ) (c : ℕ) (answer : ℕ) (after : Pair) : Type 0 where
-  pub answer-is : answer ≡ firstNo (multiplierQuestions p ts c)
-  pub pair-is : after ≡ granted (firstNo (multiplierQuestions p ts c)) (letterOn gf32 ts c p) zeroPair
+pub record Multiplies (f : Field) (p : Pair) (ts : List ℕ) (c : ℕ) (answer : ℕ) (after : Pair) : Type 0 where
+  pub answer-is : answer ≡ firstNo (multiplierQuestions f p ts c)
+  pub pair-is : after ≡ granted (firstNo (multiplierQuestions f p ts c)) (letterOn (operations f) ts c p) zeroPair

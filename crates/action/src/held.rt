@@ -1,20 +1,19 @@
 // A pair as the loop over letters holds it: columns of 64 bits, places for labels, and the constants of a word; and the
 // pair that comes of them.
 use crate::Pair;
+use field::inverse;
 ghost use mathlib.Core.Path.{_≡_};
-ghost use Prim.Native.Nat.{ℕ, _<_};
+ghost use mathlib.Core.List.{_∷_};
+ghost use mathlib.Core.Bool.{cond};
+ghost use Prim.Native.Nat.{ℕ, suc, _+_, _%_, _<_};
 ghost use lib.ListN.{length, getD};
 ghost use Rattle.base.specs.Lists.{values};
-ghost use Rattle.field.specs.Gf32.{gf32};
+ghost use Rattle.field.specs.Polynomial.{polynomials};
+ghost use Rattle.field.specs.Reciprocals.{LentField};
 ghost use Rattle.columns.specs.Lanes.{columnsMatrix};
 ghost use Rattle.columns.specs.Constants.{Bytes, Multiples, Constants};
 ghost use Rattle.action.specs.Action.{tValue, pairOf};
 ghost use Rattle.action.specs.Columns.{named, valuesAt, takenBy};
-
-// GF(32): the bits of an element, and those of x^5 + x^2 + 1.
-pub(crate) const BITS: usize = 5;
-
-const MODULUS: u64 = 0b100101;
 
 // The T-value of a label; 0 for one over 7.
 fn value_of(t_values: &[u8], label: u8) -> u8
@@ -42,29 +41,34 @@ fn values_at(t_values: &[u8], labels: &[u8; 8]) -> [u8; 8]
     list
 }
 
-// Eight reciprocals; 0 for 0.
-fn reciprocals_of(numbers: &[u8; 8]) -> [u8; 8]
-    ensures { λ r. ⌜ r ≡ values (λ k. gf32 .inv (getD (now (numbers .entry)) k 0)) 8 ⌝ }
+// Eight reciprocals, by the lent table; 0 for 0.
+fn reciprocals_of(numbers: &[u8; 8], table: &[u8]) -> [u8; 8]
+    requires { ⌜ length (now table) < 256 ⌝ }
+    ensures { λ r. ⌜ r ≡ values (λ k. getD (0 ∷ now (table .entry)) (getD (now (numbers .entry)) k 0 % suc (length (now (table .entry)))) 0) 8 ⌝ }
 {
     let mut list = [0u8; 8];
     let mut i = 0;
     while i < 8 {
-        let reciprocal = field::reciprocal(numbers[i] % 32);
-        list[i] = reciprocal.value;
+        list[i] = inverse(numbers[i], table);
         i += 1;
     }
     list
 }
 
-// The number that a letter takes, whose own column is g.
-fn taken(t_values: &[u8], labels: &[u8; 8], inverse: bool, g: usize) -> u8
-    requires { ⌜ (length (now «t_values») ≡ 8) × (g < 7) ⌝ }
-    ensures { λ r. ⌜ r ≡ takenBy gf32 (now («t_values» .entry)) (now (labels .entry)) inverse g ⌝ }
+// The number that a letter takes, whose own column is g, by the lent table of reciprocals.
+fn taken(t_values: &[u8], labels: &[u8; 8], negative: bool, g: usize, table: &[u8]) -> u8
+    requires { ⌜ (length (now «t_values») ≡ 8) × (g < 7) × (length (now table) < 256) ⌝ }
+    ensures { λ r.
+        ⌜
+        r
+        ≡ cond negative
+        (getD (0 ∷ now (table .entry)) (tValue (now («t_values» .entry)) (now (labels .entry)) (g + 1) % suc (length (now (table .entry)))) 0)
+        (tValue (now («t_values» .entry)) (now (labels .entry)) g)
+        ⌝ }
 {
-    if inverse {
+    if negative {
         let value = value_of(t_values, labels[g + 1]);
-        let reciprocal = field::reciprocal(value % 32);
-        reciprocal.value
+        inverse(value, table)
     } else {
         value_of(t_values, labels[g])
     }
@@ -74,23 +78,37 @@ fn taken(t_values: &[u8], labels: &[u8; 8], inverse: bool, g: usize) -> u8
 pub(crate) fn constants_taken(
     t_values: &[u8],
     labels: &[u8; 8],
-    inverse: bool,
+    negative: bool,
     g: usize,
+    table: &[u8],
+    bits: usize,
+    modulus: u64,
 ) -> [u64; 8]
-    requires { ⌜ (length (now «t_values») ≡ 8) × (g < 7) ⌝ }
-    ensures { λ r. ⌜ Bytes r × Multiples gf32 5 r 0 (takenBy gf32 (now («t_values» .entry)) (now (labels .entry)) inverse g) ⌝ }
+    requires { ⌜ (length (now «t_values») ≡ 8) × (g < 7) × LentField bits modulus (now table) ⌝ }
+    ensures { λ r.
+        ⌜
+        Bytes r
+        × Multiples (polynomials bits modulus) bits r 0 (takenBy (polynomials bits modulus) (now («t_values» .entry)) (now (labels .entry)) negative g)
+        ⌝ }
 {
-    columns::multiples_of(taken(t_values, labels, inverse, g), BITS, MODULUS)
+    let number = taken(t_values, labels, negative, g, table);
+    columns::multiples_of(number, bits, modulus)
 }
 
-// The constants of the T-values by place of a list.
-pub(crate) fn constants_by_place(t_values: &[u8], labels: &[u8; 8]) -> [u64; 128]
-    requires { ⌜ length (now «t_values») ≡ 8 ⌝ }
-    ensures { λ r. ⌜ Constants gf32 5 (valuesAt (now («t_values» .entry)) (now (labels .entry))) r ⌝ }
+// The constants of the T-values by place of a list, by what is lent of the field.
+pub(crate) fn constants_by_place(
+    t_values: &[u8],
+    labels: &[u8; 8],
+    table: &[u8],
+    bits: usize,
+    modulus: u64,
+) -> [u64; 128]
+    requires { ⌜ (length (now «t_values») ≡ 8) × LentField bits modulus (now table) ⌝ }
+    ensures { λ r. ⌜ Constants (polynomials bits modulus) bits (valuesAt (now («t_values» .entry)) (now (labels .entry))) r ⌝ }
 {
     let numbers = values_at(t_values, labels);
-    let reciprocals = reciprocals_of(&numbers);
-    columns::constants_of(&numbers, &reciprocals, BITS, MODULUS)
+    let reciprocals = reciprocals_of(&numbers, table);
+    columns::constants_of(&numbers, &reciprocals, bits, modulus)
 }
 
 // The labels that stand at places of a list.

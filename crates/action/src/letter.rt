@@ -77,8 +77,8 @@ pub(crate) fn cross(
     exchange(labels, g);
 }
 
-// The letter on the pair of the columns and the labels. The labels are read before they are stored, for the place of the
-// constants: read and stored in one, they would be exchanged in memory, and each letter would wait for the last.
+// The letter on the pair of the columns and the labels. The labels are read before they are stored, for the place of
+// the constants: read and stored in one, they would be exchanged in memory, and each letter would wait for the last.
 pub(crate) fn letter(
     columns: &mut [u64; 9],
     labels: &mut [u8; 8],

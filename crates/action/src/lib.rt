@@ -1,4 +1,4 @@
-// E-multiplication: pairs of a matrix over GF(32) and a list of labels, and braid words multiplied into them.
+// E-multiplication: pairs of a matrix over either field and a list of labels, and braid words multiplied into them.
 ghost use mathlib.Core.Path.{_≡_};
 ghost use Rattle.action.specs.Action.{pairOf, start};
 ghost use Rattle.action.specs.Multiplier.{zeroPair};

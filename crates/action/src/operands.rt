@@ -1,4 +1,5 @@
 // Tests on T-values, entries and labels, for the questions of the multiplier and of keys.
+use field::Field;
 ghost use mathlib.Core.Path.{_≡_};
 ghost use lib.Dec.{eqb, ltb};
 ghost use Rattle.base.specs.Lists.{every, count, values};
@@ -20,10 +21,13 @@ fn all_below(xs: &[u8], limit: u8) -> bool
 }
 
 // Is every number an element of the field?
-pub fn all_elements(xs: &[u8]) -> bool
-    ensures { λ r. ⌜ r ≡ elements (now (xs .entry)) ⌝ }
+pub fn all_elements(xs: &[u8], f: Field) -> bool
+    ensures { λ r. ⌜ r ≡ elements f (now (xs .entry)) ⌝ }
 {
-    all_below(xs, 32)
+    match f {
+        Field::Gf32 => all_below(xs, 32),
+        Field::Gf256 => true, // every byte
+    }
 }
 
 // How often a number occurs.

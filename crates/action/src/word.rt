@@ -1,16 +1,22 @@
 // A whole word multiplied into a pair.
 use crate::Pair;
-use crate::held::BITS;
 use crate::held::constants_by_place;
 use crate::held::pair_of;
 use crate::letter::letter;
+use field::Field;
+use field::LARGE_BITS;
+use field::LARGE_MODULUS;
+use field::SMALL_BITS;
+use field::SMALL_MODULUS;
 ghost use mathlib.Core.Path.{_≡_};
 ghost use Prim.Native.Nat.{_*_, _≤_};
 ghost use mathlib.Core.Bool.{true};
 ghost use lib.ListN.{length, take};
 ghost use Rattle.base.specs.Lists.{every};
 ghost use Rattle.base.specs.Digits.{halves};
-ghost use Rattle.field.specs.Gf32.{gf32};
+ghost use Rattle.field.specs.Polynomial.{polynomials};
+ghost use Rattle.field.specs.Reciprocals.{LentField};
+ghost use Rattle.field.specs.Fields.{operations};
 ghost use Rattle.braid.specs.Letters.{isLetter};
 ghost use Rattle.action.specs.Action.{wordOn, codesOn, pairOf};
 ghost use Rattle.action.specs.Columns.{Held, Carried};
@@ -88,18 +94,42 @@ fn letters(
     }
 }
 
-// A row of letters, one code to a byte, multiplied into the pair.
-pub fn carry_letters(pair: Pair, t_values: &[u8; 8], codes: &[u8]) -> Pair
-    requires { ⌜ every isLetter (now codes) ≡ true ⌝ }
-    ensures { λ r. ⌜ r ≡ wordOn gf32 (now («t_values» .entry)) (now (codes .entry)) pair ⌝ }
+// A row of letters, one code to a byte, multiplied into the pair, by what is lent of the field.
+fn row(
+    pair: Pair,
+    t_values: &[u8; 8],
+    codes: &[u8],
+    table: &[u8],
+    bits: usize,
+    modulus: u64,
+) -> Pair
+    requires { ⌜ LentField bits modulus (now table) × (every isLetter (now codes) ≡ true) ⌝ }
+    ensures { λ r. ⌜ r ≡ wordOn (polynomials bits modulus) (now («t_values» .entry)) (now (codes .entry)) pair ⌝ }
 {
     let matrix = pair.matrix;
     let labels = pair.labels;
-    let constants = constants_by_place(t_values, &labels);
+    let constants = constants_by_place(t_values, &labels, table, bits, modulus);
     let mut columns = columns::columns_of(&matrix);
     let mut places = [0u8, 1, 2, 3, 4, 5, 6, 7];
-    run(&mut columns, &mut places, &constants, BITS, codes);
+    run(&mut columns, &mut places, &constants, bits, codes);
     pair_of(&columns, &places, &labels)
+}
+
+// A row of letters, one code to a byte, multiplied into the pair.
+pub fn carry_letters(pair: Pair, t_values: &[u8; 8], codes: &[u8], f: Field) -> Pair
+    requires { ⌜ every isLetter (now codes) ≡ true ⌝ }
+    ensures { λ r. ⌜ r ≡ wordOn (operations f) (now («t_values» .entry)) (now (codes .entry)) pair ⌝ }
+{
+    match f {
+        Field::Gf32 => {
+            let table = field::small_reciprocals();
+            row(pair, t_values, codes, &table, SMALL_BITS, SMALL_MODULUS)
+        }
+        Field::Gf256 => {
+            let table = field::large_reciprocals();
+            row(pair, t_values, codes, &table, LARGE_BITS, LARGE_MODULUS)
+        }
+    }
 }
 
 // As many of n packed codes as there are.
@@ -114,20 +144,49 @@ fn codes_in(part: &[u8], n: usize) -> usize
     if n < all { n } else { all }
 }
 
+// The first n packed letters multiplied into the pair, by what is lent of the field.
+fn packed(
+    pair: Pair,
+    t_values: &[u8; 8],
+    part: &[u8],
+    n: usize,
+    table: &[u8],
+    bits: usize,
+    modulus: u64,
+) -> Pair
+    requires { ⌜
+        LentField bits modulus (now table)
+        × (n ≤ 2 * length (now part))
+        × (every isLetter (take n (halves (now part))) ≡ true)
+        ⌝ }
+    ensures { λ r. ⌜ r ≡ wordOn (polynomials bits modulus) (now («t_values» .entry)) (take n (halves (now (part .entry)))) pair ⌝ }
+{
+    let matrix = pair.matrix;
+    let labels = pair.labels;
+    let constants = constants_by_place(t_values, &labels, table, bits, modulus);
+    let mut columns = columns::columns_of(&matrix);
+    let mut places = [0u8, 1, 2, 3, 4, 5, 6, 7];
+    letters(&mut columns, &mut places, &constants, bits, part, n);
+    pair_of(&columns, &places, &labels)
+}
+
 // The first n packed codes, or all if there are fewer, multiplied into the pair; where one of them is no letter, the
 // pair as it was.
-pub fn carry(pair: Pair, t_values: &[u8; 8], part: &[u8], n: usize) -> Pair
-    ensures { λ r. ⌜ r ≡ codesOn gf32 (now («t_values» .entry)) (take n (halves (now (part .entry)))) pair ⌝ }
+pub fn carry(pair: Pair, t_values: &[u8; 8], part: &[u8], n: usize, f: Field) -> Pair
+    ensures { λ r. ⌜ r ≡ codesOn (operations f) (now («t_values» .entry)) (take n (halves (now (part .entry)))) pair ⌝ }
 {
     let end = codes_in(part, n);
     if !braid::all_letters(part, end) {
         return pair;
     }
-    let matrix = pair.matrix;
-    let labels = pair.labels;
-    let constants = constants_by_place(t_values, &labels);
-    let mut columns = columns::columns_of(&matrix);
-    let mut places = [0u8, 1, 2, 3, 4, 5, 6, 7];
-    letters(&mut columns, &mut places, &constants, BITS, part, end);
-    pair_of(&columns, &places, &labels)
+    match f {
+        Field::Gf32 => {
+            let table = field::small_reciprocals();
+            packed(pair, t_values, part, end, &table, SMALL_BITS, SMALL_MODULUS)
+        }
+        Field::Gf256 => {
+            let table = field::large_reciprocals();
+            packed(pair, t_values, part, end, &table, LARGE_BITS, LARGE_MODULUS)
+        }
+    }
 }

@@ -1,20 +1,11 @@
 // The constants of a word: the products of each T-value and of its reciprocal with the powers of x.
 use crate::wide;
+use field::times_x;
 ghost use mathlib.Core.Path.{_≡_};
 ghost use Prim.Native.Nat.{_+_, _*_, _^_, _<_, _≤_};
 ghost use lib.ListN.{length};
-ghost use Rattle.field.specs.Polynomial.{Degree, timesX, polynomials};
+ghost use Rattle.field.specs.Polynomial.{Degree, polynomials};
 ghost use Rattle.columns.specs.Constants.{Bytes, Multiples, Filled, AllFilled, Reciprocals, Constants};
-
-// x times an element, reduced by the modulus.
-fn times_x(a: u64, bits: usize, modulus: u64) -> u64
-    requires { ⌜ (bits ≤ 8) × (a < 2 ^ bits) ⌝ }
-    ensures { λ r. ⌜ r ≡ timesX bits modulus a ⌝ }
-{
-    let twice = a * 2;
-    let size: u64 = 1 << bits;
-    if twice < size { twice } else { twice ^ modulus }
-}
 
 // The products of a number with 1, x, x^2, .. go from a place on.
 fn multiples(list: &mut [u64], at: usize, number: u8, bits: usize, modulus: u64)

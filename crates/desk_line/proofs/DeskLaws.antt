@@ -1,18 +1,22 @@
 -- A part of an input that may end before it, and the line of an answer with one, two or three digits.
-use Prim.Native.Nat.{ℕ, _+_, _-_, _/_, _%_, _≤_, _<_, min}
+use Prim.Native.Nat.{ℕ, _+_, _*_, _-_, _/_, _%_, _≤_, _<_, min}
 use native.Mathlib.Nat.{min-eq-left, min-eq-right, div-one}
 use native.Mathlib.Decide.{decLe}
 use native.Mathlib.Omega.{arith}
-use mathlib.Core.Path.{_≡_, sym, ap, subst, _∙_}
-use mathlib.Core.Bool.{Bool, true, false, _&&_}
+use mathlib.Core.Path.{_≡_, refl, sym, ap, subst, _∙_}
+use mathlib.Core.Bool.{Bool, true, false, cond, _&&_}
 use mathlib.Core.List.{List, [], _∷_, _++_}
-use borrow.Author.Tests.{lt-ltb, le-ltb}
-use lib.ListN.{length, take, drop, replicate, length-append, length-take, length-drop, drop-of-length-le}
+use borrow.Author.Tests.{lt-ltb, le-ltb, ne-eqb}
+use lib.Dec.{eqb}
+use lib.ListN.{length, getD, take, drop, replicate, length-append, length-take, length-drop, drop-of-length-le}
 use lib.Seq.{take-all, take-length, drop-length}
-use Rattle.base.specs.Digits.{digits, part}
+use Rattle.base.specs.Digits.{value, digits, part}
 use Rattle.base.specs.Lists.{overlaid}
+use Rattle.field.specs.Fields.{keyBytes, digestBytes}
+use Rattle.field.specs.declared.Field.{Field}
+use Rattle.field.specs.declared.Field.the-variants.{Gf32, Gf256}
 use Rattle.verify.specs.Verdict.{verdict}
-use Rattle.desk_line.specs.Desk.{deskVerdict, answerLine, answerWord, decimal, places, filesLine, Tells}
+use Rattle.desk_line.specs.Desk.{deskField, cutVerdict, deskVerdict, answerLine, answerWord, decimal, places, filesLine, Tells}
 use Rattle.desk_line.specs.declared.Got.{Got}
 
 take-least : (n : ℕ) (xs : List ℕ) → take (min n (length xs)) xs ≡ take n xs
@@ -44,10 +48,31 @@ module _ (at most start n : ℕ) (xs : List ℕ) (s : start ≡ min at (length x
   pub cut-length : n ≡ length (take n (take (length xs - start) (drop start xs)))
   cut-length = rw length-take (omega arith)
 
-pub judged-parts : {k d w : List ℕ} (input : List ℕ) → k ≡ part 0 83 input → d ≡ part 83 32 input → w ≡ part 115 5003 input
-    → verdict k d w ≡ deskVerdict input
-unfolding deskVerdict
-judged-parts input p q r = λ i. verdict (p i) (q i) (r i)
+pub cut-parts : {key digest word : List ℕ} (k d : ℕ) (input : List ℕ) → key ≡ part 0 k input → digest ≡ part k d input → word ≡ part (k + d) 5003 input
+    → verdict key digest word ≡ cutVerdict k d input
+unfolding cutVerdict
+cut-parts k d input p q r = λ i. verdict (p i) (q i) (r i)
+
+-- the cut of the field that an input names
+pub cut-for : (input : List ℕ) (large : Bool) → eqb (value 256 (part 1 2 input)) 256 ≡ large
+    → let f : Field = cond large Gf256 Gf32 in cutVerdict (keyBytes f) (digestBytes f) input ≡ deskVerdict input
+unfolding deskVerdict deskField
+cut-for input large e =
+    ap (λ (b : Bool). cutVerdict (keyBytes (cond b Gf256 Gf32)) (digestBytes (cond b Gf256 Gf32)) input) (sym e)
+
+-- an old promise: an input that does not say 256 is judged as it was when there was one field
+pub old-input : (input : List ℕ) → (value 256 (part 1 2 input) ≡ 256 → ⊥)
+    → deskVerdict input ≡ verdict (part 0 83 input) (part 83 32 input) (part 115 5003 input)
+unfolding cutVerdict
+old-input input h = sym (cut-for input false (ne-eqb (value 256 (part 1 2 input)) 256 h))
+
+-- an input of less than three bytes names the smaller field
+pub short-names : (input : List ℕ) → length input < 3 → ((k : ℕ) → getD input k 0 < 256) → eqb (value 256 (part 1 2 input)) 256 ≡ false
+unfolding value
+short-names [] h b = refl
+short-names (x ∷ []) h b = refl
+short-names (x ∷ y ∷ []) h b = ne-eqb (y * 1 + 0) 256 (λ e. omega (arith, b 1))
+short-names (x ∷ y ∷ z ∷ xs) h b = absurd (omega arith)
 
 pub told : {written : List ℕ} {bytes : ℕ} {text : List ℕ} (l : List ℕ) → written ≡ l → bytes ≡ length l → text ≡ overlaid l (replicate 11 0)
     → Tells written bytes text

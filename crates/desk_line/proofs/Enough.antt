@@ -1,24 +1,28 @@
--- How much of a file is enough to read: 84 bytes of a key, 33 of a digest and 5,003 of a signature are judged as the
--- whole files are, of any length, and so are 5,118 bytes of a slip that lies end to end; and so is more. One byte less
+-- How much of a file is enough to read: 129 bytes of a key, 65 of a digest and 5,003 of a signature are judged as the
+-- whole files are, of any length, and so are 5,195 bytes of a slip that lies end to end; and so is more. One byte less
 -- is not enough, at any of the four: WrongRooms.
 use Prim.Native.Nat.{ℕ, zero, suc, _+_, _≤_, _<_}
 use native.Mathlib.Decide.{decLe, ℕ-discrete}
 use native.Mathlib.Omega.{arith}
-use mathlib.Core.Path.{_≡_, refl, sym, ap, _∙_}
-use mathlib.Core.Bool.{Bool, true, false, cond}
+use mathlib.Core.Path.{_≡_, refl, sym, ap, ap₂, _∙_}
+use mathlib.Core.Bool.{Bool, true, false, cond, _||_}
 use mathlib.Core.List.{List, [], _∷_}
 use borrow.Author.Tests.{le-leb, lt-leb, ne-eqb}
-use lib.Dec.{leb}
+use lib.Dec.{leb, eqb, lit≤}
 use lib.ListN.{length, take, drop, length-take}
 use lib.Seq.{take-all, take-take}
 use Rattle.base.specs.Questions.{firstNo}
 use Rattle.base.specs.Digits.{value, part}
 use Rattle.base.proofs.QuestionLaws.{passes, fails}
 use Rattle.braid.specs.Words.{stated, maxLetters, wordQuestions, wordAnswer}
-use Rattle.key.specs.Keys.{keyAnswer}
+use Rattle.field.specs.Fields.{keyBytes, digestBytes}
+use Rattle.field.specs.declared.Field.{Field}
+use Rattle.field.specs.declared.Field.the-variants.{Gf32, Gf256}
+use Rattle.key.specs.Keys.{keyField, keyAnswer}
+use Rattle.digest.proofs.Encoded.{digest-fits}
 use Rattle.verify.specs.Verdict.{verdict}
 use Rattle.verify.proofs.VerdictIff.{key-refused, digest-refused, word-refused}
-use Rattle.desk_line.specs.Desk.{deskVerdict, EnoughOfInput, EnoughOfFiles}
+use Rattle.desk_line.specs.Desk.{deskField, cutVerdict, deskVerdict, EnoughOfInput, EnoughOfFiles}
 
 -- ---- three files
 
@@ -31,11 +35,13 @@ cut-alike n f xs longer = go (decLe (length xs) n)
     go (no h) = let l : length (take n xs) ≡ n = rw length-take (omega arith) in longer l (omega arith)
 
 -- a key that is too long is 1
-pub long-key : (key digest word : List ℕ) → 83 < length key → verdict key digest word ≡ 1
+pub long-key : (key digest word : List ℕ) → 128 < length key → verdict key digest word ≡ 1
 unfolding verdict
-long-key key digest word h = fails 1 _ (ne-eqb (length key) 83 (λ e. omega arith))
+long-key key digest word h =
+    fails 1 _
+    (ap₂ (λ (a b : Bool). a || b) (ne-eqb (length key) 83 (λ e. omega arith)) (ne-eqb (length key) 128 (λ e. omega arith)))
 
-key-cut : (n : ℕ) (key digest word : List ℕ) → 83 < n → verdict (take n key) digest word ≡ verdict key digest word
+key-cut : (n : ℕ) (key digest word : List ℕ) → 128 < n → verdict (take n key) digest word ≡ verdict key digest word
 key-cut n key digest word b =
     cut-alike n (λ k. verdict k digest word) key
     (λ e l. long-key (take n key) digest word (omega arith) ∙ sym (long-key key digest word (omega arith)))
@@ -49,19 +55,21 @@ by-key key d e v w accepted = go (ℕ-discrete (keyAnswer key) 0)
     go (yes k) = accepted k
     go (no h) = key-refused key d v h ∙ sym (key-refused key e w h)
 
-by-digest : (key d v w : List ℕ) → keyAnswer key ≡ 0 → (length d ≡ 32 → verdict key d v ≡ verdict key d w) → verdict key d v ≡ verdict key d w
-by-digest key d v w k accepted = go (ℕ-discrete (length d) 32)
+by-digest : (key d v w : List ℕ) → keyAnswer key ≡ 0 → (length d ≡ digestBytes (keyField key) → verdict key d v ≡ verdict key d w)
+    → verdict key d v ≡ verdict key d w
+by-digest key d v w k accepted = go (ℕ-discrete (length d) (digestBytes (keyField key)))
   where
-    go : Dec (length d ≡ 32) → verdict key d v ≡ verdict key d w
+    go : Dec (length d ≡ digestBytes (keyField key)) → verdict key d v ≡ verdict key d w
     go (yes e) = accepted e
     go (no h) = digest-refused key d v k h ∙ sym (digest-refused key d w k h)
 
 -- a digest that is too long is 8
-digest-cut : (n : ℕ) (key digest word : List ℕ) → 32 < n → verdict key (take n digest) word ≡ verdict key digest word
+digest-cut : (n : ℕ) (key digest word : List ℕ) → 64 < n → verdict key (take n digest) word ≡ verdict key digest word
 digest-cut n key digest word b =
     cut-alike n (λ d. verdict key d word) digest
     (λ e l. by-key key (take n digest) digest word word
-    (λ k. digest-refused key (take n digest) word k (λ h. omega arith) ∙ sym (digest-refused key digest word k (λ h. omega arith))))
+    (λ k. digest-refused key (take n digest) word k (λ h. omega (arith, digest-fits (keyField key) (take n digest) h))
+    ∙ sym (digest-refused key digest word k (λ h. omega (arith, digest-fits (keyField key) digest h)))))
 
 -- a word that is too long is 11, or 10 where the number that it states is too large
 long-word : (word : List ℕ) → 5002 < length word → wordAnswer word ≡ cond (leb (stated word) maxLetters) 11 10
@@ -99,7 +107,7 @@ word-cut n key digest word b =
     ∙ long-alike n word b e l
     ∙ sym (word-refused key digest word k d (long-refused word (omega arith))))))
 
-pub enough-of-files : (k d w : ℕ) → 83 < k → 32 < d → 5002 < w → EnoughOfFiles k d w
+pub enough-of-files : (k d w : ℕ) → 128 < k → 64 < d → 5002 < w → EnoughOfFiles k d w
 enough-of-files k d w a b c key digest word =
     key-cut k key (take d digest) (take w word) a ∙ digest-cut d key digest (take w word) b ∙ word-cut w key digest word c
 
@@ -111,10 +119,22 @@ part-cut (suc at) n zero xs h = absurd (omega arith)
 part-cut (suc at) n (suc most) [] h = refl
 part-cut (suc at) n (suc most) (x ∷ xs) h = part-cut at n most xs (omega arith)
 
-pub enough-of-input : (n : ℕ) → 5117 < n → EnoughOfInput n
-unfolding deskVerdict
+cut-enough : (k d n : ℕ) (input : List ℕ) → k + d + 5003 ≤ n → cutVerdict k d (take n input) ≡ cutVerdict k d input
+unfolding cutVerdict
+cut-enough k d n input h =
+    let first : 0 + k ≤ n = omega arith in
+    let second : k + d ≤ n = omega arith in
+    λ i. verdict (part-cut 0 k n input first i) (part-cut k d n input second i) (part-cut (k + d) 5003 n input h i)
+
+-- for either field
+rooms : (f : Field) → keyBytes f + digestBytes f + 5003 ≤ 5195
+rooms Gf32 = lit≤ tt
+rooms Gf256 = lit≤ tt
+
+pub enough-of-input : (n : ℕ) → 5194 < n → EnoughOfInput n
+unfolding deskVerdict deskField
 enough-of-input n h input =
-    let k : 0 + 83 ≤ n = omega arith in
-    let d : 83 + 32 ≤ n = omega arith in
-    let w : 115 + 5003 ≤ n = omega arith in
-    λ i. verdict (part-cut 0 83 n input k i) (part-cut 83 32 n input d i) (part-cut 115 5003 n input w i)
+    let size : 1 + 2 ≤ n = omega arith in
+    let f = deskField input in
+    ap (λ (xs : List ℕ). let g : Field = cond (eqb (value 256 xs) 256) Gf256 Gf32 in cutVerdict (keyBytes g) (digestBytes g) (take n input)) (part-cut 1 2 n input size)
+    ∙ cut-enough (keyBytes f) (digestBytes f) n input (omega (arith, rooms f))

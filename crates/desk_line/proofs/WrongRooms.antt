@@ -1,27 +1,48 @@
--- One byte less is not enough, at any of the four buffers: 83 bytes of a key, 32 of a digest, 5,002 of a signature,
--- 5,117 of a slip that lies end to end. In each place a longer file would be taken for the good one that it begins
--- with.
+-- One byte less is not enough, at any of the four buffers: 128 bytes of a key, 64 of a digest, 5,002 of a signature,
+-- 5,194 of a slip that lies end to end. In each place a longer file would be taken for the good one that it begins
+-- with. And an input that says 256 is not to be cut at 83 and 32.
 use Prim.Native.Nat.{ℕ}
 use native.Mathlib.Omega.{arith}
-use mathlib.Core.Path.{_≡_, refl, _∙_}
+use mathlib.Core.Path.{_≡_, refl, sym, _∙_}
 use mathlib.Core.Logic.{_⊎_, inl, inr}
 use mathlib.Core.List.{List, [], _∷_, _++_}
 use lib.Dec.{lit<}
-use lib.ListN.{replicate}
+use lib.ListN.{length, replicate}
 use Rattle.base.specs.Questions.{firstNo}
-use Rattle.base.specs.Lists.{every}
-use Rattle.base.specs.Digits.{value, halves}
+use Rattle.base.specs.Lists.{valuesFrom, every}
+use Rattle.base.specs.Digits.{value, digits, halves}
+use Rattle.field.specs.Fields.{digestBytes}
+use Rattle.field.specs.declared.Field.the-variants.{Gf256}
+use Rattle.matrix.specs.Layout.{place, rowOf, columnOf, entry, matrixOf}
+use Rattle.matrix.specs.Product.{identity}
 use Rattle.braid.specs.Words.{codes, filler, wordAnswer}
-use Rattle.key.specs.Keys.{keyAnswer}
+use Rattle.key.specs.Keys.{keyField, fileEntries, packedMatrix, keyFile, keyAnswer}
+use Rattle.key.proofs.Inverses.{keyWith, unitEntries, plain-key}
 use Rattle.verify.specs.Verdict.{verdict}
-use Rattle.verify.proofs.VerdictIff.{digest-refused, word-refused, zero-or-14, zero-iff-signs}
-use Rattle.verify.proofs.WrongVerdicts.{plainKey, sevens, zeroDigest, sevens-0}
+use Rattle.verify.proofs.VerdictIff.{key-refused, digest-refused, word-refused, zero-or-14}
 use Rattle.desk_line.proofs.Enough.{long-key}
-use Rattle.desk_line.specs.Desk.{deskVerdict, EnoughOfInput, EnoughOfFiles}
+use Rattle.desk_line.specs.Desk.{deskField, cutVerdict, deskVerdict, EnoughOfInput, EnoughOfFiles}
 
--- the slip that opens: the plain key, 32 zero bytes, 128 letters b7
-key-accepted : keyAnswer plainKey ≡ 0
-key-accepted = zero-iff-signs plainKey zeroDigest sevens .0 sevens-0 .key-accepted
+-- the plain key of the larger field, 64 zero bytes, the empty word
+abbrev largeKey : List ℕ
+largeKey = keyWith Gf256 unitEntries unitEntries
+
+abbrev largeDigest : List ℕ
+largeDigest = replicate 64 0
+
+abbrev emptyWord : List ℕ
+emptyWord = 0 ∷ 0 ∷ []
+
+key-accepted : keyAnswer largeKey ≡ 0
+key-accepted = plain-key Gf256
+
+digest-accepted : length largeDigest ≡ digestBytes (keyField largeKey)
+unfolding keyField valuesFrom value digits place rowOf columnOf entry matrixOf identity fileEntries packedMatrix keyFile
+digest-accepted = refl
+
+empty-accepted : wordAnswer emptyWord ≡ 0
+unfolding firstNo every value codes filler halves wordAnswer
+empty-accepted = refl
 
 -- 10,000 letters b1, the longest word, and a byte more
 abbrev fullWord : List ℕ
@@ -38,29 +59,50 @@ long-answer : wordAnswer longWord ≡ 11
 unfolding firstNo every value codes filler halves wordAnswer
 long-answer = refl
 
--- a signature that is too long is 11, and cut to its full length it is 0 or 14
-long-11 : verdict plainKey zeroDigest longWord ≡ 11
-long-11 = word-refused plainKey zeroDigest longWord key-accepted refl (λ e. omega (arith, long-answer)) ∙ long-answer
-
-not-11 : verdict plainKey zeroDigest fullWord ≡ 11 → ⊥
-not-11 e = go (zero-or-14 plainKey zeroDigest fullWord key-accepted refl full-accepted)
+-- an accepted slip gets 0 or 14, and no other number
+no-other : (word : List ℕ) → wordAnswer word ≡ 0 → (n : ℕ) → (n ≡ 0 → ⊥) → (n ≡ 14 → ⊥) → verdict largeKey largeDigest word ≡ n → ⊥
+no-other word w n z f e = go (zero-or-14 largeKey largeDigest word key-accepted digest-accepted w)
   where
-    go : (verdict plainKey zeroDigest fullWord ≡ 0) ⊎ (verdict plainKey zeroDigest fullWord ≡ 14) → ⊥
-    go (inl z) = omega arith
-    go (inr f) = omega arith
+    go : (verdict largeKey largeDigest word ≡ 0) ⊎ (verdict largeKey largeDigest word ≡ 14) → ⊥
+    go (inl a) = z (sym e ∙ a)
+    go (inr b) = f (sym e ∙ b)
 
-pub no-83-of-a-key : EnoughOfFiles 83 33 5003 → ⊥
-no-83-of-a-key enough =
-    let long = plainKey ++ (0 ∷ []) in
-    omega (arith, sevens-0, enough long zeroDigest sevens, long-key long zeroDigest sevens (lit< tt))
+-- a signature that is too long is 11
+long-11 : verdict largeKey largeDigest longWord ≡ 11
+long-11 = word-refused largeKey largeDigest longWord key-accepted digest-accepted (λ e. omega (arith, long-answer)) ∙ long-answer
 
-pub no-32-of-a-digest : EnoughOfFiles 84 32 5003 → ⊥
-no-32-of-a-digest enough =
-    omega (arith, sevens-0, enough plainKey (replicate 33 0) sevens, digest-refused plainKey (replicate 33 0) sevens key-accepted (λ e. omega arith))
+pub no-128-of-a-key : EnoughOfFiles 128 65 5003 → ⊥
+unfolding valuesFrom value digits place rowOf columnOf entry matrixOf identity fileEntries packedMatrix keyFile
+no-128-of-a-key enough =
+    let long = largeKey ++ (0 ∷ []) in
+    no-other emptyWord empty-accepted 1 (λ e. omega arith) (λ e. omega arith)
+    (enough long largeDigest emptyWord ∙ long-key long largeDigest emptyWord (lit< tt))
 
-pub no-5002-of-a-signature : EnoughOfFiles 84 33 5002 → ⊥
-no-5002-of-a-signature enough = not-11 (enough plainKey zeroDigest longWord ∙ long-11)
+pub no-64-of-a-digest : EnoughOfFiles 129 64 5003 → ⊥
+unfolding valuesFrom value digits place rowOf columnOf entry matrixOf identity fileEntries packedMatrix keyFile
+no-64-of-a-digest enough =
+    no-other emptyWord empty-accepted 8 (λ e. omega arith) (λ e. omega arith)
+    (enough largeKey (replicate 65 0) emptyWord
+    ∙ digest-refused largeKey (replicate 65 0) emptyWord key-accepted (λ e. omega (arith, digest-accepted, e)))
 
-pub no-5117-of-an-input : EnoughOfInput 5117 → ⊥
-unfolding deskVerdict
-no-5117-of-an-input enough = not-11 (enough (plainKey ++ (zeroDigest ++ longWord)) ∙ long-11)
+pub no-5002-of-a-signature : EnoughOfFiles 129 65 5002 → ⊥
+unfolding valuesFrom value digits place rowOf columnOf entry matrixOf identity fileEntries packedMatrix keyFile
+no-5002-of-a-signature enough =
+    no-other fullWord full-accepted 11 (λ e. omega arith) (λ e. omega arith) (enough largeKey largeDigest longWord ∙ long-11)
+
+-- the slip end to end
+abbrev slip : List ℕ → List ℕ
+slip word = largeKey ++ (largeDigest ++ word)
+
+pub no-5194-of-an-input : EnoughOfInput 5194 → ⊥
+unfolding deskVerdict deskField cutVerdict valuesFrom value digits place rowOf columnOf entry matrixOf identity fileEntries packedMatrix keyFile
+no-5194-of-an-input enough = no-other fullWord full-accepted 11 (λ e. omega arith) (λ e. omega arith) (enough (slip longWord) ∙ long-11)
+
+-- cut at 83 and 32 a slip that says 256 is 3, and it is 0 or 14
+cut-3 : cutVerdict 83 32 (slip emptyWord) ≡ 3
+unfolding cutVerdict verdict firstNo keyField valuesFrom value digits place rowOf columnOf entry matrixOf identity fileEntries packedMatrix keyFile
+cut-3 = refl
+
+pub no-small-cut : ((input : List ℕ) → deskVerdict input ≡ cutVerdict 83 32 input) → ⊥
+unfolding deskVerdict deskField cutVerdict valuesFrom value digits place rowOf columnOf entry matrixOf identity fileEntries packedMatrix keyFile
+no-small-cut wrong = no-other emptyWord empty-accepted 3 (λ e. omega arith) (λ e. omega arith) (wrong (slip emptyWord) ∙ cut-3)

@@ -4,17 +4,28 @@ use Prim.Native.Nat.{ℕ, _+_}
 use mathlib.Core.Path.{_≡_}
 use mathlib.Core.Bool.{cond, _&&_}
 use mathlib.Core.List.{List, [], _∷_, _++_, map}
-use lib.Dec.{ltb}
+use lib.Dec.{eqb, ltb}
 use lib.ListN.{length, take, replicate}
-use Rattle.base.specs.Digits.{digits, part}
+use Rattle.base.specs.Digits.{value, digits, part}
 use Rattle.base.specs.Lists.{overlaid}
+use Rattle.field.specs.Fields.{keyBytes, digestBytes}
+use Rattle.field.specs.declared.Field.{Field}
+use Rattle.field.specs.declared.Field.the-variants.{Gf32, Gf256}
 use Rattle.verify.specs.Verdict.{verdict}
 use Rattle.desk_line.specs.declared.Got.{Got}
 
--- the verdict on the first 83 bytes as key, the next 32 as digest and up to 5,003 after them as signature; each may be
+-- the field that an input names: the larger one if its bytes 1 and 2, counted from 0, say 256
+unfoldable pub deskField : List ℕ → Field
+deskField input = cond (eqb (value 256 (part 1 2 input)) 256) Gf256 Gf32
+
+-- the verdict on the first k bytes as key, the next d as digest and up to 5,003 after them as signature; each may be
 -- cut short
+unfoldable pub cutVerdict : ℕ → ℕ → List ℕ → ℕ
+cutVerdict k d input = verdict (part 0 k input) (part k d input) (part (k + d) 5003 input)
+
+-- cut for the field that the input names: 83 bytes and 32, or 128 and 64
 unfoldable pub deskVerdict : List ℕ → ℕ
-deskVerdict input = verdict (part 0 83 input) (part 83 32 input) (part 115 5003 input)
+deskVerdict input = cutVerdict (keyBytes (deskField input)) (digestBytes (deskField input)) input
 
 -- how many decimal digits a number below 1,000 has
 unfoldable pub places : ℕ → ℕ

@@ -1,29 +1,34 @@
 // A slip as it comes to the desk, end to end or in three files, and the line that tells the answer. What is read lies
 // in arrays whose sizes are given here, so that a buffer of another size does not fit.
-ghost use Prim.Native.Nat.{min};
+ghost use Prim.Native.Nat.{_≤_, min};
 ghost use mathlib.Core.Path.{_≡_};
 ghost use mathlib.Core.Bool.{_&&_};
 ghost use mathlib.Core.List.{[], _∷_, _++_};
+ghost use lib.Dec.{eqb};
 ghost use lib.ListN.{length, take, replicate};
-ghost use Rattle.base.specs.Digits.{part as partOf};
-ghost use Rattle.desk_line.specs.Desk.{deskVerdict, answerWord, answerLine, filesLine, Tells, EnoughOfInput, EnoughOfFiles};
+ghost use Rattle.base.specs.Digits.{value, part as partOf};
+ghost use Rattle.desk_line.specs.Desk.{cutVerdict, deskVerdict, answerWord, answerLine, filesLine, Tells, EnoughOfInput, EnoughOfFiles};
 
-// The bytes of a key and of a digest, and the most that a signature has.
+// The bytes of a key and of a digest, over GF(32) and over GF(256), and the most that a signature has.
 const KEY: usize = 83;
 
 const DIGEST: usize = 32;
 
+const LARGE_KEY: usize = 128;
+
+const LARGE_DIGEST: usize = 64;
+
 const WORD: usize = 5002;
 
 // The bytes to read of each file: one more than it may hold, so that a longer file is told from a full one.
-pub const KEY_ROOM: usize = KEY + 1;
+pub const KEY_ROOM: usize = LARGE_KEY + 1;
 
-pub const DIGEST_ROOM: usize = DIGEST + 1;
+pub const DIGEST_ROOM: usize = LARGE_DIGEST + 1;
 
 pub const WORD_ROOM: usize = WORD + 1;
 
 // The bytes to read of a slip that lies end to end.
-pub const INPUT_ROOM: usize = KEY + DIGEST + WORD_ROOM;
+pub const INPUT_ROOM: usize = LARGE_KEY + LARGE_DIGEST + WORD_ROOM;
 
 fn least(a: usize, b: usize) -> usize
     ensures { λ r. ⌜ r ≡ min a b ⌝ }
@@ -41,14 +46,36 @@ fn part(input: &[u8], at: usize, most: usize) -> &[u8]
     &rest[..n]
 }
 
-// The verdict on a slip whose key, digest and signature lie end to end; each may be cut short.
+// Do bytes 1 and 2, counted from 0, say 256?
+fn says_256(input: &[u8]) -> bool
+    ensures { λ r. ⌜ r ≡ eqb (value 256 (partOf 1 2 (now (input .entry)))) 256 ⌝ }
+{
+    if input.len() < 3 {
+        return false;
+    }
+    base::two_bytes(input, 1) == 256
+}
+
+// The verdict on a slip whose key of k bytes, digest of d and signature lie end to end; each may be cut short.
+fn cut(input: &[u8], k: usize, d: usize) -> u8
+    requires { ⌜ (k ≤ 128) × (d ≤ 64) ⌝ }
+    ensures { λ r. ⌜ r ≡ cutVerdict k d (now (input .entry)) ⌝ }
+{
+    let key = part(input, 0, k);
+    let digest = part(input, k, d);
+    let word = part(input, k + d, WORD_ROOM);
+    verify::verify(key, digest, word)
+}
+
+// The verdict on a slip that lies end to end, cut for the field that it names.
 fn judged(input: &[u8]) -> u8
     ensures { λ r. ⌜ r ≡ deskVerdict (now (input .entry)) ⌝ }
 {
-    let key = part(input, 0, KEY);
-    let digest = part(input, KEY, DIGEST);
-    let word = part(input, KEY + DIGEST, WORD_ROOM);
-    verify::verify(key, digest, word)
+    if says_256(input) {
+        cut(input, LARGE_KEY, LARGE_DIGEST)
+    } else {
+        cut(input, KEY, DIGEST)
+    }
 }
 
 // A line of text: the first `bytes` bytes; zeros after it.

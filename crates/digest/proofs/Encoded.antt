@@ -2,21 +2,39 @@
 -- letters, so that what the encoder writes is an accepted word.
 use Prim.Native.Nat.{ℕ, suc, _+_, _*_, _≤_, _<_}
 use mathlib.Core.Path.{_≡_, refl, sym, ap, _∙_}
-use mathlib.Core.Bool.{true}
+use mathlib.Core.Bool.{Bool, true, false, _||_, false≢true}
 use mathlib.Core.List.{List, [], _∷_, _++_, append-assoc, append-nil}
 use native.Mathlib.Omega.{arith}
 use native.Mathlib.Numerals.{add-one}
+use borrow.Author.Tests.{eqb-true}
 use lib.ListN.{length, take, getD, length-append}
 use lib.Seq.{take-suc}
 use Rattle.base.specs.Lists.{every}
 use Rattle.base.specs.Digits.{halves}
 use Rattle.base.proofs.ListLaws.{and-both, every-append}
 use Rattle.base.proofs.DigitLaws.{length-halves, halves-below}
+use Rattle.field.specs.Fields.{digestBytes}
+use Rattle.field.specs.declared.Field.{Field}
+use Rattle.field.specs.declared.Field.the-variants.{Gf32, Gf256}
 use Rattle.braid.specs.Letters.{isLetter}
 use Rattle.braid.specs.Words.{wordFile, wordAnswer, letters}
 use Rattle.braid.proofs.RoundTrip.{wordFile-accepted, letters-wordFile}
-use Rattle.digest.specs.Digest.{halfByteBraid, braidOf, encoded}
+use Rattle.digest.specs.Digest.{halfByteBraid, braidOf, encoded, isDigest}
 use Rattle.digest.proofs.HalfByte.{braid-short, braid-letters}
+
+-- a digest has at most 64 bytes
+pub digest-short : (digest : List ℕ) → (isDigest Gf32 digest || isDigest Gf256 digest) ≡ true → length digest ≤ 64
+digest-short digest e = go (isDigest Gf32 digest) (isDigest Gf256 digest) refl refl e
+  where
+    go : (a b : Bool) → isDigest Gf32 digest ≡ a → isDigest Gf256 digest ≡ b → (a || b) ≡ true → length digest ≤ 64
+    go true b p q e = omega (arith, eqb-true (length digest) 32 p)
+    go false true p q e = omega (arith, eqb-true (length digest) 64 q)
+    go false false p q e = absurd (false≢true e)
+
+-- and so has one that goes with a field
+pub digest-fits : (f : Field) (digest : List ℕ) → length digest ≡ digestBytes f → length digest ≤ 64
+digest-fits Gf32 digest e = omega arith
+digest-fits Gf256 digest e = omega arith
 
 braidOf-append : (hs ks : List ℕ) → braidOf (hs ++ ks) ≡ braidOf hs ++ braidOf ks
 unfolding braidOf
@@ -43,7 +61,7 @@ lettered [] b = refl
 lettered (h ∷ hs) b =
     every-append isLetter (halfByteBraid h) (braidOf hs) ∙ and-both (braid-letters h (b 0)) (lettered hs (λ k. b (suc k)))
 
-pub encoded-short : (digest : List ℕ) → ((k : ℕ) → getD digest k 0 < 256) → length digest ≡ 32 → length (encoded digest) ≤ 1280
+pub encoded-short : (digest : List ℕ) → ((k : ℕ) → getD digest k 0 < 256) → length digest ≤ 64 → length (encoded digest) ≤ 2560
 unfolding encoded
 encoded-short digest b e = omega (arith, short (halves digest) (halves-below digest b), length-halves digest)
 
@@ -52,8 +70,8 @@ unfolding encoded
 encoded-letters digest b = lettered (halves digest) (halves-below digest b)
 
 -- what the encoder writes is an accepted word, with the digest's braid as its letters
-pub encoded-accepted : (digest : List ℕ) → ((k : ℕ) → getD digest k 0 < 256) → length digest ≡ 32 → wordAnswer (wordFile (encoded digest)) ≡ 0
+pub encoded-accepted : (digest : List ℕ) → ((k : ℕ) → getD digest k 0 < 256) → length digest ≤ 64 → wordAnswer (wordFile (encoded digest)) ≡ 0
 encoded-accepted digest b e = wordFile-accepted (encoded digest) (omega (arith, encoded-short digest b e)) (encoded-letters digest b)
 
-pub encoded-read : (digest : List ℕ) → ((k : ℕ) → getD digest k 0 < 256) → length digest ≡ 32 → letters (wordFile (encoded digest)) ≡ encoded digest
+pub encoded-read : (digest : List ℕ) → ((k : ℕ) → getD digest k 0 < 256) → length digest ≤ 64 → letters (wordFile (encoded digest)) ≡ encoded digest
 encoded-read digest b e = letters-wordFile (encoded digest) (omega (arith, encoded-short digest b e)) (encoded-letters digest b)

@@ -1,12 +1,16 @@
--- A digest as a braid: each half byte of 32 bytes, high half first, becomes a power of a pure braid generator. Nothing
--- is cancelled.
+-- A digest as a braid: each half byte of 32 or 64 bytes, high half first, becomes a power of a pure braid generator.
+-- Nothing is cancelled.
 use Prim.Native.Nat.{ℕ, _+_, _*_, _-_, _/_, _%_}
+use mathlib.Core.Bool.{Bool, _||_}
 use mathlib.Core.List.{List, [], _∷_, _++_, map, reverse}
 use lib.Dec.{eqb}
 use lib.ListN.{length, getD, replicate}
 use Rattle.base.specs.Questions.{Question, _else_}
 use Rattle.base.specs.Lists.{values, valuesFrom}
 use Rattle.base.specs.Digits.{halves}
+use Rattle.field.specs.Fields.{digestBytes}
+use Rattle.field.specs.declared.Field.{Field}
+use Rattle.field.specs.declared.Field.the-variants.{Gf32, Gf256}
 use Rattle.braid.specs.Words.{roomQuestion, wordFile, Wrote}
 
 -- the low two bits 0, 1, 2, 3 select l = 7, 5, 3, 1, the number of a generator
@@ -39,13 +43,17 @@ braidOf (h ∷ hs) = halfByteBraid h ++ braidOf hs
 unfoldable pub encoded : List ℕ → List ℕ
 encoded digest = braidOf (halves digest)
 
--- Digest: 8
-abbrev pub digestQuestions : List ℕ → List Question
-digestQuestions digest = (eqb (length digest) 32 else 8) ∷ []
+-- has it the bytes of a digest that goes with the field?
+abbrev pub isDigest : Field → List ℕ → Bool
+isDigest f digest = eqb (length digest) (digestBytes f)
 
--- Encoder alone: 15, 8
+-- Digest, under a key of a field: 8
+abbrev pub digestQuestions : Field → List ℕ → List Question
+digestQuestions f digest = (isDigest f digest else 8) ∷ []
+
+-- Encoder alone: 15, 8, for a digest of either length
 abbrev pub encoderQuestions : ℕ → List ℕ → List Question
-encoderQuestions room digest = roomQuestion room ∷ digestQuestions digest
+encoderQuestions room digest = roomQuestion room ∷ (isDigest Gf32 digest || isDigest Gf256 digest else 8) ∷ []
 
 -- what the encoder gives and leaves
 abbrev pub WroteEncoded : List ℕ → List ℕ → List ℕ → ℕ → ℕ → Type 0

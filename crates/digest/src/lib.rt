@@ -1,10 +1,13 @@
 // A digest as a braid: the encoder.
 ghost use mathlib.Core.Path.{_≡_};
+ghost use mathlib.Core.Bool.{_||_};
 ghost use mathlib.Core.List.{_++_};
 ghost use Prim.Native.Nat.{_+_, _-_, _≤_, _<_};
 ghost use lib.ListN.{length, take};
-ghost use Rattle.digest.specs.Digest.{selected, stepped, halfByteBraid, encoded, WroteEncoded};
+ghost use Rattle.digest.specs.Digest.{selected, stepped, halfByteBraid, encoded, isDigest, WroteEncoded};
+ghost use Rattle.field.specs.declared.Field.the-variants.{Gf32, Gf256};
 use braid::Written;
+use field::Field;
 
 // How many generators lie above b_l, of those up to b7: the low two bits 0, 1, 2, 3 select l = 7, 5, 3, 1.
 fn above_selected(h: u8) -> u8
@@ -47,16 +50,36 @@ fn append(codes: &mut [u8], at: usize, h: u8) -> usize
 // The braid of a digest goes to the front of `codes`, one code to a byte; the answer is the number of its letters. What
 // stands in `codes` behind them is left free.
 pub fn encode_into(digest: &[u8], codes: &mut [u8]) -> usize
-    requires { ⌜ (length (now digest) ≡ 32) × (length (now codes) ≡ 1280) ⌝ }
-    ensures { λ r. ⌜ (r ≤ 1280) × (take r (now (codes .exit)) ≡ encoded (now (digest .entry))) ⌝ }
+    requires { ⌜ (length (now digest) ≤ 64) × (length (now codes) ≡ 2560) ⌝ }
+    ensures { λ r. ⌜ (r ≤ 2560) × (take r (now (codes .exit)) ≡ encoded (now (digest .entry))) ⌝ }
 {
     let mut n = 0;
     let mut k = 0;
-    while k < 64 {
+    while k < 2 * digest.len() {
         n = append(codes, n, braid::half(digest, k));
         k += 1;
     }
     n
+}
+
+// Has it the bytes of a digest that goes with the field?
+pub fn is_digest(digest: &[u8], f: Field) -> bool
+    ensures { λ r. ⌜ r ≡ isDigest f (now (digest .entry)) ⌝ }
+{
+    match f {
+        Field::Gf32 => digest.len() == 32,
+        Field::Gf256 => digest.len() == 64,
+    }
+}
+
+// Does it go with one of the fields?
+fn is_either(digest: &[u8]) -> bool
+    ensures { λ r. ⌜ r ≡ (isDigest Gf32 (now (digest .entry)) || isDigest Gf256 (now (digest .entry))) ⌝ }
+{
+    if is_digest(digest, Field::Gf32) {
+        return true;
+    }
+    is_digest(digest, Field::Gf256)
 }
 
 // The encoder alone: 15, 8. The whole braid as a word file; nothing is cancelled.
@@ -69,13 +92,13 @@ pub fn encode(digest: &[u8], out: &mut [u8]) -> Written
             bytes: 0,
         };
     }
-    if digest.len() != 32 {
+    if !is_either(digest) {
         return Written {
             answer: 8,
             bytes: 0,
         };
     }
-    let mut codes = [0u8; 1280];
+    let mut codes = [0u8; 2560];
     let n = encode_into(digest, &mut codes);
     braid::write_word(&codes[..n], out)
 }

@@ -9,12 +9,14 @@ use Rattle.base.specs.Questions.{firstNo, granted}
 use Rattle.base.specs.Digits.{value, digits, halves}
 use Rattle.field.specs.Polynomial.{timesX, horner, times, first, reciprocalOf}
 use Rattle.field.specs.Gf32.{gf32}
+use Rattle.field.specs.Fields.{operations}
+use Rattle.field.specs.declared.Field.the-variants.{Gf32}
 use Rattle.braid.specs.Words.{wordFile, packed, codes, filler, wordAnswer}
 use Rattle.matrix.specs.Layout.{place, rowOf, columnOf, entry, matrixOf}
 use Rattle.matrix.specs.Product.{identity}
 use Rattle.braid.specs.Strands.{swapped}
 use Rattle.action.specs.Action.{wordOn, letterOn, shareOf, tValue, rowAfter, start}
-use Rattle.key.specs.Keys.{keyAnswer, keyFile, keyOf, tValues, packedMatrix, entries, fillerBits, labels, wholeMatrix}
+use Rattle.key.specs.Keys.{keyField, keyAnswer, keyFile, keyOf, tValues, packedMatrix, entries, fillerBits, labels, wholeMatrix}
 use Rattle.digest.specs.Digest.{halfByteBraid}
 use Rattle.rewriting.specs.Kinds.{move}
 use Rattle.rewriting.specs.Rewriting.{moveQuestions, wordAfter, rewritten, rewriterQuestions}
@@ -35,7 +37,7 @@ abbrev pub identityEntries : List ℕ
 identityEntries = values (λ k. cond (eqb (k % 9) 0 || eqb k 56) 1 0) 57
 
 abbrev pub plainKey : List ℕ
-plainKey = keyFile plainTs plainOrder identityEntries identityEntries
+plainKey = keyFile 5 plainTs plainOrder identityEntries identityEntries
 
 -- three entries of row 3 after a word from the starting pair, in columns 2, 3 and 4
 abbrev pub row3 : List ℕ → List ℕ
@@ -65,17 +67,17 @@ pub record StarredSlips : Type 0 where
 
 -- the plain key is accepted: the identity is its own inverse
 plain-accepted : keyAnswer plainKey ≡ 0
-unfolding firstNo valuesFrom every count eachOnce value digits tValues packedMatrix entries fillerBits labels wholeMatrix matrixOf rowOf columnOf identity keyFile
-plain-accepted = accepted-with plainKey refl identity-has identity-has
+unfolding keyField firstNo valuesFrom every count eachOnce value digits tValues packedMatrix entries fillerBits labels wholeMatrix matrixOf rowOf columnOf identity keyFile
+plain-accepted = accepted-with plainKey refl (identity-has Gf32) (identity-has Gf32)
 
 -- cloaking under it for the list 0 to 7
-cloaking : (word : List ℕ) {yes : Bool} → wordAnswer word ≡ 0 → yes ≡ comesBack gf32 (keyOf plainKey .«t_values») plainOrder (codes word)
+cloaking : (word : List ℕ) {yes : Bool} → wordAnswer word ≡ 0 → yes ≡ comesBack (operations (keyField plainKey)) (keyOf plainKey .«t_values») plainOrder (codes word)
     → Cloaks plainKey plainOrder word 0 yes
 unfolding every count eachOnce valuesFrom
 cloaking word w e = answered plainKey plainOrder word (past-list plainKey plainOrder word plain-accepted refl ∙ w) e
 
 pub starred : StarredSlips
-unfolding valuesFrom every count equal eachOnce firstNo granted value digits halves timesX horner times first reciprocalOf wordFile packed codes wordAnswer place rowOf columnOf entry matrixOf wordOn letterOn shareOf tValue rowAfter swapped start identity halfByteBraid comesBack samePair keyFile keyOf tValues packedMatrix entries fillerBits labels wholeMatrix filler move moveQuestions wordAfter
+unfolding valuesFrom every count equal eachOnce firstNo granted value digits halves timesX horner times first reciprocalOf wordFile packed codes wordAnswer place rowOf columnOf entry matrixOf wordOn letterOn shareOf tValue rowAfter swapped start identity halfByteBraid comesBack samePair keyField keyFile keyOf tValues packedMatrix entries fillerBits labels wholeMatrix filler move moveQuestions wordAfter
 starred =
     record {
       product-16-2 = refl;

@@ -137,3 +137,11 @@ pub(crate) fn digests() {
     encode_two(b"digest 12 34, zeros", 0x12, 0x34);
     encode(b"digest of 31 bytes", &[0u8; 31]);
 }
+
+// 64 bytes, the last of them 60: 126 half bytes 0, then 6 and 0.
+pub(crate) fn long_digest() {
+    let mut digest = [0u8; 64];
+    digest[63] = 0x60;
+    encode(b"digest of 64 bytes", &digest);
+    encode(b"digest of 63 bytes", &digest[..63]);
+}

@@ -12,6 +12,16 @@ pub(crate) fn plain() -> [u8; 83] {
     file
 }
 
+// The same over the larger field, a byte for each T-value and entry.
+pub(crate) fn large() -> [u8; 128] {
+    let mut file = [0u8; 128];
+    base::put(
+        &mut file,
+        b"\x08\x01\x00\x01\x01\x02\x03\x04\x05\x06\x07\x01\x00\x00\x00\x00\x00\x00\x00\x00\x01\x00\x00\x00\x00\x00\x00\x00\x00\x01\x00\x00\x00\x00\x00\x00\x00\x00\x01\x00\x00\x00\x00\x00\x00\x00\x00\x01\x00\x00\x00\x00\x00\x00\x00\x00\x01\x00\x00\x00\x00\x00\x00\x00\x00\x01\x00\x01\x05\x39\x77\x01\x00\x00\x00\x00\x00\x00\x00\x00\x01\x00\x00\x00\x00\x00\x00\x00\x00\x01\x00\x00\x00\x00\x00\x00\x00\x00\x01\x00\x00\x00\x00\x00\x00\x00\x00\x01\x00\x00\x00\x00\x00\x00\x00\x00\x01\x00\x00\x00\x00\x00\x00\x00\x00\x01\x00\x01",
+    );
+    file
+}
+
 // The plain key with 16 on the diagonal of its first matrix and 1 everywhere above it, and the list 7 to 0.
 fn turned() -> [u8; 83] {
     let mut file = plain();
@@ -49,13 +59,39 @@ pub(crate) fn read() {
     show_key(&second);
 }
 
+// Each with the other's q.
+fn large_of_32() -> [u8; 128] {
+    let mut file = large();
+    base::put(&mut file[1..], b"\x00\x20");
+    file
+}
+
+fn plain_of_256() -> [u8; 83] {
+    let mut file = plain();
+    base::put(&mut file[1..], b"\x01\x00");
+    file
+}
+
+// The plain key of the larger field, and keys whose length and q do not go together.
+pub(crate) fn larger() {
+    let file = large();
+    io::write_all(1, b"plain key of the larger field\n");
+    show_key(&file);
+    refused(b"key of 128 bytes, q = 32", &large_of_32());
+    refused(b"key of 83 bytes, q = 256", &plain_of_256());
+    refused(b"key of 127 bytes", &[8u8; 127]);
+}
+
+// The refusal's zeros name the field with 32 elements.
 fn is_zeros(key: Key) -> bool {
+    let f = key.field;
     let ts = key.t_values;
     let pair = key.pair;
     let matrix = pair.matrix;
     let labels = pair.labels;
     let second = key.second;
-    show::is_zeros(&ts)
+    !field::is_large(f)
+        && show::is_zeros(&ts)
         && show::is_zeros(&matrix)
         && show::is_zeros(&labels)
         && show::is_zeros(&second)
@@ -129,7 +165,7 @@ fn identity() -> [u8; 57] {
 
 // A key whose matrices are the same; n bytes are expected of it.
 fn write(name: &[u8], ts: &[u8; 8], order: &[u8; 8], matrix: &[u8; 57], out: &mut [u8], n: usize) {
-    let answer = key::write_key(ts, order, matrix, matrix, out);
+    let answer = key::write_key(ts, order, matrix, matrix, out, field::Field::Gf32);
     show::filled(name, answer, n, out);
 }
 

@@ -33,4 +33,8 @@ fn main() {
     signatures::rewritten();
     signatures::full();
     signatures::verdicts();
+    fields::larger();
+    keys::larger();
+    files::long_digest();
+    signatures::larger();
 }

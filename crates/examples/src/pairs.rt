@@ -19,7 +19,7 @@ fn after(codes: &[u8]) -> Multiplied {
     let mut i = 0;
     while i < codes.len() {
         let pair = last.pair;
-        last = action::multiply(pair, &ts, codes[i]);
+        last = action::multiply(pair, &ts, codes[i], field::Field::Gf32);
         i += 1;
     }
     last
@@ -70,7 +70,7 @@ fn refused(name: &[u8], last: u8, labels: [u8; 8], t_values: [u8; 8], letter: u8
     let start = Pair::start();
     let mut m = start.matrix;
     m[matrix::place(7, 7)] = last;
-    let found = action::multiply(Pair::with(m, labels), &t_values, letter);
+    let found = action::multiply(Pair::with(m, labels), &t_values, letter, field::Field::Gf32);
     let pair = found.pair;
     show::refusal(name, found.answer, is_zeros(pair));
 }
@@ -126,7 +126,7 @@ fn with_row(t: u8) -> [u8; 64] {
 fn product(name: &[u8], a: u8, b: u8) {
     let first = with_row(a);
     let second = with_row(b);
-    let found = matrix::matrix_product(&first, &second);
+    let found = matrix::matrix_product(&first, &second, field::Field::Gf32);
     io::write_all(1, name);
     show::end();
     show::rows(found);

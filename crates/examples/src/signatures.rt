@@ -1,5 +1,6 @@
 // Whole slips: words rewritten by move lists, and verdicts.
 use crate::keys::blank;
+use crate::keys::large;
 use crate::keys::plain;
 use crate::show;
 
@@ -71,6 +72,28 @@ fn sevens() -> [u8; 66] {
     word[0] = 0x00;
     word[1] = 0x80;
     word
+}
+
+// 256 letters b7: the braid of 64 zero bytes.
+fn more_sevens() -> [u8; 130] {
+    let mut word = [0x66u8; 130];
+    word[0] = 0x01;
+    word[1] = 0x00;
+    word
+}
+
+fn judge_large(name: &[u8], digest: &[u8], word: &[u8]) {
+    let key = large();
+    show::line(name, verify::verify(&key, digest, word), b"");
+}
+
+// Under the larger field's plain key; with a digest of the other length it is 8.
+pub(crate) fn larger() {
+    let word = more_sevens();
+    let zeros = [0u8; 64];
+    judge_large(b"larger plain key, zero digest, 01 00 66 ..", &zeros, &word);
+    judge_large(b"larger plain key, zero digest, 00 00", &zeros, b"\x00\x00");
+    judge_large(b"larger plain key, digest of 32 bytes", &zeros[..32], &word);
 }
 
 pub(crate) fn verdicts() {

@@ -19,7 +19,7 @@ two-pos : 0 < 2
 two-pos = zero-lt-suc 1
 
 -- v where the digit t is 1, and 0 where it is 0
-abbrev pick : ℕ → ℕ → ℕ
+abbrev pub pick : ℕ → ℕ → ℕ
 pick t v = cond (eqb t 1) v 0
 
 -- a map that keeps 0 goes through
@@ -63,12 +63,12 @@ module _ {n p : ℕ} (degree : Degree n p) where
       let r : c - 2 ^ n < 2 ^ n = omega arith in
       ap (λ (x : ℕ). x / 2 ^ n) e ∙ digits-div 1 r
 
-  top-below : (c : ℕ) → c < 2 ^ suc n → c / 2 ^ n < 2
+  pub top-below : (c : ℕ) → c < 2 ^ suc n → c / 2 ^ n < 2
   top-below c h = let b : c < 2 * 2 ^ n = omega arith in div-lt-iff-lt-mul (pow-pos n) .1 b
 
   -- ---- the step, x times a
 
-  step-is : (a : ℕ) → a < 2 ^ n → timesX n p a ≡ bitXor (a * 2) (pick (a * 2 / 2 ^ n) p)
+  pub step-is : (a : ℕ) → a < 2 ^ n → timesX n p a ≡ bitXor (a * 2) (pick (a * 2 / 2 ^ n) p)
   unfolding timesX
   step-is a h = go (ltb (a * 2) (2 ^ n)) refl
     where
@@ -106,7 +106,7 @@ module _ {n p : ℕ} (degree : Degree n p) where
 
   -- ---- Horner's rule over the k low bits of b
 
-  horner-below : (a k b : ℕ) → horner n p a k b < 2 ^ n
+  pub horner-below : (a k b : ℕ) → horner n p a k b < 2 ^ n
   unfolding horner
   horner-below a zero b = pow-pos n
   horner-below a (suc k) b =
@@ -145,6 +145,12 @@ module _ {n p : ℕ} (degree : Degree n p) where
       ∙ sym (step-sum (timesX n p u) (pick t (a % 2 ^ n)) (step-below u (horner-below a k (b / 2)))
       (pick-below t (a % 2 ^ n) (2 ^ n) (pow-pos n) (mod-lt a (pow-pos n))))
 
+  -- the lowest bit of b first: a is added where it is 1, and what is left of b multiplies x times a
+  pub horner-first : (a k b : ℕ) → a < 2 ^ n
+      → horner n p a (suc k) b ≡ bitXor (horner n p (timesX n p a) k (b / 2)) (pick (b % 2) a)
+  unfolding horner
+  horner-first a k b h = ap₂ bitXor (sym (horner-step a k (b / 2) h)) (ap (pick (b % 2)) (mod-eq-of-lt h))
+
   -- two multiplications of c, in either order
   horner-past : (c k a j b : ℕ) → horner n p (horner n p c k a) j b ≡ horner n p (horner n p c j b) k a
   unfolding horner
@@ -179,7 +185,7 @@ module _ {n p : ℕ} (degree : Degree n p) where
   times-below a b = horner-below a n b
 
   -- products read the n low bits alone
-  times-low : (a b : ℕ) → times n p (a % 2 ^ n) b ≡ times n p a b
+  pub times-low : (a b : ℕ) → times n p (a % 2 ^ n) b ≡ times n p a b
   unfolding times
   times-low a b = horner-low a n b
 
@@ -189,6 +195,15 @@ module _ {n p : ℕ} (degree : Degree n p) where
 
   pub one-times : (a : ℕ) → a < 2 ^ n → times n p 1 a ≡ a
   one-times a h = one-times-low a ∙ mod-eq-of-lt h
+
+  pub zero-times : (b : ℕ) → times n p 0 b ≡ 0
+  unfolding times
+  zero-times b = horner-zero n b
+
+  -- x times a factor is x times the product
+  pub times-step : (a b : ℕ) → a < 2 ^ n → times n p (timesX n p a) b ≡ timesX n p (times n p a b)
+  unfolding times
+  times-step a b h = horner-step a n b h
 
   pub times-right-comm : (c a b : ℕ) → times n p (times n p c a) b ≡ times n p (times n p c b) a
   unfolding times

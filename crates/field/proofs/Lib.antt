@@ -2,6 +2,8 @@ pub mod Ring
 pub mod Xor
 pub mod Laws
 pub mod ReciprocalLaws
-pub mod TableLaws
 pub mod Fields
+pub mod StepLaws
+pub mod TableLaws
 pub mod GivesLaws
+pub mod WrongFields

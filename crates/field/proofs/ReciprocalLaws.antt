@@ -4,12 +4,12 @@ use Prim.Native.Nat.{ℕ, zero, suc, _+_, _^_, _≤_, _<_}
 use mathlib.Core.Path.{_≡_, refl, sym, ap, _∙_}
 use mathlib.Core.Bool.{Bool, true, false, cond, false≢true}
 use native.Mathlib.Omega.{arith}
-use borrow.Author.Tests.{eqb-true, eq-eqb}
+use borrow.Author.Tests.{eqb-true, eq-eqb, ne-eqb}
 use lib.Dec.{eqb}
 use lib.Arith.{lt-of-le-ne}
 use lib.Pow.{pow-pos}
 use Rattle.field.specs.Polynomial.{Degree, times, first, reciprocalOf}
-use Rattle.field.proofs.Laws.{one-times, times-right-comm}
+use Rattle.field.proofs.Laws.{one-times, zero-times, times-right-comm}
 
 passes-at : (f : ℕ → Bool) (i r : ℕ) (t : Bool) → f i ≡ t → (f i ≡ false → f r ≡ true) → f (cond t i r) ≡ true
 passes-at f i r true e h = e
@@ -42,7 +42,7 @@ unfolding reciprocalOf
 reciprocal-below n p a = first-below (λ b. eqb (times n p a b) 1) 0 (2 ^ n) (2 ^ n) (pow-pos n) (omega arith)
 
 -- where some element's product with a is 1, the reciprocal's is
-times-reciprocal : (n p a b : ℕ) → b < 2 ^ n → times n p a b ≡ 1 → times n p a (reciprocalOf n p a) ≡ 1
+pub times-reciprocal : (n p a b : ℕ) → b < 2 ^ n → times n p a b ≡ 1 → times n p a (reciprocalOf n p a) ≡ 1
 unfolding reciprocalOf
 times-reciprocal n p a b h e =
     let f : ℕ → Bool = λ c. eqb (times n p a c) 1 in
@@ -58,3 +58,12 @@ reciprocal-unique {n} {p} degree a b h e =
     ∙ times-right-comm degree a b r
     ∙ ap (λ (x : ℕ). times n p x b) (times-reciprocal n p a b h e)
     ∙ one-times degree b h
+
+-- nothing times 0 is 1, so that 0 has none
+pub reciprocal-zero : {n p : ℕ} → Degree n p → reciprocalOf n p 0 ≡ 0
+unfolding reciprocalOf first
+reciprocal-zero {n} {p} degree = none 0 (2 ^ n)
+  where
+    none : (i k : ℕ) → first (λ b. eqb (times n p 0 b) 1) i k ≡ 0
+    none i zero = refl
+    none i (suc k) = rw (ne-eqb (times n p 0 i) 1 (λ e. omega (arith, zero-times degree i))) (none (suc i) k)

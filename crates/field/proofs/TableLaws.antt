@@ -1,13 +1,27 @@
--- The tables of products and of reciprocals at each place, and products of numbers past the field's size.
-use Prim.Native.Nat.{ℕ, suc, _+_, _-_, _*_, _/_, _%_, _<_}
-use mathlib.Core.Path.{_≡_, ap, ap₂, _∙_}
+-- The table of products of GF(32) at each place; a table whose every entry's product with its element is 1 is the table
+-- of reciprocals; and a reciprocal read from that table, for any number.
+use Prim.Native.Nat.{ℕ, zero, suc, _+_, _-_, _*_, _/_, _%_, _^_, _<_, _≤_}
+use mathlib.Core.Path.{_≡_, refl, sym, ap, ap₂, _∙_, fun-ext}
+use mathlib.Core.Bool.{Bool, true, _&&_}
+use mathlib.Core.List.{List, _∷_}
+use native.Mathlib.Nat.{mod-lt, mod-mod, zero-lt-suc, le-of-suc-le-suc}
+use native.Mathlib.Numerals.{add-one}
 use native.Mathlib.Omega.{arith}
-use lib.Dec.{lit<, lit≤}
-use lib.ListN.{getD}
-use Rattle.base.proofs.ListLaws.{getD-values}
-use Rattle.field.specs.Gf32.{gf32, modulus, products, reciprocals}
-use Rattle.field.specs.Polynomial.{Degree}
-use Rattle.field.proofs.Laws.{times-low-both}
+use borrow.Author.Tests.{ltb-true, eqb-true}
+use lib.Dec.{ltb, eqb}
+use lib.ListN.{length, getD}
+use lib.Pow.{pow-pos, pow-mono, suc-ones}
+use Rattle.base.specs.Lists.{every, values}
+use Rattle.base.proofs.ListLaws.{and-left, and-right, length-values, getD-values, values-of, every-values}
+use Rattle.field.specs.Polynomial.{Degree, times, first, reciprocalOf}
+use Rattle.field.specs.Fields.{bits, modulus}
+use Rattle.field.specs.Gf32.{gf32, products}
+use Rattle.field.specs.Reciprocals.{reciprocals, LentField}
+use Rattle.field.specs.declared.Field.{Field}
+use Rattle.field.specs.declared.Field.the-variants.{Gf32}
+use Rattle.field.proofs.Laws.{times-low, times-low-both, times-comm}
+use Rattle.field.proofs.ReciprocalLaws.{reciprocal-unique, reciprocal-zero}
+use Rattle.field.proofs.Fields.{degree, narrow}
 
 -- entry 32 a + b is a × b
 pub product-at : (a b : ℕ) → a < 32 → b < 32 → getD products (32 * a + b) 0 ≡ gf32 .mul a b
@@ -16,16 +30,67 @@ product-at a b ha hb =
     let second : (32 * a + b) % 32 ≡ b = omega arith in
     getD-values (λ k. gf32 .mul (k / 32) (k % 32)) 1024 (32 * a + b) (omega arith) ∙ ap₂ (gf32 .mul) first second
 
--- entry a - 1 is the reciprocal of a
-pub reciprocal-at : (a : ℕ) → 0 < a → a < 32 → getD reciprocals (a - 1) 0 ≡ gf32 .inv a
-reciprocal-at a pos below =
-    let e : suc (a - 1) ≡ a = omega arith in
-    getD-values (λ k. gf32 .inv (suc k)) 31 (a - 1) (omega arith) ∙ ap (gf32 .inv) e
-
--- the modulus is of degree 5
-pub gf32-degree : Degree 5 modulus
-gf32-degree = record { positive = lit< tt; from = lit≤ tt; to = lit< tt }
-
 -- products read the five low bits of their factors
 pub mul-low : (a b : ℕ) → gf32 .mul a b ≡ gf32 .mul (a % 32) (b % 32)
-mul-low = times-low-both gf32-degree
+mul-low = times-low-both (degree Gf32)
+
+-- is entry a - 1 an element whose product with a is 1?
+abbrev pub oneAt : ℕ → ℕ → List ℕ → ℕ → Bool
+oneAt n p l k = ltb (getD l k 0) (2 ^ n) && eqb (times n p (suc k) (getD l k 0)) 1
+
+-- the table, tested at every entry
+pub table-of : {n p : ℕ} → Degree n p → (l : List ℕ) → length l ≡ 2 ^ n - 1
+    → every (oneAt n p l) (values (λ k. k) (2 ^ n - 1)) ≡ true → l ≡ reciprocals n p
+table-of {n} {p} d l size all =
+    values-of (λ k. reciprocalOf n p (suc k)) (2 ^ n - 1) l size
+    (λ k h.
+    let e = every-values (oneAt n p l) (λ k. k) (2 ^ n - 1) all k h in
+    let b = getD l k 0 in
+    sym (reciprocal-unique d (suc k) b (ltb-true b (2 ^ n) (and-left (ltb b (2 ^ n)) (eqb (times n p (suc k) b) 1) e))
+    (eqb-true (times n p (suc k) b) 1 (and-right (ltb b (2 ^ n)) (eqb (times n p (suc k) b) 1) e))))
+
+module _ {n p : ℕ} (d : Degree n p) where
+  -- the reciprocal reads the n low bits of its operand
+  inv-low : (a : ℕ) → reciprocalOf n p (a % 2 ^ n) ≡ reciprocalOf n p a
+  unfolding reciprocalOf
+  inv-low a = ap (λ (f : ℕ → Bool). first f 0 (2 ^ n)) (fun-ext (λ b. ap (λ (x : ℕ). eqb x 1) (times-low d a b)))
+
+  at-low : (a : ℕ) → a < 2 ^ n → getD (0 ∷ reciprocals n p) a 0 ≡ reciprocalOf n p a
+  at-low zero h = sym (reciprocal-zero d)
+  at-low (suc k) h =
+      let b : k < 2 ^ n - 1 = omega arith in
+      getD-values (λ k. reciprocalOf n p (suc k)) (2 ^ n - 1) k b
+
+  -- read from the table
+  pub inverse-at : (table : List ℕ) → table ≡ reciprocals n p → (a : ℕ) → getD (0 ∷ table) (a % suc (length table)) 0 ≡ reciprocalOf n p a
+  inverse-at table e a =
+      let size : suc (length table) ≡ 2 ^ n =
+      ap (λ (l : List ℕ). suc (length l)) e ∙ ap suc (length-values (λ k. reciprocalOf n p (suc k)) 0 (2 ^ n - 1)) ∙ suc-ones n in
+      ap₂ (λ (l : List ℕ) (m : ℕ). getD (0 ∷ l) (a % m) 0) e size ∙ at-low (a % 2 ^ n) (mod-lt a (pow-pos n)) ∙ inv-low a
+
+-- the entry before a number's remainder
+module _ (table : List ℕ) (a : ℕ) where
+  pub none-before : a % (length table + 1) ≡ 0 → 0 ≡ getD (0 ∷ table) (a % suc (length table)) 0
+  none-before e = sym (ap (λ (k : ℕ). getD (0 ∷ table) k 0) (sym (ap (λ (m : ℕ). a % m) (add-one (length table))) ∙ e))
+
+  pub one-before : (a % (length table + 1) ≡ 0 → ⊥)
+      → getD table (a % (length table + 1) - 1) 0 ≡ getD (0 ∷ table) (a % suc (length table)) 0
+  one-before d = before (a % (length table + 1)) d ∙ ap (λ (m : ℕ). getD (0 ∷ table) (a % m) 0) (add-one (length table))
+    where
+      before : (k : ℕ) → (k ≡ 0 → ⊥) → getD table (k - 1) 0 ≡ getD (0 ∷ table) k 0
+      before zero z = absurd (z refl)
+      before (suc k) z = let e : suc k - 1 ≡ k = omega arith in ap (λ (m : ℕ). getD table m 0) e
+
+-- what is lent of each field
+pub lent : (f : Field) (table : List ℕ) → table ≡ reciprocals (bits f) (modulus f) → LentField (bits f) (modulus f) table
+lent f table e = record { degree = degree f; narrow = narrow f; reciprocals-are = e }
+
+-- at most 255 reciprocals
+pub lent-short : {n p : ℕ} {table : List ℕ} → LentField n p table → length table < 256
+lent-short {n} {p} {table} lent =
+    let b : 2 ^ n ≤ 2 ^ 8 = pow-mono (lent .narrow) in
+    let size : length table ≡ 2 ^ n - 1 = ap length (lent .reciprocals-are) ∙ length-values (λ k. reciprocalOf n p (suc k)) 0 (2 ^ n - 1) in
+    omega arith
+
+pub reciprocals-short : (f : Field) (table : List ℕ) → table ≡ reciprocals (bits f) (modulus f) → length table < 256
+reciprocals-short f table e = lent-short (lent f table e)

@@ -1,3 +1,4 @@
+pub mod Widths
 pub mod MatrixLaws
 pub mod BothTests
 pub mod KeyFacts
@@ -7,3 +8,4 @@ pub mod ChangeOfLayout
 pub mod RoundTrip
 pub mod WrongPrograms
 pub mod Inverses
+pub mod OldKeys

@@ -1,15 +1,18 @@
--- Key files: 83 bytes of N, q, eight T-values, the matrix of Pub(S), its list, the matrix of Pub(S'). The questions of
--- the reader and of the writer from fixed arrays, in the paper's order.
-use Prim.Native.Nat.{ℕ, _+_, _*_, _/_, _%_}
+-- Key files: N, q, eight T-values, the matrix of Pub(S), its list, the matrix of Pub(S'), in 83 bytes over GF(32) and
+-- in 128 over GF(256). The questions of the reader and of the writer from fixed arrays, in the paper's order. The parts
+-- of a file are stated for any number b of bits of an element.
+use Prim.Native.Nat.{ℕ, _+_, _*_, _-_, _/_, _%_, _^_}
 use mathlib.Core.Path.{_≡_}
-use mathlib.Core.Bool.{Bool, _&&_}
+use mathlib.Core.Bool.{Bool, cond, _&&_, _||_}
 use mathlib.Core.List.{List, [], _∷_, _++_}
 use lib.Dec.{leb, eqb}
 use lib.ListN.{length, take, drop, getD, replicate}
 use Rattle.base.specs.Questions.{Question, _else_, firstNo, granted}
 use Rattle.base.specs.Lists.{values, overlaid}
 use Rattle.base.specs.Digits.{value, digits, part}
-use Rattle.field.specs.Gf32.{gf32}
+use Rattle.field.specs.Fields.{bits, operations, keyBytes}
+use Rattle.field.specs.declared.Field.{Field}
+use Rattle.field.specs.declared.Field.the-variants.{Gf32, Gf256}
 use Rattle.matrix.specs.Layout.{entry, matrixOf}
 use Rattle.matrix.specs.Elimination.{invertible}
 use Rattle.action.specs.Action.{pairOf}
@@ -24,28 +27,43 @@ statedStrands file = getD file 0 0
 abbrev pub fieldSize : List ℕ → ℕ
 fieldSize file = value 256 (part 1 2 file)
 
--- eight T-values of 5 bits in 5 bytes
-unfoldable pub tValues : List ℕ → List ℕ
-tValues file = digits 32 8 (value 256 (part 3 5 file))
+-- the field that goes with a file's length
+unfoldable pub keyField : List ℕ → Field
+keyField file = cond (eqb (length file) (keyBytes Gf256)) Gf256 Gf32
 
--- a matrix in 36 bytes: 57 entries of 5 bits, then three filler bits
-unfoldable pub entries : List ℕ → List ℕ
-entries bytes = digits 32 57 (value 256 bytes / 8)
+-- eight T-values of b bits in b bytes
+unfoldable pub tValues : ℕ → List ℕ → List ℕ
+tValues b file = digits (2 ^ b) 8 (value 256 (part 3 b file))
 
-unfoldable pub fillerBits : List ℕ → ℕ
-fillerBits bytes = value 256 bytes % 8
+-- the bytes of a matrix's 57 entries of b bits
+abbrev pub matrixBytes : ℕ → ℕ
+matrixBytes b = 7 * b + 1
+
+-- what the bits after a matrix's entries, up to the end of its last byte, can write: three filler bits after entries of
+-- 5 bits, and none after entries of 8
+abbrev pub fillers : ℕ → ℕ
+fillers b = 2 ^ (8 - b)
+
+unfoldable pub entries : ℕ → List ℕ → List ℕ
+entries b bytes = digits (2 ^ b) 57 (value 256 bytes / fillers b)
+
+unfoldable pub fillerBits : ℕ → List ℕ → ℕ
+fillerBits b bytes = value 256 bytes % fillers b
 
 -- the bytes of the matrix of Pub(S)
-abbrev pub firstBytes : List ℕ → List ℕ
-firstBytes file = part 8 36 file
+abbrev pub firstBytes : ℕ → List ℕ → List ℕ
+firstBytes b file = part (3 + b) (matrixBytes b) file
 
 -- the list of Pub(S): eight labels of 3 bits in 3 bytes
-unfoldable pub labels : List ℕ → List ℕ
-labels file = digits 8 8 (value 256 (part 44 3 file))
+abbrev pub listPlace : ℕ → ℕ
+listPlace b = 3 + b + matrixBytes b
+
+unfoldable pub labels : ℕ → List ℕ → List ℕ
+labels b file = digits 8 8 (value 256 (part (listPlace b) 3 file))
 
 -- the bytes of the matrix of Pub(S')
-abbrev pub secondBytes : List ℕ → List ℕ
-secondBytes file = part 47 36 file
+abbrev pub secondBytes : ℕ → List ℕ → List ℕ
+secondBytes b file = part (listPlace b + 3) (matrixBytes b) file
 
 -- rows 1 to 7 whole, then row 8, whose first seven entries are 0. A file holds a matrix row by row, whatever the layout
 -- in memory
@@ -61,65 +79,79 @@ abbrev pub startsWithOnes : List ℕ → Bool
 startsWithOnes ts = eqb (getD ts 0 0) 1 && eqb (getD ts 1 0) 1
 
 -- can each matrix be inverted, as elimination over the field decides?
-abbrev pub bothInvertible : List ℕ → List ℕ → Bool
-bothInvertible first second = invertible gf32 8 (entry first) && invertible gf32 8 (entry second)
+abbrev pub bothInvertible : Field → List ℕ → List ℕ → Bool
+bothInvertible f first second = invertible (operations f) 8 (entry first) && invertible (operations f) 8 (entry second)
 
--- Key file: 1 to 7, then 26
-abbrev pub keyQuestions : List ℕ → List Question
-keyQuestions file =
-    (eqb (length file) 83 else 1)
-    ∷ (eqb (statedStrands file) 8 else 2)
-    ∷ (eqb (fieldSize file) 32 else 3)
-    ∷ (nonzero (tValues file) else 4)
-    ∷ (startsWithOnes (tValues file) else 5)
-    ∷ (isOrder (labels file) else 6)
-    ∷ (eqb (fillerBits (firstBytes file)) 0 && eqb (fillerBits (secondBytes file)) 0 else 7)
-    ∷ (bothInvertible (wholeMatrix (entries (firstBytes file))) (wholeMatrix (entries (secondBytes file))) else 26)
+-- Key file: 2 to 7, which ask no more of the field than the bits b of an element
+abbrev pub partQuestions : ℕ → List ℕ → List Question
+partQuestions b file =
+    (eqb (statedStrands file) 8 else 2)
+    ∷ (eqb (fieldSize file) (2 ^ b) else 3)
+    ∷ (nonzero (tValues b file) else 4)
+    ∷ (startsWithOnes (tValues b file) else 5)
+    ∷ (isOrder (labels b file) else 6)
+    ∷ (eqb (fillerBits b (firstBytes b file)) 0 && eqb (fillerBits b (secondBytes b file)) 0 else 7)
     ∷ []
+
+-- 1, then 2 to 7, then 26, over a field
+abbrev pub keyQuestionsOver : Field → List ℕ → List Question
+keyQuestionsOver f file =
+    (eqb (length file) (keyBytes Gf32) || eqb (length file) (keyBytes Gf256) else 1)
+    ∷ (partQuestions (bits f) file
+    ++ ((bothInvertible f (wholeMatrix (entries (bits f) (firstBytes (bits f) file))) (wholeMatrix (entries (bits f) (secondBytes (bits f) file))) else 26) ∷ []))
+
+-- over the field that goes with the file's length
+abbrev pub keyQuestions : List ℕ → List Question
+keyQuestions file = keyQuestionsOver (keyField file) file
 
 unfoldable pub keyAnswer : List ℕ → ℕ
 keyAnswer file = firstNo (keyQuestions file)
 
--- the key of T-values, a list and the 57 entries of each matrix: T-values, the pair Pub(S), the matrix of Pub(S')
-abbrev pub keyHolding : List ℕ → List ℕ → List ℕ → List ℕ → Key
-keyHolding ts order first second =
-    record { «t_values» = ts; pair = pairOf (wholeMatrix first) order; second = wholeMatrix second }
+-- the key of a field, T-values, a list and the 57 entries of each matrix: the field, the T-values, the pair Pub(S), the
+-- matrix of Pub(S')
+abbrev pub keyHolding : Field → List ℕ → List ℕ → List ℕ → List ℕ → Key
+keyHolding f ts order first second =
+    record { field = f; «t_values» = ts; pair = pairOf (wholeMatrix first) order; second = wholeMatrix second }
+
+-- the key that a file of elements of b bits holds
+abbrev pub keyParts : Field → ℕ → List ℕ → Key
+keyParts f b file = keyHolding f (tValues b file) (labels b file) (entries b (firstBytes b file)) (entries b (secondBytes b file))
 
 -- the key that a file holds
 unfoldable pub keyOf : List ℕ → Key
-keyOf file = keyHolding (tValues file) (labels file) (entries (firstBytes file)) (entries (secondBytes file))
+keyOf file = keyParts (keyField file) (bits (keyField file)) file
 
--- the key of a refusal
+-- the key of a refusal: its zeros name the field with 32 elements
 unfoldable pub zeroKey : Key
-zeroKey = record { «t_values» = replicate 8 0; pair = zeroPair; second = replicate 64 0 }
+zeroKey = record { field = Gf32; «t_values» = replicate 8 0; pair = zeroPair; second = replicate 64 0 }
 
 -- an answer, and beside it the key, or zeros
 pub record ReadsKey (file : List ℕ) (answer : ℕ) (key : Key) : Type 0 where
   pub answer-is : answer ≡ keyAnswer file
   pub key-is : key ≡ granted (keyAnswer file) (keyOf file) zeroKey
 
--- a matrix's 36 bytes, from 57 entries
-unfoldable pub packedMatrix : List ℕ → List ℕ
-packedMatrix es = digits 256 36 (value 32 es * 8)
+-- a matrix's bytes, from 57 entries of b bits
+unfoldable pub packedMatrix : ℕ → List ℕ → List ℕ
+packedMatrix b es = digits 256 (matrixBytes b) (value (2 ^ b) es * fillers b)
 
 -- the file of a key
-unfoldable pub keyFile : List ℕ → List ℕ → List ℕ → List ℕ → List ℕ
-keyFile ts order first second =
-    (8 ∷ 0 ∷ 32 ∷ [])
-    ++ (digits 256 5 (value 32 ts)
-    ++ (packedMatrix first
+unfoldable pub keyFile : ℕ → List ℕ → List ℕ → List ℕ → List ℕ → List ℕ
+keyFile b ts order first second =
+    (8 ∷ digits 256 2 (2 ^ b))
+    ++ (digits 256 b (value (2 ^ b) ts)
+    ++ (packedMatrix b first
     ++ (digits 256 3 (value 8 order)
-    ++ packedMatrix second)))
+    ++ packedMatrix b second)))
 
--- Key writer: 16, 17, then 4, 5, 6, 26, the last of the matrices that its entries make
-abbrev pub keyWriterQuestions : ℕ → List ℕ → List ℕ → List ℕ → List ℕ → List Question
-keyWriterQuestions room ts order first second =
-    (leb 83 room else 16)
-    ∷ (elements ts && elements first && elements second else 17)
+-- Key writer, over the field that it is told: 16, 17, then 4, 5, 6, 26, the last of the matrices that its entries make
+abbrev pub keyWriterQuestions : Field → ℕ → List ℕ → List ℕ → List ℕ → List ℕ → List Question
+keyWriterQuestions f room ts order first second =
+    (leb (keyBytes f) room else 16)
+    ∷ (elements f ts && elements f first && elements f second else 17)
     ∷ (nonzero ts else 4)
     ∷ (startsWithOnes ts else 5)
     ∷ (isOrder order else 6)
-    ∷ (bothInvertible (wholeMatrix first) (wholeMatrix second) else 26)
+    ∷ (bothInvertible f (wholeMatrix first) (wholeMatrix second) else 26)
     ∷ []
 
 -- what a writer that reports no bytes gives and leaves: its answer; the file in the output's first bytes with the rest
@@ -129,6 +161,6 @@ pub record WroteFile (questions : List Question) (file before after : List ℕ) 
   pub output-is : after ≡ granted (firstNo questions) (overlaid file before) before
 
 -- what the key writer gives and leaves
-abbrev pub WroteKey : List ℕ → List ℕ → List ℕ → List ℕ → List ℕ → List ℕ → ℕ → Type 0
-WroteKey ts order first second before after answer =
-    WroteFile (keyWriterQuestions (length before) ts order first second) (keyFile ts order first second) before after answer
+abbrev pub WroteKey : Field → List ℕ → List ℕ → List ℕ → List ℕ → List ℕ → List ℕ → ℕ → Type 0
+WroteKey f ts order first second before after answer =
+    WroteFile (keyWriterQuestions f (length before) ts order first second) (keyFile (bits f) ts order first second) before after answer

@@ -1,16 +1,20 @@
-// Key files: 83 bytes of N, q, eight T-values, the matrix of Pub(S), its list and the matrix of Pub(S'), read and
-// written.
+// Key files: N, q, eight T-values, the matrix of Pub(S), its list and the matrix of Pub(S'), read and written: 83 bytes
+// over GF(32), 128 over GF(256).
+use action::Pair;
+use field::Field;
 ghost use mathlib.Core.Path.{_≡_};
 ghost use lib.ListN.{length};
-ghost use Rattle.key.specs.Keys.{fileEntries, keyOf, zeroKey, ReadsKey, WroteKey};
+ghost use Rattle.field.specs.Fields.{keyBytes};
+ghost use Rattle.key.specs.Keys.{keyField, fileEntries, keyParts, zeroKey, ReadsKey, WroteKey};
+ghost use Rattle.key.specs.Parts.{Width, fileBytes};
 
 mod read; // read.rt: the parts of a key file, and its questions
+mod width; // width.rt: what differs between the two fields
 mod write; // write.rt: the bytes of a key file, and the writer's questions
 
-use action::Pair;
-
-// What a key file holds: T-values, the pair Pub(S), the matrix of Pub(S').
+// What a key file holds: its field, T-values, the pair Pub(S), the matrix of Pub(S').
 pub struct Key {
+    pub field: Field,
     pub t_values: [u8; 8],
     pub pair: Pair,
     pub second: [u8; 64],
@@ -29,43 +33,50 @@ fn zero_key() -> Key
     let t_values = [0u8; 8];
     let second = [0u8; 64];
     Key {
+        field: Field::Gf32,
         t_values,
         pair,
         second,
     }
 }
 
-// What a file of 83 bytes holds.
-fn key_of(file: &[u8]) -> Key
-    requires { ⌜ length (now file) ≡ 83 ⌝ }
-    ensures { λ r. ⌜ r ≡ keyOf (now (file .entry)) ⌝ }
+// What a file of the field's length holds.
+fn key_of(file: &[u8], f: Field, bits: usize) -> Key
+    requires { ⌜ Width bits × (length (now file) ≡ fileBytes bits) ⌝ }
+    ensures { λ r. ⌜ r ≡ keyParts f bits (now (file .entry)) ⌝ }
 {
-    let matrix = read::matrix(&file[8..44]);
-    let labels = read::order(file);
+    let first = 3 + bits;
+    let list = first + (7 * bits + 1);
+    let after = list + 3;
+    let matrix = read::matrix(&file[first..list], bits);
+    let labels = read::order(file, bits);
     let pair = Pair::with(matrix, labels);
-    let t_values = read::t_values(file);
-    let second = read::matrix(&file[47..83]);
+    let t_values = read::t_values(file, bits);
+    let second = read::matrix(&file[after..], bits);
     Key {
+        field: f,
         t_values,
         pair,
         second,
     }
 }
 
-// Reads a key file: questions 1 to 7, then 26 of both matrices.
-pub fn read_key(file: &[u8]) -> KeyRead
+// Reads a key file over the field that goes with its length: questions 2 to 7, then 26 of both matrices.
+fn read_over(file: &[u8], f: Field) -> KeyRead
+    requires { ⌜ (f ≡ keyField (now file)) × (length (now file) ≡ keyBytes f) ⌝ }
     ensures { λ r. ⌜ ReadsKey (now (file .entry)) (r .answer) (r .key) ⌝ }
 {
-    let answer = read::answer(file);
+    let bits = width::bits_of(f);
+    let answer = read::answer(file, bits);
     if answer != 0 {
         let key = zero_key();
         return KeyRead { answer, key };
     }
-    let key = key_of(file);
+    let key = key_of(file, f, bits);
     let pair = key.pair;
     let first = pair.matrix;
     let second = key.second;
-    let inverses = read::both_invertible(first, second);
+    let inverses = read::both_invertible(first, second, f);
     if !inverses {
         let key = zero_key();
         return KeyRead { answer: 26, key };
@@ -73,22 +84,39 @@ pub fn read_key(file: &[u8]) -> KeyRead
     KeyRead { answer, key }
 }
 
-// Writes a key file from fixed arrays: questions 16, 17, 4, 5, 6, 26. Bytes past the 83 do not change.
+// Reads a key file: its length names the field, or is refused.
+pub fn read_key(file: &[u8]) -> KeyRead
+    ensures { λ r. ⌜ ReadsKey (now (file .entry)) (r .answer) (r .key) ⌝ }
+{
+    if file.len() == 83 {
+        return read_over(file, Field::Gf32);
+    }
+    if file.len() == 128 {
+        return read_over(file, Field::Gf256);
+    }
+    let key = zero_key();
+    KeyRead { answer: 1, key }
+}
+
+// Writes a key file over a field from fixed arrays: questions 16, 17, 4, 5, 6, 26. Bytes past the file do not change.
 pub fn write_key(
     t_values: &[u8; 8],
     labels: &[u8; 8],
     first: &[u8; 57],
     second: &[u8; 57],
     out: &mut [u8],
+    f: Field,
 ) -> u8
-    ensures { λ r. ⌜ WroteKey (now («t_values» .entry)) (now (labels .entry)) (now (first .entry)) (now (second .entry)) (now (out .entry)) (now (out .exit)) r ⌝ }
+    ensures { λ r. ⌜ WroteKey f (now («t_values» .entry)) (now (labels .entry)) (now (first .entry)) (now (second .entry)) (now (out .entry)) (now (out .exit)) r ⌝ }
 {
-    let answer = write::answer(out.len(), t_values, labels, first, second);
+    let answer = write::answer(out.len(), t_values, labels, first, second, f);
     if answer != 0 {
         return answer;
     }
-    let file = write::file(t_values, labels, first, second);
-    base::put(out, &file);
+    let bits = width::bits_of(f);
+    let size = width::key_bytes(f);
+    let file = write::file(t_values, labels, first, second, bits);
+    base::put(out, &file[..size]);
     0
 }
 

@@ -1,12 +1,16 @@
-// The parts of a key file of 83 bytes, and the questions that are asked of it before its matrices are taken: 1 to 7.
+// The parts of a key file whose elements have some number of bits, and the questions that are asked of it before its
+// matrices are taken: 2 to 7.
+use crate::width;
+use field::Field;
 ghost use mathlib.Core.Path.{_≡_};
 ghost use mathlib.Core.Bool.{_&&_};
 ghost use lib.Dec.{eqb};
 ghost use Prim.Native.Nat.{_^_, _≤_, _<_};
-ghost use lib.ListN.{length, take};
+ghost use lib.ListN.{length};
 ghost use Rattle.base.specs.Questions.{firstNo};
 ghost use Rattle.base.specs.Digits.{value, digits};
-ghost use Rattle.key.specs.Keys.{tValues, labels, entries, wholeMatrix, fillerBits, firstBytes, secondBytes, startsWithOnes, bothInvertible, keyQuestions};
+ghost use Rattle.key.specs.Keys.{tValues, labels, entries, wholeMatrix, fillerBits, firstBytes, secondBytes, startsWithOnes, bothInvertible, matrixBytes, partQuestions};
+ghost use Rattle.key.specs.Parts.{Width, fileBytes};
 
 // One group of m bytes as eight digits.
 fn eight(bytes: &[u8], m: usize, to: u64) -> [u8; 8]
@@ -18,28 +22,36 @@ fn eight(bytes: &[u8], m: usize, to: u64) -> [u8; 8]
     all
 }
 
-pub(crate) fn t_values(file: &[u8]) -> [u8; 8]
-    requires { ⌜ length (now file) ≡ 83 ⌝ }
-    ensures { λ r. ⌜ r ≡ tValues (now (file .entry)) ⌝ }
+pub(crate) fn t_values(file: &[u8], bits: usize) -> [u8; 8]
+    requires { ⌜ Width bits × (length (now file) ≡ fileBytes bits) ⌝ }
+    ensures { λ r. ⌜ r ≡ tValues bits (now (file .entry)) ⌝ }
 {
-    eight(&file[3..8], 5, 32)
+    let end = 3 + bits;
+    let size = width::power(bits);
+    eight(&file[3..end], bits, size)
 }
 
-pub(crate) fn order(file: &[u8]) -> [u8; 8]
-    requires { ⌜ length (now file) ≡ 83 ⌝ }
-    ensures { λ r. ⌜ r ≡ labels (now (file .entry)) ⌝ }
+pub(crate) fn order(file: &[u8], bits: usize) -> [u8; 8]
+    requires { ⌜ Width bits × (length (now file) ≡ fileBytes bits) ⌝ }
+    ensures { λ r. ⌜ r ≡ labels bits (now (file .entry)) ⌝ }
 {
-    eight(&file[44..47], 3, 8)
+    let at = 3 + bits + (7 * bits + 1);
+    let end = at + 3;
+    eight(&file[at..end], 3, 8)
 }
 
-// The 57 entries of a matrix's 36 bytes: seven groups, and the last entry in the last byte.
-fn entries(bytes: &[u8]) -> [u8; 57]
-    requires { ⌜ length (now bytes) ≡ 36 ⌝ }
-    ensures { λ r. ⌜ r ≡ entries (now (bytes .entry)) ⌝ }
+// The 57 entries of a matrix's bytes: seven groups, and the last entry in the last byte.
+fn entries(bytes: &[u8], bits: usize) -> [u8; 57]
+    requires { ⌜ Width bits × (length (now bytes) ≡ matrixBytes bits) ⌝ }
+    ensures { λ r. ⌜ r ≡ entries bits (now (bytes .entry)) ⌝ }
 {
     let mut all = [0u8; 57];
-    base::regroup(&bytes[..35], 5, 256, &mut all[..56], 8, 32, 7);
-    all[56] = bytes[35] / 8;
+    let size = width::power(bits);
+    let unit = width::power(8 - bits); // what an entry of 1 writes in the last byte
+    let last = 7 * bits;
+    base::regroup(&bytes[..last], bits, 256, &mut all[..56], 8, size, 7);
+    let byte = bytes[last] as u64;
+    all[56] = (byte / unit) as u8;
     all
 }
 
@@ -58,11 +70,11 @@ pub(crate) fn whole_matrix(all: &[u8]) -> [u8; 64]
     m
 }
 
-pub(crate) fn matrix(bytes: &[u8]) -> [u8; 64]
-    requires { ⌜ length (now bytes) ≡ 36 ⌝ }
-    ensures { λ r. ⌜ r ≡ wholeMatrix (entries (now (bytes .entry))) ⌝ }
+pub(crate) fn matrix(bytes: &[u8], bits: usize) -> [u8; 64]
+    requires { ⌜ Width bits × (length (now bytes) ≡ matrixBytes bits) ⌝ }
+    ensures { λ r. ⌜ r ≡ wholeMatrix (entries bits (now (bytes .entry))) ⌝ }
 {
-    whole_matrix(&entries(bytes))
+    whole_matrix(&entries(bytes, bits))
 }
 
 // Are the first two T-values 1?
@@ -73,39 +85,42 @@ pub(crate) fn starts_with_ones(ts: &[u8; 8]) -> bool
 }
 
 // Are all filler bits zero?
-fn filler_is_zero(file: &[u8]) -> bool
-    requires { ⌜ length (now file) ≡ 83 ⌝ }
-    ensures { λ r. ⌜ r ≡ (eqb (fillerBits (firstBytes (now (file .entry)))) 0 && eqb (fillerBits (secondBytes (now (file .entry)))) 0) ⌝ }
+fn filler_is_zero(file: &[u8], bits: usize) -> bool
+    requires { ⌜ Width bits × (length (now file) ≡ fileBytes bits) ⌝ }
+    ensures { λ r. ⌜ r ≡ (eqb (fillerBits bits (firstBytes bits (now (file .entry)))) 0 && eqb (fillerBits bits (secondBytes bits (now (file .entry)))) 0) ⌝ }
 {
-    file[43] % 8 == 0 && file[82] % 8 == 0
+    let fillers = width::power(8 - bits);
+    let after = 3 + bits + (7 * bits + 1) + 3;
+    let first = file[3 + bits + 7 * bits] as u64;
+    let second = file[after + 7 * bits] as u64;
+    first % fillers == 0 && second % fillers == 0
 }
 
 // Has each matrix an inverse?
-pub(crate) fn both_invertible(first: [u8; 64], second: [u8; 64]) -> bool
-    ensures { λ r. ⌜ r ≡ bothInvertible first second ⌝ }
+pub(crate) fn both_invertible(first: [u8; 64], second: [u8; 64], f: Field) -> bool
+    ensures { λ r. ⌜ r ≡ bothInvertible f first second ⌝ }
 {
-    if !matrix::is_invertible(first) {
+    if !matrix::is_invertible(first, f) {
         return false;
     }
-    matrix::is_invertible(second)
+    matrix::is_invertible(second, f)
 }
 
-// The questions 1 to 7, in order: the number of the first one answered no, 0 if there is none.
-pub(crate) fn answer(file: &[u8]) -> u8
-    ensures { λ r. ⌜ r ≡ firstNo (take 7 (keyQuestions (now (file .entry)))) ⌝ }
+// The questions 2 to 7, in order: the number of the first one answered no, 0 if there is none.
+pub(crate) fn answer(file: &[u8], bits: usize) -> u8
+    requires { ⌜ Width bits × (length (now file) ≡ fileBytes bits) ⌝ }
+    ensures { λ r. ⌜ r ≡ firstNo (partQuestions bits (now (file .entry))) ⌝ }
 {
-    if file.len() != 83 {
-        return 1;
-    }
     let strands = file[0];
     if strands != 8 {
         return 2;
     }
     let size = base::number(&file[1..3], 256);
-    if size != 32 {
+    let wanted = width::power(bits);
+    if size != wanted {
         return 3;
     }
-    let ts = t_values(file);
+    let ts = t_values(file, bits);
     let set = action::all_nonzero(&ts);
     if !set {
         return 4;
@@ -114,12 +129,12 @@ pub(crate) fn answer(file: &[u8]) -> u8
     if !ones {
         return 5;
     }
-    let list = order(file);
+    let list = order(file, bits);
     let each = action::is_order(&list);
     if !each {
         return 6;
     }
-    let clear = filler_is_zero(file);
+    let clear = filler_is_zero(file, bits);
     if !clear {
         return 7;
     }

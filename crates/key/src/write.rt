@@ -1,27 +1,29 @@
 // The bytes of a key file, and the questions 16, 17, 4, 5, 6, 26 that are asked before they are written.
 ghost use mathlib.Core.Path.{_≡_};
 ghost use mathlib.Core.Bool.{_&&_};
-ghost use Prim.Native.Nat.{ℕ, _<_};
-ghost use lib.ListN.{length, getD};
+ghost use Prim.Native.Nat.{ℕ, _^_, _<_};
+ghost use lib.ListN.{length, take, getD};
 ghost use Rattle.base.specs.Questions.{firstNo};
 ghost use Rattle.action.specs.Multiplier.{elements};
-ghost use Rattle.key.specs.Keys.{packedMatrix, keyFile, keyWriterQuestions};
-ghost use Rattle.key.specs.Parts.{Parts, Sizes};
+ghost use Rattle.key.specs.Keys.{matrixBytes, packedMatrix, keyFile, keyWriterQuestions};
+ghost use Rattle.key.specs.Parts.{Width, fileBytes, Parts, Sizes};
 use crate::read;
+use crate::width;
+use field::Field;
 
-// Is every T-value and entry below 32?
-fn all_elements(ts: &[u8; 8], first: &[u8; 57], second: &[u8; 57]) -> bool
-    ensures { λ r. ⌜ r ≡ (elements (now (ts .entry)) && elements (now (first .entry)) && elements (now (second .entry))) ⌝ }
+// Is every T-value and entry an element of the field?
+fn all_elements(ts: &[u8; 8], first: &[u8; 57], second: &[u8; 57], f: Field) -> bool
+    ensures { λ r. ⌜ r ≡ (elements f (now (ts .entry)) && elements f (now (first .entry)) && elements f (now (second .entry))) ⌝ }
 {
-    let a = action::all_elements(ts);
+    let a = action::all_elements(ts, f);
     if !a {
         return false;
     }
-    let b = action::all_elements(first);
+    let b = action::all_elements(first, f);
     if !b {
         return false;
     }
-    action::all_elements(second)
+    action::all_elements(second, f)
 }
 
 // The questions 16, 17, 4, 5, 6, 26, in this order.
@@ -31,13 +33,15 @@ pub(crate) fn answer(
     order: &[u8; 8],
     first: &[u8; 57],
     second: &[u8; 57],
+    f: Field,
 ) -> u8
-    ensures { λ r. ⌜ r ≡ firstNo (keyWriterQuestions room (now (ts .entry)) (now (order .entry)) (now (first .entry)) (now (second .entry))) ⌝ }
+    ensures { λ r. ⌜ r ≡ firstNo (keyWriterQuestions f room (now (ts .entry)) (now (order .entry)) (now (first .entry)) (now (second .entry))) ⌝ }
 {
-    if room < 83 {
+    let size = width::key_bytes(f);
+    if room < size {
         return 16;
     }
-    let elements = all_elements(ts, first, second);
+    let elements = all_elements(ts, first, second, f);
     if !elements {
         return 17;
     }
@@ -55,41 +59,57 @@ pub(crate) fn answer(
     }
     let whole = read::whole_matrix(first);
     let other = read::whole_matrix(second);
-    let inverses = read::both_invertible(whole, other);
+    let inverses = read::both_invertible(whole, other, f);
     if !inverses {
         return 26;
     }
     0
 }
 
-// A matrix's 36 bytes: seven groups, then the last entry with three zero bits.
-fn put_matrix(entries: &[u8], dst: &mut [u8])
-    requires { ⌜ ((k : ℕ) → getD (now entries) k 0 < 32) × (length (now entries) ≡ 57) × (length (now dst) ≡ 36) ⌝ }
-    ensures { λ r. ⌜ now (dst .exit) ≡ packedMatrix (now (entries .entry)) ⌝ }
+// A matrix's bytes: seven groups, then the last entry with the filler.
+fn put_matrix(entries: &[u8], dst: &mut [u8], bits: usize)
+    requires { ⌜ Width bits × ((k : ℕ) → getD (now entries) k 0 < 2 ^ bits) × (length (now entries) ≡ 57) × (length (now dst) ≡ matrixBytes bits) ⌝ }
+    ensures { λ r. ⌜ now (dst .exit) ≡ packedMatrix bits (now (entries .entry)) ⌝ }
 {
-    base::regroup(&entries[..56], 8, 32, &mut dst[..35], 5, 256, 7);
-    dst[35] = entries[56] * 8;
+    let size = width::power(bits);
+    let unit = width::power(8 - bits); // what an entry of 1 writes in the last byte
+    let last = 7 * bits;
+    base::regroup(&entries[..56], 8, size, &mut dst[..last], bits, 256, 7);
+    let entry = entries[56] as u64;
+    dst[last] = (entry * unit) as u8;
 }
 
-// The file in an output of 83 bytes.
-fn fill(out: &mut [u8], ts: &[u8], order: &[u8], first: &[u8], second: &[u8])
-    requires { ⌜ Parts (now ts) (now order) (now first) (now second) × Sizes (now ts) (now order) (now first) (now second) × (length (now out) ≡ 83) ⌝ }
-    ensures { λ r. ⌜ now (out .exit) ≡ keyFile (now (ts .entry)) (now (order .entry)) (now (first .entry)) (now (second .entry)) ⌝ }
+// The file in an output of its size.
+fn fill(out: &mut [u8], ts: &[u8], order: &[u8], first: &[u8], second: &[u8], bits: usize)
+    requires { ⌜ Width bits × Parts bits (now ts) (now order) (now first) (now second) × Sizes (now ts) (now order) (now first) (now second) × (length (now out) ≡ fileBytes bits) ⌝ }
+    ensures { λ r. ⌜ now (out .exit) ≡ keyFile bits (now (ts .entry)) (now (order .entry)) (now (first .entry)) (now (second .entry)) ⌝ }
 {
+    let size = width::power(bits);
+    let matrix = 3 + bits;
+    let list = matrix + (7 * bits + 1);
+    let after = list + 3;
+    let end = after + (7 * bits + 1);
     out[0] = 8;
-    out[1] = 0;
-    out[2] = 32;
-    base::regroup(ts, 8, 32, &mut out[3..8], 5, 256, 1);
-    put_matrix(first, &mut out[8..44]);
-    base::regroup(order, 8, 8, &mut out[44..47], 3, 256, 1);
-    put_matrix(second, &mut out[47..83]);
+    base::spell(&mut out[1..3], 256, size);
+    base::regroup(ts, 8, size, &mut out[3..matrix], bits, 256, 1);
+    put_matrix(first, &mut out[matrix..list], bits);
+    base::regroup(order, 8, 8, &mut out[list..after], 3, 256, 1);
+    put_matrix(second, &mut out[after..end], bits);
 }
 
-pub(crate) fn file(ts: &[u8; 8], order: &[u8; 8], first: &[u8; 57], second: &[u8; 57]) -> [u8; 83]
-    requires { ⌜ Parts (now ts) (now order) (now first) (now second) ⌝ }
-    ensures { λ r. ⌜ r ≡ keyFile (now (ts .entry)) (now (order .entry)) (now (first .entry)) (now (second .entry)) ⌝ }
+// The file in the first bytes of an array that has room for either size.
+pub(crate) fn file(
+    ts: &[u8; 8],
+    order: &[u8; 8],
+    first: &[u8; 57],
+    second: &[u8; 57],
+    bits: usize,
+) -> [u8; 128]
+    requires { ⌜ Width bits × Parts bits (now ts) (now order) (now first) (now second) ⌝ }
+    ensures { λ r. ⌜ take (fileBytes bits) r ≡ keyFile bits (now (ts .entry)) (now (order .entry)) (now (first .entry)) (now (second .entry)) ⌝ }
 {
-    let mut out = [0u8; 83];
-    fill(&mut out, ts, order, first, second);
+    let mut out = [0u8; 128];
+    let size = 15 * bits + 8;
+    fill(&mut out[..size], ts, order, first, second, bits);
     out
 }

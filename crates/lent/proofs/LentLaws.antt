@@ -4,21 +4,22 @@ use Prim.Native.Nat.{ℕ}
 use mathlib.Core.Path.{_≡_, sym, _∙_}
 use mathlib.Core.List.{List}
 use Rattle.base.proofs.QuestionLaws.{granted-zero, granted-refused}
-use Rattle.field.specs.Gf32.{gf32}
+use Rattle.field.specs.Fields.{operations}
+use Rattle.field.specs.declared.Field.{Field}
 use Rattle.action.specs.declared.Pair.{Pair}
 use Rattle.action.specs.Action.{letterOn}
 use Rattle.action.specs.Multiplier.{zeroPair, Multiplies}
 use Rattle.lent.specs.Lent.{Lends}
 
-module _ {p : Pair} {ts : List ℕ} {c answer : ℕ} {after : Pair} (m : Multiplies p ts c answer after) where
+module _ {f : Field} {p : Pair} {ts : List ℕ} {c answer : ℕ} {after : Pair} (m : Multiplies f p ts c answer after) where
   -- a refusal: the pair itself
-  pub kept : (answer ≡ 0 → ⊥) → Lends p ts c answer p
-  kept n = record { answer-is = m .answer-is; pair-is = sym (granted-refused (letterOn gf32 ts c p) p (λ z. n (m .answer-is ∙ z))) }
+  pub kept : (answer ≡ 0 → ⊥) → Lends f p ts c answer p
+  kept n = record { answer-is = m .answer-is; pair-is = sym (granted-refused (letterOn (operations f) ts c p) p (λ z. n (m .answer-is ∙ z))) }
 
   -- answer 0: what the multiplier gives
-  pub changed : answer ≡ 0 → Lends p ts c answer after
+  pub changed : answer ≡ 0 → Lends f p ts c answer after
   changed z =
       let e = sym (m .answer-is) ∙ z in record {
         answer-is = m .answer-is;
-        pair-is = m .pair-is ∙ granted-zero (letterOn gf32 ts c p) zeroPair e ∙ sym (granted-zero (letterOn gf32 ts c p) p e);
+        pair-is = m .pair-is ∙ granted-zero (letterOn (operations f) ts c p) zeroPair e ∙ sym (granted-zero (letterOn (operations f) ts c p) p e);
       }

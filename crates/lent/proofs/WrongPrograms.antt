@@ -8,6 +8,7 @@ use Rattle.base.specs.Questions.{firstNo, granted}
 use Rattle.base.specs.Lists.{every, count, valuesFrom, eachOnce}
 use Rattle.field.specs.Polynomial.{timesX, horner, times}
 use Rattle.field.specs.Gf32.{gf32}
+use Rattle.field.specs.declared.Field.the-variants.{Gf32}
 use Rattle.action.specs.declared.Pair.{Pair}
 use Rattle.matrix.specs.Layout.{place, rowOf, columnOf, entry, matrixOf}
 use Rattle.matrix.specs.Product.{identity}
@@ -25,16 +26,16 @@ before : entry (start .matrix) 2 1 ≡ 0
 unfolding start identity place rowOf columnOf entry matrixOf valuesFrom
 before = refl
 
-after : entry (granted (firstNo (multiplierQuestions start plain 2)) (letterOn gf32 plain 2 start) start .matrix) 2 1 ≡ 2
+after : entry (granted (firstNo (multiplierQuestions Gf32 start plain 2)) (letterOn gf32 plain 2 start) start .matrix) 2 1 ≡ 2
 unfolding start identity place rowOf columnOf entry matrixOf valuesFrom firstNo granted every count eachOnce tValue shareOf rowAfter swapped letterOn times horner timesX
 after = refl
 
 -- the starting pair is lent, the letter is b3, and the pair is left, whatever the answer
-pub leaves-its-pair : (answer : ℕ) → Lends start plain 2 answer start → ⊥
+pub leaves-its-pair : (answer : ℕ) → Lends Gf32 start plain 2 answer start → ⊥
 leaves-its-pair answer m = let e = sym before ∙ ap (λ (p : Pair). entry (p .matrix) 2 1) (m .pair-is) ∙ after in omega arith
 
 -- code 7 is no letter: the answer is 12, and row 1, column 1 is 1 as before
-kept : entry (granted (firstNo (multiplierQuestions start plain 7)) (letterOn gf32 plain 7 start) start .matrix) 0 0 ≡ 1
+kept : entry (granted (firstNo (multiplierQuestions Gf32 start plain 7)) (letterOn gf32 plain 7 start) start .matrix) 0 0 ≡ 1
 unfolding start identity place rowOf columnOf entry matrixOf valuesFrom firstNo granted every count eachOnce
 kept = refl
 
@@ -43,5 +44,5 @@ unfolding zeroPair place entry
 zero = refl
 
 -- the starting pair is lent, the code is 7, and zeros come back, whatever the answer
-pub zeros-on-a-refusal : (answer : ℕ) → Lends start plain 7 answer zeroPair → ⊥
+pub zeros-on-a-refusal : (answer : ℕ) → Lends Gf32 start plain 7 answer zeroPair → ⊥
 zeros-on-a-refusal answer m = let e = sym zero ∙ ap (λ (p : Pair). entry (p .matrix) 0 0) (m .pair-is) ∙ kept in omega arith

@@ -1,6 +1,7 @@
 // What one letter makes of a pair that is lent, by value: the pair that is to be stored back, on a refusal the one that
 // came.
 use action::Pair;
+ghost use Rattle.field.specs.Fields.{fieldOf};
 ghost use Rattle.lent.specs.Lent.{Lends};
 
 // A number, and the pair that goes back to the caller.
@@ -9,11 +10,12 @@ pub struct Stepped {
     pub pair: Pair,
 }
 
-// The letter multiplied into the pair; the pair itself on a refusal.
-pub fn step(pair: Pair, t_values: &[u8; 8], letter: u8) -> Stepped
-    ensures { λ r. ⌜ Lends pair (now («t_values» .entry)) letter (r .answer) (r .pair) ⌝ }
+// The letter multiplied into the pair, over the larger field or the other; the pair itself on a refusal.
+pub fn step(pair: Pair, large: bool, t_values: &[u8; 8], letter: u8) -> Stepped
+    ensures { λ r. ⌜ Lends (fieldOf large) pair (now («t_values» .entry)) letter (r .answer) (r .pair) ⌝ }
 {
-    let multiplied = action::multiply(pair, t_values, letter);
+    let f = field::field_of(large);
+    let multiplied = action::multiply(pair, t_values, letter, f);
     let answer = multiplied.answer;
     let after = multiplied.pair;
     if answer != 0 {

@@ -1,4 +1,4 @@
-// 8 by 8 matrices over GF(32), each in one array of 64 numbers.
+// 8 by 8 matrices over either field, each in one array of 64 numbers.
 ghost use mathlib.Core.Path.{_≡_};
 ghost use Prim.Native.Nat.{_%_, _<_};
 ghost use Rattle.matrix.specs.Layout.{place, rowOf, columnOf, entry};

@@ -6,18 +6,22 @@ use mathlib.Core.Bool.{true}
 use mathlib.Core.List.{List}
 use lib.ListN.{length, take}
 use Rattle.base.specs.Questions.{firstNo}
-use Rattle.field.specs.Gf32.{gf32}
-use Rattle.field.proofs.Fields.{gf32-field}
+use Rattle.field.specs.Binary.{Operations, BinaryField}
+use Rattle.field.specs.Fields.{operations}
+use Rattle.field.specs.declared.Field.{Field}
+use Rattle.field.proofs.Fields.{binary}
 use Rattle.braid.specs.Words.{codes, wordAnswer, wordFile, Wrote}
 use Rattle.braid.proofs.RoundTrip.{wordFile-accepted, codes-wordFile, wrote-file}
 use Rattle.action.specs.declared.Pair.{Pair}
 use Rattle.action.specs.Action.{pairOf, wordOn}
 use Rattle.braid.specs.Strands.{isOrder}
 use Rattle.action.specs.Multiplier.{elements, nonzero}
+use Rattle.action.specs.Good.{TValues, GoodPair}
 use Rattle.action.proofs.GoodLaws.{tested-pair, tested-values}
-use Rattle.key.specs.Keys.{keyAnswer, keyOf}
-use Rattle.verify.specs.Verdict.{signed}
-use Rattle.key.proofs.KeyFacts.{key-values, key-pair}
+use Rattle.key.specs.Keys.{keyField, keyAnswer, keyOf}
+use Rattle.key.specs.declared.Key.{Key}
+use Rattle.verify.specs.Verdict.{signed, signedOver}
+use Rattle.key.proofs.KeyFacts.{key-values, key-pair, key-field}
 use Rattle.verify.proofs.VerdictIff.{same-verdict, zero-or-14}
 use Rattle.rewriting.specs.Rewriting.{rewritten, rewriterQuestions}
 use Rattle.moves.specs.Meaning.{SameMeaning, Rewrote}
@@ -27,11 +31,21 @@ use Rattle.rewriting.proofs.RewriterAnswer.{accepted}
 
 -- ---- from what is kept of the letters to the meaning of the files
 
--- two words that carry each pair alike reach the same matrix from Pub(S) of an accepted key
-same-signed : (key v w : List ℕ) → Carried w v → keyAnswer key ≡ 0 → signed gf32 (keyOf key) v ≡ signed gf32 (keyOf key) w
-unfolding signed
+-- two words that carry each pair alike reach the same matrix from Pub(S), over any binary field, under any key with
+-- T-values other than zero and a pair of that field
+pub signed-alike : (F : Operations) → BinaryField F → (key : Key) → TValues F (key .«t_values») → GoodPair F (key .pair)
+    → (v w : List ℕ) → Carried w v → signedOver F key v ≡ signedOver F key w
+unfolding signedOver
+signed-alike F laws key values good v w c = ap (λ (q : Pair). q .matrix) (c F laws (key .«t_values») values (key .pair) good)
+
+-- so they do under an accepted key, over its own field
+same-signed : (key v w : List ℕ) → Carried w v → keyAnswer key ≡ 0 → signed (keyOf key) v ≡ signed (keyOf key) w
 same-signed key v w c k =
-    ap (λ (q : Pair). q .matrix) (c gf32 gf32-field (keyOf key .«t_values») (key-values key k) (keyOf key .pair) (key-pair key))
+    let over : (u : List ℕ) → signed (keyOf key) u ≡ signedOver (operations (keyField key)) (keyOf key) u =
+    λ u. ap (λ (f : Field). signedOver (operations f) (keyOf key) u) (key-field key) in
+    over v
+    ∙ signed-alike (operations (keyField key)) (binary (keyField key)) (keyOf key) (key-values key k) (key-pair key) v w c
+    ∙ sym (over w)
 
 meaning-kept : (word v : List ℕ) → wordAnswer word ≡ 0 → Kept (codes word) v → SameMeaning word (wordFile v)
 meaning-kept word v a k =
@@ -69,13 +83,13 @@ module _ (word moves : List ℕ) {before after : List ℕ} {answer bytes : ℕ}
   pub rewrote-whole : Rewrote word moves before after answer bytes
   rewrote-whole = record { wrote = w; keeps = rewriting-keeps-meaning }
 
--- the same for GF(32), in the terms of the multiplier's questions: any 64 elements, any list of 0 to 7 each once, any
--- eight T-values other than zero
-pub carried-alike : {word new : List ℕ} → SameMeaning word new → (ts m order : List ℕ)
-    → length ts ≡ 8 → elements ts ≡ true → nonzero ts ≡ true
-    → length m ≡ 64 → elements m ≡ true
+-- the same for either field, in the terms of the multiplier's questions: any 64 elements, any list of 0 to 7 each once,
+-- any eight T-values other than zero
+pub carried-alike : {word new : List ℕ} → SameMeaning word new → (f : Field) (ts m order : List ℕ)
+    → length ts ≡ 8 → elements f ts ≡ true → nonzero ts ≡ true
+    → length m ≡ 64 → elements f m ≡ true
     → length order ≡ 8 → isOrder order ≡ true
-    → wordOn gf32 ts (codes new) (pairOf m order) ≡ wordOn gf32 ts (codes word) (pairOf m order)
-carried-alike s ts m order l e n lm em lo o =
-    s .carried gf32 gf32-field ts (tested-values ts l e n) (pairOf m order)
-    (tested-pair (pairOf m order) lm lo em o)
+    → wordOn (operations f) ts (codes new) (pairOf m order) ≡ wordOn (operations f) ts (codes word) (pairOf m order)
+carried-alike s f ts m order l e n lm em lo o =
+    s .carried (operations f) (binary f) ts (tested-values f ts l e n) (pairOf m order)
+    (tested-pair f (pairOf m order) lm lo em o)

@@ -6,11 +6,12 @@ use mathlib.Core.List.{List}
 use mathlib.Core.Logic.{_⊎_}
 use lib.ListN.{length, take}
 use Rattle.field.specs.Binary.{Operations, BinaryField}
+use Rattle.field.specs.Fields.{digestBytes}
 use Rattle.braid.specs.Words.{codes, wordAnswer, wordFile, Wrote}
 use Rattle.action.specs.declared.Pair.{Pair}
 use Rattle.action.specs.Action.{wordOn}
 use Rattle.action.specs.Good.{TValues, GoodPair}
-use Rattle.key.specs.Keys.{keyAnswer}
+use Rattle.key.specs.Keys.{keyField, keyAnswer}
 use Rattle.verify.specs.Verdict.{verdict}
 use Rattle.rewriting.specs.Rewriting.{rewritten, rewriterQuestions}
 use Rattle.braid.specs.Exponent.{exponentSum}
@@ -20,13 +21,14 @@ pub record SameMeaning (word new : List ℕ) : Type 0 where
   pub old-accepted : wordAnswer word ≡ 0
   pub new-accepted : wordAnswer new ≡ 0
   -- the new word carries each pair to exactly the end to which the old word carries it, matrix and labels alike: over
-  -- any binary field, of which GF(32) is one; for any T-values other than zero, the first two not needing to be 1; for
-  -- any 64 elements in the matrix and any strand order
+  -- any binary field, of which GF(32) and GF(256) are two; for any T-values other than zero, the first two not needing
+  -- to be 1; for any 64 elements in the matrix and any strand order
   pub carried : (F : Operations) → BinaryField F → (ts : List ℕ) → TValues F ts → (p : Pair) → GoodPair F p
       → wordOn F ts (codes new) p ≡ wordOn F ts (codes word) p
-  -- under every accepted key and digest the verdict answers the two words alike, with 0 or 14
-  pub verdicts : (key digest : List ℕ) → keyAnswer key ≡ 0 → length digest ≡ 32 → verdict key digest new ≡ verdict key digest word
-  pub zero-or-14 : (key digest : List ℕ) → keyAnswer key ≡ 0 → length digest ≡ 32
+  -- under every accepted key, of either size, and every digest that goes with it the verdict answers the two words
+  -- alike, with 0 or 14
+  pub verdicts : (key digest : List ℕ) → keyAnswer key ≡ 0 → length digest ≡ digestBytes (keyField key) → verdict key digest new ≡ verdict key digest word
+  pub zero-or-14 : (key digest : List ℕ) → keyAnswer key ≡ 0 → length digest ≡ digestBytes (keyField key)
       → (verdict key digest word ≡ 0) ⊎ (verdict key digest word ≡ 14)
   -- positive letters less inverse ones is the same integer in both
   pub exponent : exponentSum (codes new) ≡ exponentSum (codes word)

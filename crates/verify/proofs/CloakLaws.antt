@@ -10,12 +10,12 @@ use Rattle.base.specs.Questions.{Question, _else_, firstNo}
 use Rattle.base.specs.Lists.{equal}
 use Rattle.base.proofs.QuestionLaws.{passes, all-passed, granted-zero, granted-refused}
 use Rattle.field.specs.Binary.{Operations}
-use Rattle.field.specs.Gf32.{gf32}
+use Rattle.field.specs.Fields.{operations}
 use Rattle.braid.specs.Words.{codes, wordQuestions, wordAnswer}
 use Rattle.action.specs.declared.Pair.{Pair}
 use Rattle.action.specs.Action.{pairOf, wordOn, start}
 use Rattle.braid.specs.Strands.{isOrder}
-use Rattle.key.specs.Keys.{keyQuestions, keyAnswer, keyOf}
+use Rattle.key.specs.Keys.{keyField, keyQuestions, keyAnswer, keyOf}
 use Rattle.verify.specs.Cloaking.{samePair, comesBack, cloakQuestions, Cloaks}
 
 -- is the list 8 bytes, 0 to 7 each once?
@@ -41,7 +41,7 @@ module _ (key order word : List ℕ) where
 
   -- every question is passed
   pub answered : firstNo (cloakQuestions key order word) ≡ 0 → {yes : Bool}
-      → yes ≡ comesBack gf32 (keyOf key .«t_values») order (codes word) → Cloaks key order word 0 yes
+      → yes ≡ comesBack (operations (keyField key)) (keyOf key .«t_values») order (codes word) → Cloaks key order word 0 yes
   answered z e = record { answer-is = sym z; yes-is = e ∙ sym (granted-zero _ _ z) }
 
 -- the pair that comes back, compared as the code does it

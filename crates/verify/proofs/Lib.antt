@@ -2,3 +2,4 @@ pub mod CloakLaws
 pub mod VerdictIff
 pub mod VerdictLaws
 pub mod WrongVerdicts
+pub mod OldSlips

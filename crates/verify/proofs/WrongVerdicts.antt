@@ -8,13 +8,15 @@ use mathlib.Core.Bool.{true}
 use mathlib.Core.List.{List, [], _∷_, _++_}
 use native.Mathlib.Omega.{arith}
 use lib.Dec.{ltb}
-use lib.ListN.{replicate}
+use lib.ListN.{length, replicate}
 use Rattle.base.specs.Questions.{firstNo}
 use Rattle.base.specs.Lists.{valuesFrom, every, count, eachOnce}
 use Rattle.base.specs.Digits.{value, digits, halves}
 use Rattle.field.specs.Polynomial.{timesX, horner, times}
+use Rattle.field.specs.Fields.{operations, digestBytes}
 use Rattle.field.specs.Gf32.{gf32}
-use Rattle.field.proofs.Fields.{gf32-field}
+use Rattle.field.specs.declared.Field.the-variants.{Gf32}
+use Rattle.field.proofs.Fields.{binary}
 use Rattle.braid.specs.Words.{codes, filler, wordAnswer}
 use Rattle.matrix.specs.Layout.{place, rowOf, columnOf, entry, matrixOf}
 use Rattle.matrix.specs.Product.{identity, matrixProduct}
@@ -24,11 +26,11 @@ use Rattle.action.specs.Good.{GoodPair}
 use Rattle.action.proofs.GoodLaws.{tested-pair}
 use Rattle.action.proofs.WordLaws.{word-good}
 use Rattle.matrix.proofs.ProductLaws.{identity-right}
-use Rattle.key.specs.Keys.{tValues, entries, fillerBits, labels, wholeMatrix, keyAnswer, keyOf}
+use Rattle.key.specs.Keys.{keyField, tValues, entries, fillerBits, labels, wholeMatrix, keyAnswer, keyOf}
 use Rattle.key.specs.declared.Key.{Key}
 use Rattle.key.proofs.Inverses.{accepted-with, identity-has}
 use Rattle.digest.specs.Digest.{halfByteBraid, braidOf, encoded}
-use Rattle.verify.specs.Verdict.{signed, target, verdict}
+use Rattle.verify.specs.Verdict.{signed, target, verdict, signedOver, targetOver}
 use Rattle.verify.proofs.VerdictIff.{equal-zero, unequal-14}
 
 -- the identity matrix in 36 bytes
@@ -63,8 +65,8 @@ zeroDigest = replicate 32 0
 
 -- all are accepted
 key-accepted : keyAnswer plainKey ≡ 0
-unfolding firstNo valuesFrom every count eachOnce value digits tValues entries fillerBits labels wholeMatrix matrixOf rowOf columnOf identity
-key-accepted = accepted-with plainKey refl identity-has identity-has
+unfolding firstNo valuesFrom every count eachOnce value digits keyField tValues entries fillerBits labels wholeMatrix matrixOf rowOf columnOf identity
+key-accepted = accepted-with plainKey refl (identity-has Gf32) (identity-has Gf32)
 
 sevens-accepted : wordAnswer sevens ≡ 0
 unfolding firstNo every value codes filler halves wordAnswer
@@ -74,9 +76,13 @@ empty-accepted : wordAnswer emptyWord ≡ 0
 unfolding firstNo every value codes filler halves wordAnswer
 empty-accepted = refl
 
+digest-fits : length zeroDigest ≡ digestBytes (keyField plainKey)
+unfolding keyField
+digest-fits = refl
+
 -- what they hold
-key-is : keyOf plainKey ≡ record { «t_values» = plain; pair = start; second = identity }
-unfolding valuesFrom value digits rowOf columnOf matrixOf tValues entries labels wholeMatrix keyOf identity start
+key-is : keyOf plainKey ≡ record { field = Gf32; «t_values» = plain; pair = start; second = identity }
+unfolding valuesFrom value digits rowOf columnOf matrixOf keyField tValues entries labels wholeMatrix keyOf identity start
 key-is = refl
 
 sevens-are : codes sevens ≡ sevenCodes
@@ -102,30 +108,30 @@ one-there = refl
 
 -- both sides: the word's letters reach it from Pub(S), and the digest's reach it from the identity; times the identity
 -- it stays as it is
-sevens-signed : signed gf32 (keyOf plainKey) (codes sevens) ≡ reached
-unfolding signed
-sevens-signed = ap₂ (λ (k : Key) (w : List ℕ). wordOn gf32 (k .«t_values») w (k .pair) .matrix) key-is sevens-are
+sevens-signed : signed (keyOf plainKey) (codes sevens) ≡ reached
+unfolding signedOver
+sevens-signed = ap₂ (λ (k : Key) (w : List ℕ). wordOn (operations (k .field)) (k .«t_values») w (k .pair) .matrix) key-is sevens-are
 
-empty-signed : signed gf32 (keyOf plainKey) (codes emptyWord) ≡ identity
-unfolding signed wordOn value halves codes start
+empty-signed : signed (keyOf plainKey) (codes emptyWord) ≡ identity
+unfolding signedOver wordOn value halves codes start
 empty-signed = ap (λ (k : Key). k .pair .matrix) key-is
 
 good : GoodPair gf32 (wordOn gf32 plain sevenCodes start)
 unfolding every valuesFrom count eachOnce identity start rowOf columnOf matrixOf
-good = word-good gf32-field plain sevenCodes start refl (tested-pair start refl refl refl refl)
+good = word-good (binary Gf32) plain sevenCodes start refl (tested-pair Gf32 start refl refl refl refl)
 
-zero-target : target gf32 (keyOf plainKey) zeroDigest ≡ reached
-unfolding target
+zero-target : target (keyOf plainKey) zeroDigest ≡ reached
+unfolding targetOver
 zero-target =
-    ap₂ (λ (k : Key) (w : List ℕ). matrixProduct gf32 (wordOn gf32 (k .«t_values») w start .matrix) (k .second)) key-is encoded-is
-    ∙ identity-right gf32-field reached (record { size = good .entries; below = good .entry-below })
+    ap₂ (λ (k : Key) (w : List ℕ). matrixProduct (operations (k .field)) (wordOn (operations (k .field)) (k .«t_values») w start .matrix) (k .second)) key-is encoded-is
+    ∙ identity-right (binary Gf32) reached (record { size = good .entries; below = good .entry-below })
 
 pub sevens-0 : verdict plainKey zeroDigest sevens ≡ 0
-sevens-0 = equal-zero plainKey zeroDigest sevens key-accepted refl sevens-accepted (sevens-signed ∙ sym zero-target)
+sevens-0 = equal-zero plainKey zeroDigest sevens key-accepted digest-fits sevens-accepted (sevens-signed ∙ sym zero-target)
 
 pub empty-word-14 : verdict plainKey zeroDigest emptyWord ≡ 14
 empty-word-14 =
-    unequal-14 plainKey zeroDigest emptyWord key-accepted refl empty-accepted
+    unequal-14 plainKey zeroDigest emptyWord key-accepted digest-fits empty-accepted
     (λ e. omega (arith, one-there, corner, ap (λ (m : List ℕ). entry m 6 6) (sym empty-signed ∙ e ∙ zero-target)))
 
 -- ---- wrong verdicts

@@ -9,12 +9,12 @@ use lib.ListN.{length}
 use Rattle.base.specs.Questions.{Question, _else_, firstNo, granted}
 use Rattle.base.specs.Lists.{equal}
 use Rattle.field.specs.Binary.{Operations}
-use Rattle.field.specs.Gf32.{gf32}
+use Rattle.field.specs.Fields.{operations}
 use Rattle.braid.specs.Words.{codes, wordQuestions}
 use Rattle.action.specs.declared.Pair.{Pair}
 use Rattle.action.specs.Action.{wordOn, identityWith}
 use Rattle.braid.specs.Strands.{isOrder}
-use Rattle.key.specs.Keys.{keyQuestions, keyOf}
+use Rattle.key.specs.Keys.{keyField, keyQuestions, keyOf}
 
 -- matrix and list are the same
 unfoldable pub samePair : Pair → Pair → Bool
@@ -32,4 +32,4 @@ cloakQuestions key order word =
 -- an answer, and beside it yes or no, which is no on a refusal
 pub record Cloaks (key order word : List ℕ) (answer : ℕ) (yes : Bool) : Type 0 where
   pub answer-is : answer ≡ firstNo (cloakQuestions key order word)
-  pub yes-is : yes ≡ granted (firstNo (cloakQuestions key order word)) (comesBack gf32 (keyOf key .«t_values») order (codes word)) false
+  pub yes-is : yes ≡ granted (firstNo (cloakQuestions key order word)) (comesBack (operations (keyField key)) (keyOf key .«t_values») order (codes word)) false

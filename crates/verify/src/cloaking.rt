@@ -1,11 +1,12 @@
 // Cloaking: does a word bring the identity matrix with a list back unchanged?
 use crate::words::carried;
 use action::Pair;
+use field::Field;
 ghost use mathlib.Core.Path.{_≡_};
 ghost use mathlib.Core.Bool.{_&&_};
 ghost use lib.Dec.{eqb};
 ghost use lib.ListN.{length};
-ghost use Rattle.field.specs.Gf32.{gf32};
+ghost use Rattle.field.specs.Fields.{operations};
 ghost use Rattle.braid.specs.Words.{codes, letters, wordAnswer};
 ghost use Rattle.braid.specs.Strands.{isOrder};
 ghost use Rattle.verify.specs.Cloaking.{comesBack, Cloaks};
@@ -45,15 +46,15 @@ fn eight(labels: &[u8]) -> [u8; 8]
 }
 
 // Does an accepted word of n letters bring the identity matrix with the list back, list included?
-fn comes_back(t_values: &[u8; 8], labels: &[u8], word: &[u8], n: usize) -> bool
+fn comes_back(t_values: &[u8; 8], labels: &[u8], word: &[u8], n: usize, f: Field) -> bool
     requires { ⌜ (length (now labels) ≡ 8) × (wordAnswer (now word) ≡ 0) × (n ≡ length (letters (now word))) ⌝ }
-    ensures { λ r. ⌜ r ≡ comesBack gf32 (now («t_values» .entry)) (now (labels .entry)) (codes (now (word .entry))) ⌝ }
+    ensures { λ r. ⌜ r ≡ comesBack (operations f) (now («t_values» .entry)) (now (labels .entry)) (codes (now (word .entry))) ⌝ }
 {
     let start = Pair::start();
     let identity = start.matrix;
     let order = eight(labels);
     let before = Pair::with(identity, order);
-    let after = carried(before, t_values, word, n);
+    let after = carried(before, t_values, word, n, f);
     let matrix = after.matrix;
     let list = after.labels;
     if !base::equal(&matrix, &identity) {
@@ -89,10 +90,11 @@ pub fn cloaks(key: &[u8], labels: &[u8], word: &[u8]) -> Cloak
         };
     }
     let held = read.key;
+    let f = held.field;
     let t_values = held.t_values;
     let n = word_read.letters;
     Cloak {
         answer: 0,
-        yes: comes_back(&t_values, labels, word, n),
+        yes: comes_back(&t_values, labels, word, n, f),
     }
 }

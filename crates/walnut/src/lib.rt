@@ -2,7 +2,8 @@
 // pass on. The header states them in C. Slices pass as a pointer and a length, fixed arrays as a pointer, structs by
 // value in C's layout.
 ghost use mathlib.Core.Path.{_≡_};
-ghost use Rattle.field.specs.Gf32.{gf32, productQuestions, reciprocalQuestions, Gives};
+ghost use Rattle.field.specs.Fields.{operations, fieldOf};
+ghost use Rattle.field.specs.Elements.{productQuestions, reciprocalQuestions, Gives};
 ghost use Rattle.braid.specs.Words.{codes, Read, WroteWord};
 ghost use Rattle.action.specs.Action.{start};
 ghost use Rattle.lent.specs.Lent.{Lends};
@@ -19,28 +20,31 @@ use braid::Written;
 use field::Element;
 use verify::Cloak;
 
-// What the key reader gives: its answer, then T-values, the pair Pub(S) and the matrix of Pub(S'), all zeros on a
-// refusal.
+// What the key reader gives: its answer, then whether its field is the larger one, T-values, the pair Pub(S) and the
+// matrix of Pub(S'), false and all zeros on a refusal.
 #[repr(C)]
 pub struct KeyRead {
     pub answer: u8,
+    pub large: bool,
     pub t_values: [u8; 8],
     pub pair: Pair,
     pub second: [u8; 64],
 }
 
 #[no_mangle]
-pub extern "C" fn walnut_product(a: u8, b: u8) -> Element
-    ensures { λ r. ⌜ Gives (productQuestions a b) (gf32 .mul a b) (r .answer) (r .value) ⌝ }
+pub extern "C" fn walnut_product(large: bool, a: u8, b: u8) -> Element
+    ensures { λ r. ⌜ Gives (productQuestions (fieldOf large) a b) (operations (fieldOf large) .mul a b) (r .answer) (r .value) ⌝ }
 {
-    field::product(a, b)
+    let f = field::field_of(large);
+    field::product(a, b, f)
 }
 
 #[no_mangle]
-pub extern "C" fn walnut_reciprocal(a: u8) -> Element
-    ensures { λ r. ⌜ Gives (reciprocalQuestions a) (gf32 .inv a) (r .answer) (r .value) ⌝ }
+pub extern "C" fn walnut_reciprocal(large: bool, a: u8) -> Element
+    ensures { λ r. ⌜ Gives (reciprocalQuestions (fieldOf large) a) (operations (fieldOf large) .inv a) (r .answer) (r .value) ⌝ }
 {
-    field::reciprocal(a)
+    let f = field::field_of(large);
+    field::reciprocal(a, f)
 }
 
 #[no_mangle]
@@ -52,26 +56,34 @@ pub extern "C" fn walnut_start() -> Pair
 
 // The caller lends its pair, and the letter changes it. On a refusal the pair is as it was.
 #[no_mangle]
-pub extern "C" fn walnut_multiply(pair: &mut Pair, t_values: &[u8; 8], letter: u8) -> u8
-    ensures { λ r. ⌜ Lends (now (pair .entry)) (now («t_values» .entry)) letter r (now (pair .exit)) ⌝ }
+pub extern "C" fn walnut_multiply(
+    pair: &mut Pair,
+    large: bool,
+    t_values: &[u8; 8],
+    letter: u8,
+) -> u8
+    ensures { λ r. ⌜ Lends (fieldOf large) (now (pair .entry)) (now («t_values» .entry)) letter r (now (pair .exit)) ⌝ }
 {
-    let stepped = lent::step(*pair, t_values, letter);
+    let stepped = lent::step(*pair, large, t_values, letter);
     *pair = stepped.pair;
     stepped.answer
 }
 
 #[no_mangle]
 pub extern "C" fn walnut_read_key(file: &[u8]) -> KeyRead
-    ensures { λ r. ⌜ ReadsKey (now (file .entry)) (r .answer) (keyFrom (r .«t_values») (r .pair) (r .second)) ⌝ }
+    ensures { λ r. ⌜ ReadsKey (now (file .entry)) (r .answer) (keyFrom (r .large) (r .«t_values») (r .pair) (r .second)) ⌝ }
 {
     let read = key::read_key(file);
     let held = read.key;
     let answer = read.answer;
+    let f = held.field;
+    let large = field::is_large(f);
     let t_values = held.t_values;
     let pair = held.pair;
     let second = held.second;
     KeyRead {
         answer,
+        large,
         t_values,
         pair,
         second,
@@ -88,15 +100,17 @@ pub extern "C" fn walnut_file_entries(matrix: &[u8; 64], entries: &mut [u8; 57])
 
 #[no_mangle]
 pub extern "C" fn walnut_write_key(
+    large: bool,
     t_values: &[u8; 8],
     labels: &[u8; 8],
     first: &[u8; 57],
     second: &[u8; 57],
     out: &mut [u8],
 ) -> u8
-    ensures { λ r. ⌜ WroteKey (now («t_values» .entry)) (now (labels .entry)) (now (first .entry)) (now (second .entry)) (now (out .entry)) (now (out .exit)) r ⌝ }
+    ensures { λ r. ⌜ WroteKey (fieldOf large) (now («t_values» .entry)) (now (labels .entry)) (now (first .entry)) (now (second .entry)) (now (out .entry)) (now (out .exit)) r ⌝ }
 {
-    key::write_key(t_values, labels, first, second, out)
+    let f = field::field_of(large);
+    key::write_key(t_values, labels, first, second, out, f)
 }
 
 #[no_mangle]

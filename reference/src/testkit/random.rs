@@ -1,7 +1,7 @@
 //! Numbers drawn from a seed, and inputs made of them.
 
+use crate::field::Field;
 use crate::pair::{Labels, Pair, TValues};
-use crate::testkit::slips::Digest;
 use crate::STRANDS;
 
 /// Marsaglia's xorshift with 64 bits. The state is never 0.
@@ -106,19 +106,34 @@ impl Random {
         word
     }
 
-    /// Any field elements.
-    pub fn elements<const COUNT: usize>(&mut self) -> [u8; COUNT] {
-        [0; COUNT].map(|_| self.below(32) as u8)
+    /// One of the two fields.
+    pub fn field(&mut self) -> Field {
+        self.pick(&Field::BOTH)
+    }
+
+    /// An element.
+    pub fn element(&mut self, field: Field) -> u8 {
+        self.below(field.size().into()) as u8
+    }
+
+    /// An element from this one on.
+    pub fn element_from(&mut self, field: Field, least: u8) -> u8 {
+        self.within(least.into(), usize::from(field.size()) - 1) as u8
+    }
+
+    /// Any elements.
+    pub fn elements<const COUNT: usize>(&mut self, field: Field) -> [u8; COUNT] {
+        [0; COUNT].map(|_| self.element(field))
     }
 
     /// Eight elements other than zero.
-    pub fn t_values(&mut self) -> TValues {
-        [0; STRANDS].map(|_| self.below(31) as u8 + 1)
+    pub fn t_values(&mut self, field: Field) -> TValues {
+        [0; STRANDS].map(|_| self.element_from(field, 1))
     }
 
     /// The T-values of a key: elements other than zero, of which the first two are 1.
-    pub fn key_t_values(&mut self) -> TValues {
-        let mut t_values = self.t_values();
+    pub fn key_t_values(&mut self, field: Field) -> TValues {
+        let mut t_values = self.t_values(field);
         t_values[..2].fill(1);
         t_values
     }
@@ -129,12 +144,12 @@ impl Random {
     }
 
     /// Any pair.
-    pub fn pair(&mut self) -> Pair {
-        Pair { matrix: self.elements(), labels: self.labels() }
+    pub fn pair(&mut self, field: Field) -> Pair {
+        Pair { matrix: self.elements(field), labels: self.labels() }
     }
 
-    /// Any digest.
-    pub fn digest(&mut self) -> Digest {
-        [0; 32].map(|_: u8| self.byte())
+    /// Any digest that goes with keys over the field.
+    pub fn digest(&mut self, field: Field) -> Vec<u8> {
+        self.bytes(field.digest_bytes())
     }
 }

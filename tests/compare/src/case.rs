@@ -2,7 +2,7 @@
 
 use reference::key::Entries;
 use reference::pair::{Labels, TValues};
-use reference::{Cloak, Element, Key, Matrix, Pair, Word, Written};
+use reference::{desk, Cloak, Element, Field, Key, Matrix, Pair, Word, Written};
 
 use crate::ffi;
 use crate::paper::Operation;
@@ -11,14 +11,17 @@ use crate::paper::Operation;
 pub const GUARD: usize = 64;
 
 /// The key writer's type.
-type WriteKey = fn(&TValues, &Labels, &Entries, &Entries, &mut [u8]) -> u8;
+type WriteKey = fn(Field, &TValues, &Labels, &Entries, &Entries, &mut [u8]) -> u8;
+
+/// The multiplier's type.
+type Multiply = fn(&mut Pair, Field, &TValues, u8) -> u8;
 
 /// The functions of the exported interface.
 pub struct Interface {
-    product: fn(u8, u8) -> Element,
-    reciprocal: fn(u8) -> Element,
+    product: fn(Field, u8, u8) -> Element,
+    reciprocal: fn(Field, u8) -> Element,
     start: fn() -> Pair,
-    multiply: fn(&mut Pair, &TValues, u8) -> u8,
+    multiply: Multiply,
     read_key: fn(&[u8]) -> Key,
     file_entries: fn(&Matrix, &mut Entries),
     write_key: WriteKey,
@@ -69,6 +72,8 @@ pub const LIBRARY: Interface = Interface {
 #[derive(Clone, Debug, PartialEq, Eq)]
 pub struct Input {
     pub operation: Operation,
+    /// The field that is named to it; the smaller one where none is.
+    pub named: Field,
     /// The bytes of each part, as [`Operation::parts`] lists them.
     pub parts: Vec<Vec<u8>>,
     /// The bytes of the output; 0 without one.
@@ -88,7 +93,8 @@ pub struct Case {
 #[derive(Clone, Debug, PartialEq, Eq)]
 pub struct Outcome {
     pub answer: u8,
-    /// The element, the letters, the bytes written, or 1 for yes; 0 where there is none.
+    /// The element, the letters, the bytes written, 1 for yes, or 1 for a key over the larger field; 0 where there is
+    /// none.
     pub number: usize,
     /// The returned key or pair, the lent pair, or the output between its guards, after the call.
     pub bytes: Vec<u8>,
@@ -115,7 +121,7 @@ impl From<Cloak> for Outcome {
 impl From<Key> for Outcome {
     fn from(key: Key) -> Outcome {
         let bytes = [&key.t_values[..], &pair_bytes(&key.pair), &key.second].concat();
-        Outcome { answer: key.answer, number: 0, bytes }
+        Outcome { answer: key.answer, number: (key.field == Field::Gf256).into(), bytes }
     }
 }
 
@@ -129,7 +135,28 @@ fn fixed<const COUNT: usize>(bytes: &[u8]) -> [u8; COUNT] {
     bytes.try_into().expect("a fixed part keeps its length")
 }
 
+/// The field of a key file, right or wrong: that of its length, and without one that of its q.
+pub fn field_of_key(file: &[u8]) -> Field {
+    let by_length = Field::BOTH.into_iter().find(|field| field.key_bytes() == file.len());
+    by_length.unwrap_or(desk::field_told(file))
+}
+
+/// The field whose digests are nearest in length.
+fn field_of_digest(digest: &[u8]) -> Field {
+    let apart = |field: &Field| field.digest_bytes().abs_diff(digest.len());
+    Field::BOTH.into_iter().min_by_key(apart).expect("there are two")
+}
+
 impl Input {
+    /// The field that it works over: the one that is named, or that the key or the digest tells.
+    pub fn field(&self) -> Field {
+        match self.operation {
+            Operation::ReadKey | Operation::Verify | Operation::Cloaks => field_of_key(&self.parts[0]),
+            Operation::EncodeDigest => field_of_digest(&self.parts[0]),
+            _ => self.named,
+        }
+    }
+
     /// The output between its guards as it is lent.
     pub fn lent(&self) -> Vec<u8> {
         let length = self.room + 2 * GUARD;
@@ -148,7 +175,7 @@ impl Input {
         let [t_values, labels, first, second] = &self.parts[..] else { unreachable!("four parts") };
         let mut bytes = self.lent();
         let out = &mut bytes[GUARD..GUARD + self.room];
-        let answer = write(&fixed(t_values), &fixed(labels), &fixed(first), &fixed(second), out);
+        let answer = write(self.named, &fixed(t_values), &fixed(labels), &fixed(first), &fixed(second), out);
         Outcome { answer, number: 0, bytes }
     }
 
@@ -161,10 +188,10 @@ impl Input {
     }
 
     /// Lends the pair to the multiplier.
-    fn multiplied(&self, multiply: fn(&mut Pair, &TValues, u8) -> u8) -> Outcome {
+    fn multiplied(&self, multiply: Multiply) -> Outcome {
         let [matrix, labels, t_values, letter] = &self.parts[..] else { unreachable!("four parts") };
         let mut pair = Pair { matrix: fixed(matrix), labels: fixed(labels) };
-        let answer = multiply(&mut pair, &fixed(t_values), letter[0]);
+        let answer = multiply(&mut pair, self.named, &fixed(t_values), letter[0]);
         Outcome { answer, number: 0, bytes: pair_bytes(&pair) }
     }
 
@@ -172,8 +199,8 @@ impl Input {
     pub fn outcome(&self, functions: &Interface) -> Outcome {
         let part = |place: usize| self.parts[place].as_slice();
         match self.operation {
-            Operation::Product => (functions.product)(part(0)[0], part(0)[1]).into(),
-            Operation::Reciprocal => (functions.reciprocal)(part(0)[0]).into(),
+            Operation::Product => (functions.product)(self.named, part(0)[0], part(0)[1]).into(),
+            Operation::Reciprocal => (functions.reciprocal)(self.named, part(0)[0]).into(),
             Operation::Start => Outcome { answer: 0, number: 0, bytes: pair_bytes(&(functions.start)()) },
             Operation::Multiply => self.multiplied(functions.multiply),
             Operation::ReadKey => (functions.read_key)(part(0)).into(),

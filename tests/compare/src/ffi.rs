@@ -5,7 +5,7 @@
 use reference::key::Entries;
 use reference::matrix::at;
 use reference::pair::{Labels, TValues};
-use reference::{Cloak, Element, Key, Matrix, Pair, Word, Written};
+use reference::{Cloak, Element, Field, Key, Matrix, Pair, Word, Written};
 use walnut::exported::*;
 
 /// Each row and column, counted from 1.
@@ -31,6 +31,11 @@ fn pair_of(pair: walnut::Pair) -> Pair {
     Pair { matrix: by_rows(&pair.matrix), labels: pair.labels }
 }
 
+/// How a field is named: is it the larger one?
+fn large(field: Field) -> bool {
+    field == Field::Gf256
+}
+
 fn written(number: Number) -> Written {
     Written { answer: number.answer, bytes: number.number }
 }
@@ -38,15 +43,15 @@ fn written(number: Number) -> Written {
 // In every wrapper below the pointers come from references and slices that live through the call, each with
 // its own length, and outputs and pairs are lent uniquely. The functions take any bytes.
 
-pub fn product(a: u8, b: u8) -> Element {
+pub fn product(field: Field, a: u8, b: u8) -> Element {
     // SAFETY: numbers alone pass.
-    let element = unsafe { walnut_product(a, b) };
+    let element = unsafe { walnut_product(large(field), a, b) };
     Element { answer: element.answer, value: element.value }
 }
 
-pub fn reciprocal(a: u8) -> Element {
+pub fn reciprocal(field: Field, a: u8) -> Element {
     // SAFETY: numbers alone pass.
-    let element = unsafe { walnut_reciprocal(a) };
+    let element = unsafe { walnut_reciprocal(large(field), a) };
     Element { answer: element.answer, value: element.value }
 }
 
@@ -55,10 +60,10 @@ pub fn start() -> Pair {
     pair_of(unsafe { walnut_start() })
 }
 
-pub fn multiply(pair: &mut Pair, t_values: &TValues, letter: u8) -> u8 {
+pub fn multiply(pair: &mut Pair, field: Field, t_values: &TValues, letter: u8) -> u8 {
     let mut lent = walnut::Pair { matrix: by_columns(&pair.matrix), labels: pair.labels };
     // SAFETY: see above.
-    let answer = unsafe { walnut_multiply(&mut lent, t_values.as_ptr(), letter) };
+    let answer = unsafe { walnut_multiply(&mut lent, large(field), t_values.as_ptr(), letter) };
     *pair = pair_of(lent);
     answer
 }
@@ -66,7 +71,9 @@ pub fn multiply(pair: &mut Pair, t_values: &TValues, letter: u8) -> u8 {
 pub fn read_key(file: &[u8]) -> Key {
     // SAFETY: see above.
     let key = unsafe { walnut_read_key(file.as_ptr(), file.len()) };
-    Key { answer: key.answer, t_values: key.t_values, pair: pair_of(key.pair), second: by_rows(&key.second) }
+    let field = if key.large { Field::Gf256 } else { Field::Gf32 };
+    let (pair, second) = (pair_of(key.pair), by_rows(&key.second));
+    Key { answer: key.answer, field, t_values: key.t_values, pair, second }
 }
 
 pub fn file_entries(matrix: &Matrix, entries: &mut Entries) {
@@ -75,6 +82,7 @@ pub fn file_entries(matrix: &Matrix, entries: &mut Entries) {
 }
 
 pub fn write_key(
+    field: Field,
     t_values: &TValues,
     labels: &Labels,
     first: &Entries,
@@ -84,7 +92,7 @@ pub fn write_key(
     let (t_values, labels) = (t_values.as_ptr(), labels.as_ptr());
     let (first, second) = (first.as_ptr(), second.as_ptr());
     // SAFETY: see above.
-    unsafe { walnut_write_key(t_values, labels, first, second, out.as_mut_ptr(), out.len()) }
+    unsafe { walnut_write_key(large(field), t_values, labels, first, second, out.as_mut_ptr(), out.len()) }
 }
 
 pub fn read_word(file: &[u8]) -> Word {
@@ -135,7 +143,7 @@ mod tests {
     #[test]
     fn columns_lie_together() {
         let mut pair = walnut::Pair::start();
-        assert!(pair.multiply(&[1, 1, 2, 3, 4, 5, 6, 7], 2).is_ok());
+        assert!(pair.multiply(walnut::Field::Gf32, &[1, 1, 2, 3, 4, 5, 6, 7], 2).is_ok());
         assert_eq!(pair.matrix[..8], [1, 0, 0, 0, 0, 0, 0, 0]);
         assert_eq!(pair.matrix[8..16], [0, 1, 2, 0, 0, 0, 0, 0]);
         assert_eq!(pair.matrix[16..24], [0, 0, 2, 0, 0, 0, 0, 0]);

@@ -1,10 +1,13 @@
 //! Fixed cases: inputs with a name, and all that must come of them typed, for library and reference alike.
 
 mod inverses;
+pub mod larger;
 pub mod orders;
 pub mod slips;
 
 use std::collections::BTreeSet;
+
+use reference::Field;
 
 use crate::case::{Input, Interface, Outcome, GUARD, LIBRARY, REFERENCE};
 use crate::paper::Operation;
@@ -27,11 +30,13 @@ pub fn hex(text: &str) -> Vec<u8> {
     text.split_whitespace().map(|byte| u8::from_str_radix(byte, 16).expect("a byte")).collect()
 }
 
-/// An input with eight bytes more room than a writer asks for, or just the room that an output of fixed size has.
+/// An input over the smaller field, where one is named, with eight bytes more room than a writer asks for over either
+/// field, or just the room that an output of fixed size has.
 fn input(operation: Operation, parts: &[&[u8]]) -> Input {
     let parts = parts.iter().map(|part| part.to_vec()).collect();
-    let least = operation.least_room().map_or(0, |least| least + 8);
-    Input { operation, parts, room: operation.fixed_room().unwrap_or(least), fill: FILL }
+    let least = operation.least_room(Field::Gf256).map_or(0, |least| least + 8);
+    let room = operation.fixed_room().unwrap_or(least);
+    Input { operation, named: Field::Gf32, parts, room, fill: FILL }
 }
 
 impl Fixed {
@@ -42,6 +47,17 @@ impl Fixed {
     /// A number comes back: an element, letters, or 1 for yes; 0 for an operation that gives an answer alone.
     pub fn number(name: &str, operation: Operation, parts: &[&[u8]], number: usize) -> Fixed {
         Fixed::new(name, input(operation, parts), Outcome { answer: 0, number, bytes: Vec::new() })
+    }
+
+    /// The same over the larger field. It is named to the operation.
+    pub fn large(self) -> Fixed {
+        Fixed { input: Input { named: Field::Gf256, ..self.input }, ..self }
+    }
+
+    /// A key over this field is read: T-values, matrix, labels and second matrix end to end.
+    pub fn read(name: &str, file: &[u8], field: Field, bytes: Vec<u8>) -> Fixed {
+        let number = (field == Field::Gf256).into();
+        Fixed::new(name, input(Operation::ReadKey, &[file]), Outcome { answer: 0, number, bytes })
     }
 
     /// These bytes come back, or are what the lent pair then is.
@@ -72,7 +88,8 @@ impl Fixed {
         Fixed { letters: letters[1..].to_vec(), ..case }
     }
 
-    /// It is refused: an output or a lent pair stays, and all else that comes back is zeros.
+    /// It is refused: an output or a lent pair stays, and all else that comes back is zeros and names the smaller
+    /// field.
     pub fn refused(name: &str, operation: Operation, parts: &[&[u8]], answer: u8) -> Fixed {
         let input = input(operation, parts);
         Fixed::refused_input(name, input, answer)
@@ -88,7 +105,7 @@ impl Fixed {
         let bytes = match input.operation {
             Operation::Multiply => input.parts[..2].concat(),
             Operation::ReadKey => vec![0; 8 + 64 + 8 + 64],
-            operation if operation.least_room().is_some() => input.lent(),
+            operation if operation.least_room(input.named).is_some() => input.lent(),
             _ => Vec::new(),
         };
         Fixed::new(name, input, Outcome { answer, number: 0, bytes })
@@ -149,11 +166,11 @@ pub fn entries(matrix: &[u8]) -> Vec<u8> {
 
 /// All fixed cases.
 fn cases() -> Vec<Fixed> {
-    [orders::cases(), slips::cases(), inverses::cases()].into_iter().flatten().collect()
+    [orders::cases(), slips::cases(), larger::cases(), inverses::cases()].into_iter().flatten().collect()
 }
 
 /// Holds library and reference to all fixed cases: how many there are, or what is wrong with the first that fails. Each
-/// operation has one.
+/// operation has one over each of its fields.
 pub fn check() -> Result<usize, String> {
     let cases = cases();
     for case in &cases {
@@ -163,9 +180,15 @@ pub fn check() -> Result<usize, String> {
             }
         }
     }
-    let seen: BTreeSet<Operation> = cases.iter().map(|case| case.input.operation).collect();
-    match Operation::ALL.into_iter().find(|operation| !seen.contains(operation)) {
-        Some(operation) => Err(format!("walnut_{} has no fixed case\n", operation.name())),
+    let seen: BTreeSet<(Operation, Field)> =
+        cases.iter().map(|case| (case.input.operation, case.input.field())).collect();
+    let each = Operation::ALL
+        .into_iter()
+        .flat_map(|operation| operation.fields().iter().map(move |field| (operation, *field)));
+    match each.into_iter().find(|one| !seen.contains(one)) {
+        Some((operation, field)) => {
+            Err(format!("walnut_{} over {} elements has no fixed case\n", operation.name(), field.size()))
+        }
         None => Ok(cases.len()),
     }
 }

@@ -1,7 +1,8 @@
-//! What the papers say of each operation: what it takes, and its questions in their order.
+//! What the papers say of each operation: what it takes, over which fields, and its questions in their order.
 
-use reference::key::{KEY_BYTES, PACKED_ENTRIES};
+use reference::key::PACKED_ENTRIES;
 use reference::word::MOST_BYTES;
+use reference::Field;
 
 /// The operations of the exported interface.
 #[derive(Clone, Copy, Debug, PartialEq, Eq, PartialOrd, Ord)]
@@ -114,7 +115,34 @@ impl Operation {
         }
     }
 
-    /// What it takes, in the order of the function's arguments, but for an output.
+    /// Those of its questions that an input over a field can fail. In the larger one every byte is an element, and a
+    /// key has no filler.
+    pub fn questions_over(self, field: Field) -> Vec<u8> {
+        let mut questions = self.questions().to_vec();
+        if field == Field::Gf256 {
+            questions.retain(|number| *number != 7 && *number != 17);
+        }
+        questions
+    }
+
+    /// Is the field named to it?
+    pub fn names_field(self) -> bool {
+        matches!(self, Operation::Product | Operation::Reciprocal | Operation::Multiply | Operation::WriteKey)
+    }
+
+    /// The fields that it works over: both where the field is named, or told by the key or the digest. The others know
+    /// no field, and stand with the smaller one.
+    pub fn fields(self) -> &'static [Field] {
+        match self {
+            Operation::ReadKey | Operation::EncodeDigest | Operation::Verify | Operation::Cloaks => {
+                &Field::BOTH
+            }
+            _ if self.names_field() => &Field::BOTH,
+            _ => &[Field::Gf32],
+        }
+    }
+
+    /// What it takes, in the order of the function's arguments, but for the field and an output.
     pub fn parts(self) -> &'static [Part] {
         match self {
             Operation::Product => &[ELEMENTS],
@@ -140,13 +168,13 @@ impl Operation {
 
     /// Is it lent an output?
     pub fn has_output(self) -> bool {
-        self.fixed_room().or(self.least_room()).is_some()
+        self.fixed_room().or(self.least_room(Field::Gf32)).is_some()
     }
 
-    /// The least room that a writer asks for; none for an operation that does not ask.
-    pub fn least_room(self) -> Option<usize> {
+    /// The least room that a writer asks for, over a field; none for an operation that does not ask.
+    pub fn least_room(self, field: Field) -> Option<usize> {
         match self {
-            Operation::WriteKey => Some(KEY_BYTES),
+            Operation::WriteKey => Some(field.key_bytes()),
             Operation::WriteWord | Operation::EncodeDigest | Operation::FreeReduce | Operation::Rewrite => {
                 Some(MOST_BYTES)
             }
@@ -171,6 +199,20 @@ mod tests {
             |number: u8| Operation::ALL.iter().any(|operation| operation.questions().contains(&number));
         assert!((1..=26).all(given));
         assert!(!given(0) && !given(27));
+    }
+
+    /// 7 and 17 cannot be given over the larger field, and all others can.
+    #[test]
+    fn questions_of_the_larger_field() {
+        for operation in Operation::ALL {
+            let (small, large) =
+                (operation.questions_over(Field::Gf32), operation.questions_over(Field::Gf256));
+            assert_eq!(small, operation.questions());
+            let lost: Vec<u8> = small.into_iter().filter(|number| !large.contains(number)).collect();
+            assert!(lost.iter().all(|number| [7, 17].contains(number)));
+        }
+        assert_eq!(Operation::Product.questions_over(Field::Gf256), []);
+        assert_eq!(Operation::WriteKey.questions_over(Field::Gf256), [16, 4, 5, 6, 26]);
     }
 
     #[test]

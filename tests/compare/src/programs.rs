@@ -1,5 +1,5 @@
-//! The programs beside the reference: each is started on an input, and what it writes is held to what the reference makes
-//! of the same bytes.
+//! The programs beside the reference: each is started on an input, and what it writes is held to what the reference
+//! makes of the same bytes.
 
 mod desk;
 mod letters;

@@ -17,9 +17,13 @@ pub fn hex(bytes: &[u8]) -> String {
     }
 }
 
-/// The operation and what it takes, one part to a line, with the number of its bytes in brackets.
+/// The operation, the field if one is named, and what it takes, one part to a line, with the number of its bytes in
+/// brackets.
 pub fn input(input: &Input) -> String {
     let mut text = format!("walnut_{}\n", input.operation.name());
+    if input.operation.names_field() {
+        text += &format!("  field of {}\n", input.named.size());
+    }
     for (part, bytes) in input.operation.parts().iter().zip(&input.parts) {
         text += &format!("  {} [{}]: {}\n", part.name, bytes.len(), hex(bytes));
     }
@@ -38,6 +42,7 @@ fn number_name(operation: Operation) -> Option<&'static str> {
             Some("bytes")
         }
         Operation::Cloaks => Some("yes"),
+        Operation::ReadKey => Some("large"),
         _ => None,
     }
 }

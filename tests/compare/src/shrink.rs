@@ -6,6 +6,7 @@ mod joint;
 use std::time::{Duration, Instant};
 
 use reference::testkit::move_list;
+use reference::Field;
 
 use crate::case::Input;
 use crate::paper::Form;
@@ -51,10 +52,11 @@ impl Shrinker<'_> {
         self.has_time() && (self.fails)(input)
     }
 
-    /// The output and each part made smaller once; moves and digests before words, which take longest.
+    /// The field, the output and each part made smaller once; moves and digests before words, which take longest.
     fn pass(&self, input: Input) -> Input {
         let places = 0..input.parts.len();
-        let input = places.clone().fold(self.room(input), |input, place| self.plain(input, place));
+        let input = self.room(self.field(input));
+        let input = places.clone().fold(input, |input, place| self.plain(input, place));
         let input = self.solved_again(input);
         let (words, others): (Vec<usize>, Vec<usize>) =
             places.partition(|place| input.operation.parts()[*place].form == Form::Word);
@@ -64,9 +66,19 @@ impl Shrinker<'_> {
         words.into_iter().fold(input, |input, place| self.part(input, place))
     }
 
+    /// The smaller field in the place of the larger.
+    fn field(&self, input: Input) -> Input {
+        let smaller = Input { named: Field::Gf32, ..input.clone() };
+        if smaller != input && self.fails(&smaller) {
+            smaller
+        } else {
+            input
+        }
+    }
+
     /// The output made smaller.
     fn room(&self, input: Input) -> Input {
-        let Some(least) = input.operation.least_room() else { return input };
+        let Some(least) = input.operation.least_room(input.named) else { return input };
         let rooms =
             [0, least.saturating_sub(1), least, least + 1].into_iter().filter(|room| *room < input.room);
         let mut smaller = rooms.map(|room| Input { room, ..input.clone() });
@@ -172,8 +184,12 @@ mod tests {
     use super::*;
     use crate::paper::Operation;
 
+    fn input(operation: Operation, parts: Vec<Vec<u8>>, room: usize) -> Input {
+        Input { operation, named: Field::Gf256, parts, room, fill: 0 }
+    }
+
     fn rewriting(word: Vec<u8>, moves: Vec<u8>) -> Input {
-        Input { operation: Operation::Rewrite, parts: vec![word, moves], room: 5_100, fill: 0 }
+        input(Operation::Rewrite, vec![word, moves], 5_100)
     }
 
     /// Letters, moves and the output shrink to what the failure needs.
@@ -207,13 +223,23 @@ mod tests {
     /// Damaged files shrink byte by byte, fixed parts keep their length.
     #[test]
     fn bytes_and_fixed_parts() {
-        let input =
-            Input { operation: Operation::ReadWord, parts: vec![vec![9, 9, 9, 7, 9]], room: 0, fill: 0 };
-        assert_eq!(smallest(input, &|input| input.parts[0].contains(&7)).parts, [[7]]);
+        let bytes = input(Operation::ReadWord, vec![vec![9, 9, 9, 7, 9]], 0);
+        assert_eq!(smallest(bytes, &|input| input.parts[0].contains(&7)).parts, [[7]]);
         let parts = vec![vec![9; 64], vec![7, 6, 5, 4, 3, 2, 1, 0], vec![3; 8], vec![14]];
-        let input = Input { operation: Operation::Multiply, parts, room: 0, fill: 0 };
+        let pair = input(Operation::Multiply, parts, 0);
         let labels = vec![0, 1, 2, 3, 4, 5, 6, 7];
         let fails = |input: &Input| reference::questions::is_each_label_once(&input.parts[1]);
-        assert_eq!(smallest(input, &fails).parts, [vec![0; 64], labels, vec![0; 8], vec![0]]);
+        let smallest = smallest(pair, &fails);
+        assert_eq!(smallest.parts, [vec![0; 64], labels, vec![0; 8], vec![0]]);
+        assert_eq!(smallest.named, Field::Gf32);
+    }
+
+    /// The larger field stays where the failure needs it.
+    #[test]
+    fn larger_field_stays() {
+        let product = input(Operation::Product, vec![vec![200, 90]], 0);
+        let fails = |input: &Input| input.named == Field::Gf256 && input.parts[0][0] >= 128;
+        let smallest = smallest(product, &fails);
+        assert_eq!((smallest.named, smallest.parts), (Field::Gf256, vec![vec![128, 0]]));
     }
 }

@@ -15,10 +15,10 @@ use Rattle.digest.proofs.encode_into.Tie as tie
 
 abbrev Inv-loop : tie.InvT-loop
 Inv-loop digest codes₀ n₀ k₀ codes n k =
-    (k ≤ 64) × (n ≤ 20 * k) × (length codes ≡ length codes₀) × (take n codes ≡ braidOf (take k (halves digest)))
+    (k ≤ 2 * length digest) × (n ≤ 20 * k) × (length codes ≡ length codes₀) × (take n codes ≡ braidOf (take k (halves digest)))
 
 abbrev μ-loop : tie.MeasureT-loop
-μ-loop digest codes₀ n₀ k₀ codes n k = 64 - k
+μ-loop digest codes₀ n₀ k₀ codes n k = 2 * length digest - k
 
 loop-holds : tie.Need-loop-holds Inv-loop μ-loop
 unfolding braidOf
@@ -59,4 +59,4 @@ returns c =
 
 pub encode-into-spec : {M : Type 1} → statement M
 encode-into-spec =
-    tie.close (tie.spec Inv-loop μ-loop loop-holds (λ c κs. tt) append-requires (λ c. omega arith) (λ c. omega arith) loop-again same-length returns)
+    tie.close (tie.spec Inv-loop μ-loop loop-holds (λ c. omega arith) (λ c κs. tt) append-requires (λ c. omega arith) (λ c. omega arith) loop-again same-length returns)

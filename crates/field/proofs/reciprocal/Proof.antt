@@ -1,39 +1,40 @@
--- `field::reciprocal` meets its contract: the two questions, and then the table's entry a - 1.
-use Prim.Native.Nat.{ℕ, _-_}
-use mathlib.Core.Path.{ap, _∙_}
+-- `field::reciprocal` meets its contract: the two questions, and then the reciprocal.
+use mathlib.Core.Path.{sym, ap, _∙_}
 use mathlib.Core.Bool.{not}
-use mathlib.Core.List.{List, [], _∷_}
-use native.Mathlib.Omega.{arith}
+use mathlib.Core.List.{[], _∷_}
 use borrow.Author.Needs.{needs}
-use borrow.Author.Tests.{lt-ltb, le-ltb, eq-eqb, ne-eqb}
+use borrow.Author.Tests.{eq-eqb, ne-eqb, not-true, not-false}
 use lib.Dec.{eqb}
-use lib.ListN.{getD}
 use Rattle.base.specs.Questions.{_else_}
 use Rattle.base.proofs.QuestionLaws.{passes, fails, passed-answers}
-use Rattle.field.specs.Gf32.{reciprocalQuestions}
+use Rattle.field.specs.Elements.{reciprocalQuestions}
 use Rattle.field.proofs.GivesLaws.{given, refused}
-use Rattle.field.proofs.TableLaws.{reciprocal-at}
 use Rattle.field.proofs.reciprocal.Statement.{statement}
 use Rattle.field.proofs.reciprocal.Tie as tie
 
 returns : tie.Need-returns
 returns c =
-    let a = c .before .args .a in
-    refused (reciprocalQuestions a) 16 (fails 17 ((not (eqb a 0) else 4) ∷ []) (le-ltb a 32 (c .if1 .taken)))
+    let x = c .before .before .args in
+    refused (reciprocalQuestions (x .f) (x .a)) 16
+    (fails 17 ((not (eqb (x .a) 0) else 4) ∷ []) (sym (c .before .is-element .ensures) ∙ not-true _ (c .if1 .taken)))
 
 returns-2 : tie.Need-returns-2
 returns-2 c =
-    let a = c .before .before .args .a in
-    refused (reciprocalQuestions a) 3
-    (passes 17 ((not (eqb a 0) else 4) ∷ []) (lt-ltb a 32 (c .before .if1 .left)) ∙ fails 4 [] (ap not (eq-eqb a 0 (c .if2 .taken))))
+    let first = c .before in
+    let x = first .before .before .args in
+    refused (reciprocalQuestions (x .f) (x .a)) 3
+    (passes 17 ((not (eqb (x .a) 0) else 4) ∷ []) (sym (first .before .is-element .ensures) ∙ not-false _ (first .if1 .left))
+    ∙ fails 4 [] (ap not (eq-eqb (x .a) 0 (c .if2 .taken))))
 
 returns-3 : tie.Need-returns-3
 returns-3 c =
-    let a = c .before .before .before .args .a in
-    let h = c .before .before .if1 .left in
-    given (reciprocalQuestions a)
-    (passed-answers (reciprocalQuestions a) (lt-ltb a 32 h, (ap not (ne-eqb a 0 (c .before .if2 .left)), tt)))
-    (ap (λ (l : List ℕ). getD l (a - 1) 0) (c .reciprocal-table .ensures) ∙ reciprocal-at a (omega arith) h)
+    let second = c .before in
+    let first = second .before in
+    let x = first .before .before .args in
+    given (reciprocalQuestions (x .f) (x .a))
+    (passed-answers (reciprocalQuestions (x .f) (x .a))
+    (sym (first .before .is-element .ensures) ∙ not-false _ (first .if1 .left), (ap not (ne-eqb (x .a) 0 (second .if2 .left)), tt)))
+    (c .inverted .ensures)
 
 pub reciprocal-spec : {M : Type 1} → statement M
-reciprocal-spec = tie.close (tie.spec returns returns-2 (λ c κs. search needs) (λ c. search needs) (λ c. search needs) returns-3)
+reciprocal-spec = tie.close (tie.spec (λ c κs. search needs) returns returns-2 (λ c κs. search needs) returns-3)

@@ -1,12 +1,16 @@
 -- `key::write_key` meets its contract: on answer 0 the file in the first bytes, else the output as it was.
 use Prim.Native.Nat.{ℕ, _≤_}
-use mathlib.Core.Path.{sym, ap, _∙_}
+use mathlib.Core.Path.{_≡_, sym, ap, _∙_, subst}
 use mathlib.Core.List.{List}
-use lib.ListN.{length, take}
+use native.Mathlib.Omega.{arith}
+use lib.ListN.{length, take, length-take}
 use lib.Seq.{take-all}
 use Rattle.base.specs.Lists.{overlaid}
 use Rattle.base.proofs.QuestionLaws.{granted-zero, granted-refused}
+use Rattle.field.specs.Fields.{bits, keyBytes}
 use Rattle.key.specs.Keys.{keyFile}
+use Rattle.key.specs.Parts.{Parts}
+use Rattle.key.proofs.Widths.{file-bytes, told-width, told-bytes}
 use Rattle.key.proofs.FileLaws.{key-file-size}
 use Rattle.key.proofs.KeyFacts.{Writable, writable, parts}
 use borrow.Author.Needs.{needs}
@@ -14,13 +18,20 @@ use Rattle.key.proofs.write_key.Statement.{statement}
 use Rattle.key.proofs.write_key.Tie as tie
 
 abbrev file-of : tie.Start → List ℕ
-file-of s = let a = s .args in keyFile (a .t-values .now) (a .labels .now) (a .first .now) (a .second .now)
+file-of s = let a = s .args in keyFile (bits (a .f)) (a .t-values .now) (a .labels .now) (a .first .now) (a .second .now)
 
-passed : (c : tie.Else1)
-    → let s = c .before .before .before in let a = s .args in Writable (length (a .out .now)) (a .t-values .now) (a .labels .now) (a .first .now) (a .second .now)
+file-size : (s : tie.Start) → length (file-of s) ≡ keyBytes (s .args .f)
+file-size s =
+    let a = s .args in
+    key-file-size (bits (a .f)) (a .t-values .now) (a .labels .now) (a .first .now) (a .second .now) ∙ file-bytes (a .f)
+
+abbrev start : tie.Else1 → tie.Start
+start c = c .before .before .before
+
+passed : (c : tie.Else1) → let a = start c .args in Writable (a .f) (length (a .out .now)) (a .t-values .now) (a .labels .now) (a .first .now) (a .second .now)
 passed c =
-    let a = c .before .before .before .args in
-    writable (length (a .out .now)) (a .t-values .now) (a .labels .now) (a .first .now) (a .second .now) (sym (c .before .answer .ensures) ∙ c .if1 .left)
+    let a = start c .args in
+    writable (a .f) (length (a .out .now)) (a .t-values .now) (a .labels .now) (a .first .now) (a .second .now) (sym (c .before .answer .ensures) ∙ c .if1 .left)
 
 returns : tie.Need-returns
 returns c =
@@ -32,27 +43,49 @@ returns c =
     }
 
 file-requires : tie.Need-file-requires
-file-requires c κs = parts (passed c)
+file-requires c κs =
+    let e = c .before .bits-of .ensures in
+    let a = start (c .before .before) .args in (
+      told-width (a .f) e,
+      subst (λ (n : ℕ). Parts n (a .t-values .now) (a .labels .now) (a .first .now) (a .second .now)) (sym e) (parts (passed (c .before .before))),
+    )
+
+-- what is put: the array's first bytes are the file
+put-is : (c : tie.After-file) → let k = c .before in take (k .key-bytes .result) (c .file .result) ≡ file-of (start (k .before .before))
+put-is c =
+    let k = c .before in
+    let e = k .before .bits-of .ensures in
+    let a = start (k .before .before) .args in
+    ap (λ (n : ℕ). take n (c .file .result)) (told-bytes (a .f) e (k .key-bytes .ensures))
+    ∙ c .file .ensures
+    ∙ ap (λ (n : ℕ). keyFile n (a .t-values .now) (a .labels .now) (a .first .now) (a .second .now)) e
+
+put-size : (c : tie.After-file) → let k = c .before in length (take (k .key-bytes .result) (c .file .result)) ≡ k .key-bytes .result
+put-size c = let k = c .before in ap length (put-is c) ∙ file-size (start (k .before .before)) ∙ sym (k .key-bytes .ensures)
+
+array-share-prefix-file : tie.Need-array-share-prefix-file
+array-share-prefix-file c =
+    let w = c .before in omega (arith, length-take (w .before .key-bytes .result) (w .file .result), put-size w)
+
+slice-aggregate-put : tie.Need-slice-aggregate-put
+slice-aggregate-put c = sym (put-size (c .before .before))
 
 returns-2 : tie.Need-returns-2
 returns-2 c =
     let w = c .before .before .before .before .before in
-    let s = w .before .before .before .before in
-    let a = s .args in
-    let out = a .out .now in
-    let h = fits (length out) (a .t-values .now) (a .labels .now) (a .first .now) (a .second .now) (passed (w .before) .room-for) in
-    let z = sym (w .before .before .answer .ensures) ∙ w .before .if1 .left in
+    let e = w .before .before .before in
+    let s = start e in
+    let out = s .args .out .now in
+    let h = subst (λ (n : ℕ). n ≤ length out) (sym (file-size s)) (passed e .room-for) in
+    let z = sym (e .before .answer .ensures) ∙ e .if1 .left in
     record {
       answer-is = sym z;
       output-is =
           c .before .before .put .ensures
-          ∙ ap (λ (f : List ℕ). overlaid (take (length out) f) out) (w .file .ensures)
+          ∙ ap (λ (f : List ℕ). overlaid (take (length out) f) out) (put-is w)
           ∙ ap (λ (f : List ℕ). overlaid f out) (take-all (length out) (file-of s) h)
           ∙ sym (granted-zero (overlaid (file-of s) out) out z);
     }
-  where
-    fits : (n : ℕ) (ts order first second : List ℕ) → 83 ≤ n → length (keyFile ts order first second) ≤ n
-    fits n ts order first second h = rw (key-file-size ts order first second) h
 
 pub write-key-spec : {M : Type 1} → statement M
 write-key-spec =
@@ -60,8 +93,11 @@ write-key-spec =
     (tie.spec
     (λ c κs. search needs)
     returns
+    (λ c κs. search needs)
+    (λ c κs. search needs)
     file-requires
-    (λ c. search needs)
+    array-share-prefix-file
+    slice-aggregate-put
     (λ c κs. search needs)
     (λ c. search needs)
     returns-2)

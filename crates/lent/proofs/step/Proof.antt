@@ -1,14 +1,22 @@
 -- `lent::step` meets its contract.
+use mathlib.Core.Path.{sym}
+use Rattle.field.specs.Fields.{fieldOf}
+use Rattle.action.specs.Multiplier.{Multiplies}
 use Rattle.lent.proofs.LentLaws.{kept, changed}
 use borrow.Author.Needs.{needs}
 use Rattle.lent.proofs.step.Statement.{statement}
 use Rattle.lent.proofs.step.Tie as tie
 
+-- what the multiplier gives over the field that is named
+multiplied : (m : tie.After-multiply) → let a = m .before .before .args in
+    Multiplies (fieldOf (a .large)) (a .pair) (a .t-values .now) (a .letter) (m .multiply .result .answer) (m .multiply .result .pair)
+multiplied m = rw (sym (m .before .field-of .ensures)) (m .multiply .ensures)
+
 returns : tie.Need-returns
-returns c = kept (c .before .before .multiply .ensures) (c .if1 .taken)
+returns c = kept (multiplied (c .before .before)) (c .if1 .taken)
 
 returns-2 : tie.Need-returns-2
-returns-2 c = changed (c .before .before .multiply .ensures) (c .if1 .left)
+returns-2 c = changed (multiplied (c .before .before)) (c .if1 .left)
 
 pub step-spec : {M : Type 1} → statement M
-step-spec = tie.close (tie.spec (λ c κs. search needs) returns returns-2)
+step-spec = tie.close (tie.spec (λ c κs. search needs) (λ c κs. search needs) returns returns-2)

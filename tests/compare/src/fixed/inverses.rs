@@ -3,6 +3,8 @@
 
 use std::ops::Range;
 
+use reference::Field;
+
 use crate::fixed::{entries, hex, identity, slips::plain_key, with_row, Fixed, LIST, T_VALUES};
 use crate::paper::Operation;
 
@@ -32,8 +34,8 @@ fn with_two_rows(first: [u8; 8], second: [u8; 8]) -> Vec<u8> {
     matrix
 }
 
-/// Matrices without an inverse, each with a name: all zeros; row 8 has no entry; two rows are equal; a row is the sum of two
-/// others; row 2 is 16 times row 1, since 16 × 2 = 5; row 1 is 3 times row 2, since 3 × 28 = 1.
+/// Matrices without an inverse, each with a name: all zeros; row 8 has no entry; two rows are equal; a row is the sum
+/// of two others; row 2 is 16 times row 1, since 16 × 2 = 5; row 1 is 3 times row 2, since 3 × 28 = 1.
 fn singular() -> Vec<(&'static str, Vec<u8>)> {
     vec![
         ("zeros", vec![0; 64]),
@@ -118,8 +120,8 @@ fn read() -> Vec<Fixed> {
     cases
 }
 
-/// A key of permutation matrices, written and read; the plain key's identity stands with document 01's slips. The empty word
-/// is no signature: letters b7 change row 7 alone, and the two matrices differ in row 1.
+/// A key of permutation matrices, written and read; the plain key's identity stands with document 01's slips. The empty
+/// word is no signature: letters b7 change row 7 alone, and the two matrices differ in row 1.
 fn permutations() -> Vec<Fixed> {
     let (first, second) = (permutation(TURNED), permutation(REVERSED));
     let file = hex(&format!("08 00 20 08 44 32 14 C7 {PACKED_TURNED} 05 39 77 {PACKED_REVERSED}"));
@@ -128,7 +130,7 @@ fn permutations() -> Vec<Fixed> {
     let name = "permutation matrices";
     vec![
         Fixed::key(name, Operation::WriteKey, &parts, &file),
-        Fixed::bytes(name, Operation::ReadKey, &[&file], whole),
+        Fixed::read(name, &file, Field::Gf32, whole),
         Fixed::number(name, Operation::Cloaks, &[&file, &LIST, &hex("00 02 00")], 1),
         Fixed::refused(name, Operation::Verify, &[&file, &[0; 32], &[0, 0]], 14),
     ]

@@ -2,7 +2,10 @@
 //! another: no two of the same type hold the same, so that an exchange of two shows. They come before all others, so
 //! that what is reported first names the function.
 //!
-//! The product's factors alone may be exchanged unseen: it is commutative, and its question is put to both.
+//! The product's factors alone may be exchanged unseen: it is commutative, and its question is put to both. What the
+//! larger field gives is by the rules written in `larger.rs`.
+
+use reference::Field;
 
 use crate::fixed::{entries, hex, with_row, Fixed, LIST, T_VALUES};
 use crate::paper::Operation;
@@ -35,7 +38,7 @@ fn keys() -> Vec<Fixed> {
     let parts: [&[u8]; 4] = [&T_VALUES, &TURNED, &entries(&first), &entries(&second)];
     let numbers: Vec<u8> = (0..64).collect();
     vec![
-        Fixed::bytes("a key whose parts differ", Operation::ReadKey, &[&file], whole),
+        Fixed::read("a key whose parts differ", &file, Field::Gf32, whole),
         Fixed::key("a key whose parts differ", Operation::WriteKey, &parts, &file),
         Fixed::key(
             "the numbers 0 to 63",
@@ -43,6 +46,20 @@ fn keys() -> Vec<Fixed> {
             &[&numbers],
             &[&numbers[..56], &[63]].concat(),
         ),
+    ]
+}
+
+/// The same key over the larger field: an entry is a byte.
+fn large_keys() -> Vec<Fixed> {
+    let (first, second) = (matrix(1, FIRST_ROW, 9), matrix(2, SECOND_ROW, 10));
+    let (packed, others) = (entries(&first), entries(&second));
+    let head = hex("08 01 00 01 01 02 03 04 05 06 07");
+    let file = [&head[..], &packed, &hex(PACKED_TURNED), &others].concat();
+    let whole = [&T_VALUES[..], &first, &TURNED, &second].concat();
+    let parts: [&[u8]; 4] = [&T_VALUES, &TURNED, &packed, &others];
+    vec![
+        Fixed::read("a large key whose parts differ", &file, Field::Gf256, whole),
+        Fixed::key("a large key whose parts differ", Operation::WriteKey, &parts, &file).large(),
     ]
 }
 
@@ -54,6 +71,17 @@ fn multiplied() -> Fixed {
     after[8..16].copy_from_slice(&[6, 6, 1, 0, 0, 0, 0, 0]);
     let pair = [&after[..], &[7, 5, 6, 4, 3, 2, 1, 0]].concat();
     Fixed::bytes("b2 under the list 7 to 0", Operation::Multiply, &[&before, &TURNED, &T_VALUES, &[1]], pair)
+}
+
+/// The same with 128 in row 1, column 2, over the larger field: 6 × 128 = 4 × 128 + 2 × 128 = 58 + 29 = 39, 1 + 39 =
+/// 38, and 3 + 128 = 131.
+fn multiplied_large() -> Fixed {
+    let before = with_row(1, [1, 128, 3, 4, 5, 6, 7, 8]);
+    let mut after = with_row(1, [38, 39, 131, 4, 5, 6, 7, 8]);
+    after[8..16].copy_from_slice(&[6, 6, 1, 0, 0, 0, 0, 0]);
+    let pair = [&after[..], &[7, 5, 6, 4, 3, 2, 1, 0]].concat();
+    let parts: [&[u8]; 4] = [&before, &TURNED, &T_VALUES, &[1]];
+    Fixed::bytes("b2 under the list 7 to 0, 256 elements", Operation::Multiply, &parts, pair).large()
 }
 
 fn words() -> Vec<Fixed> {
@@ -83,11 +111,15 @@ pub fn cases() -> Vec<Fixed> {
     let start = [super::identity(), LIST.to_vec()].concat();
     let mut cases = vec![
         Fixed::number("16 × 2", Operation::Product, &[&[16, 2]], 5),
+        Fixed::number("16 × 2, 256 elements", Operation::Product, &[&[16, 2]], 32).large(),
         Fixed::number("1 / 3", Operation::Reciprocal, &[&[3]], 28),
+        Fixed::number("1 / 3, 256 elements", Operation::Reciprocal, &[&[3]], 244).large(),
         Fixed::bytes("the starting pair", Operation::Start, &[], start),
         multiplied(),
+        multiplied_large(),
     ];
     cases.extend(keys());
+    cases.extend(large_keys());
     cases.extend(words());
     cases.extend(judged());
     cases

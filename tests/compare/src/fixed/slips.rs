@@ -1,6 +1,8 @@
-//! The papers' slips: document 01's "Slips to check by", as far as an exported function shows them, and source 000's worked
-//! examples where document 01 follows it. What is expected is typed from the papers, or follows from them by the reasoning
-//! written beside it.
+//! The papers' slips at strength 128: document 01's "Slips to check by", as far as an exported function shows them, and
+//! source 000's worked examples where document 01 follows it. What is expected is typed from the papers, or follows
+//! from them by the reasoning written beside it.
+
+use reference::Field;
 
 use crate::fixed::{entries, hex, identity, with_row, Fixed, LIST, T_VALUES};
 use crate::paper::Operation;
@@ -40,7 +42,7 @@ fn keys() -> Vec<Fixed> {
     let whole = [&T_VALUES[..], &identity(), &LIST, &identity()].concat();
     let parts: [&[u8]; 4] = [&T_VALUES, &LIST, &entries, &entries];
     let mut cases = vec![
-        Fixed::bytes("the plain key", Operation::ReadKey, &[&file], whole),
+        Fixed::read("the plain key", &file, Field::Gf32, whole),
         Fixed::key("the plain key", Operation::WriteKey, &parts, &file),
         Fixed::no_room("the plain key, 82 bytes of room", Operation::WriteKey, &parts, 82, 16),
         Fixed::refused("a key of no bytes", Operation::ReadKey, &[&[]], 1),
@@ -90,10 +92,11 @@ fn reductions() -> Vec<Fixed> {
     ]
 }
 
-/// Letters from the starting pair. b3⁻¹ b6 b4 b1⁻¹ b2 has document 01's list; its matrix is source 004's (section 8.4), in T-values
-/// (1 + t1)/t2, t1/t2, 1/t2; t1, t1, 1; t1, t1, (1 + t3)/t4 + 1, t3/t4, 1/t4; 0, 0, t3, t3, 1; and row 6 with t6, t6, 1, where
-/// 1/3 = 28 and 2 × 28 = 29. b1 b2 b1 and b2 b1 b2 are the same braid (source 000, section 5): with both T-values 1 row 1 is
-/// 1 1 after b1 and 0 1 1 after all three, row 2 is 1 1 1 after b2 and 1 0 1 after b1 again.
+/// Letters from the starting pair. b3⁻¹ b6 b4 b1⁻¹ b2 has document 01's list; its matrix is source 004's (section 8.4),
+/// in T-values (1 + t1)/t2, t1/t2, 1/t2; t1, t1, 1; t1, t1, (1 + t3)/t4 + 1, t3/t4, 1/t4; 0, 0, t3, t3, 1; and row 6
+/// with t6, t6, 1, where 1/3 = 28 and 2 × 28 = 29. b1 b2 b1 and b2 b1 b2 are the same braid (source 000, section 5):
+/// with both T-values 1 row 1 is 1 1 after b1 and 0 1 1 after all three, row 2 is 1 1 1 after b2 and 1 0 1 after b1
+/// again.
 fn letters() -> Vec<Fixed> {
     let swapped = [0, 1, 3, 2, 4, 5, 6, 7];
     let row_3 = |entries: [u8; 8], list: [u8; 8]| [with_row(3, entries), list.to_vec()].concat();
@@ -132,8 +135,9 @@ fn letters_refused() -> Vec<Fixed> {
     ]
 }
 
-/// Cloaking under the plain key, and for lists that bring labels 0 and 1, whose T-values are 1, to positions 3 and 4 (source 000,
-/// section 5.2). Under T-values 1 1 2 2 4 5 6 7 b3, 31 times, brings the matrix back, since 2^31 = 1, but not the list.
+/// Cloaking under the plain key, and for lists that bring labels 0 and 1, whose T-values are 1, to positions 3 and 4
+/// (source 000, section 5.2). Under T-values 1 1 2 2 4 5 6 7 b3, 31 times, brings the matrix back, since 2^31 = 1, but
+/// not the list.
 fn cloaking() -> Vec<Fixed> {
     let (plain, equal) = (plain_key(), key_with_t_values("08 44 22 14 C7"));
     let many = hex(&format!("00 1F {}20", "22 ".repeat(15)));

@@ -2,24 +2,20 @@
 //! faults serves all parts of an input.
 
 use reference::bits;
+use reference::key::layout;
 use reference::pair::Labels;
 use reference::testkit::Random;
 use reference::word::{word_file, MOST_LETTERS};
-use reference::{file_entries, read_key, Matrix};
+use reference::{file_entries, read_key, Field, Matrix};
 
-/// Where parts of a key file stand, in bits.
+/// Where N and q stand in a key file, in bits.
 const N: usize = 0;
 const Q: usize = 8;
-const T_VALUES: usize = 24;
-const LABELS: usize = 352;
-const FILLERS: [usize; 6] = [349, 350, 351, 661, 662, 663];
-const MATRICES: [usize; 2] = [64, 376];
-const SECOND_MATRIX: (usize, usize) = (376, 660);
 
 /// Which of a key's two matrices have no inverse, where one has none.
 const SINGULAR: [&[usize]; 3] = [&[0], &[1], &[0, 1]];
 
-/// A number that is no element.
+/// A number that is no element of the smaller field.
 fn too_high(random: &mut Random) -> u8 {
     let any = random.within(32, 255) as u8;
     random.pick(&[32, 33, 64, 255, any])
@@ -55,8 +51,8 @@ pub fn change_length(random: &mut Random, file: &mut Vec<u8>, keep: usize) {
 }
 
 /// Two factors. Fault: 17.
-pub fn elements(random: &mut Random, faults: &[u8]) -> Vec<u8> {
-    let mut elements = random.elements::<2>();
+pub fn elements(random: &mut Random, field: Field, faults: &[u8]) -> Vec<u8> {
+    let mut elements = random.elements::<2>(field);
     if faults.contains(&17) {
         elements[random.below(2)] = too_high(random);
     }
@@ -64,12 +60,12 @@ pub fn elements(random: &mut Random, faults: &[u8]) -> Vec<u8> {
 }
 
 /// What the reciprocal takes. Faults: 17 or 4, not both.
-pub fn element(random: &mut Random, faults: &[u8]) -> Option<Vec<u8>> {
+pub fn element(random: &mut Random, field: Field, faults: &[u8]) -> Option<Vec<u8>> {
     match (faults.contains(&17), faults.contains(&4)) {
         (true, true) => None,
         (true, false) => Some(vec![too_high(random)]),
         (false, true) => Some(vec![0]),
-        (false, false) => Some(vec![random.within(1, 31) as u8]),
+        (false, false) => Some(vec![random.element_from(field, 1)]),
     }
 }
 
@@ -94,89 +90,133 @@ fn spoil_t_values(random: &mut Random, t_values: &mut [u8; 8], zero: bool, high:
 }
 
 /// Matrix, labels, T-values and letter. Faults: 17, 4, 6, 12.
-pub fn multiplier_parts(random: &mut Random, faults: &[u8]) -> Vec<Vec<u8>> {
-    let mut matrix = random.elements::<64>();
+pub fn multiplier_parts(random: &mut Random, field: Field, faults: &[u8]) -> Vec<Vec<u8>> {
+    let mut matrix = random.elements::<64>(field);
     let (high, in_matrix) = (faults.contains(&17), random.one_in(2));
     if high && in_matrix {
         matrix[random.below(64)] = too_high(random);
     }
-    let mut t_values = random.t_values();
+    let mut t_values = random.t_values(field);
     spoil_t_values(random, &mut t_values, faults.contains(&4), high && !in_matrix);
     let letter = if faults.contains(&12) { bad_code(random) } else { random.letter() };
     vec![matrix.to_vec(), list(random, faults), t_values.to_vec(), vec![letter]]
 }
 
 /// The matrices of a key, of which both have an inverse. Fault: 26.
-fn matrices(random: &mut Random, faults: &[u8]) -> [Matrix; 2] {
-    let mut matrices = [random.invertible_key_matrix(), random.invertible_key_matrix()];
+fn matrices(random: &mut Random, field: Field, faults: &[u8]) -> [Matrix; 2] {
+    let mut matrices = [0; 2].map(|_| random.invertible_key_matrix(field));
     if faults.contains(&26) {
         for place in random.pick(&SINGULAR) {
-            matrices[*place] = random.singular_key_matrix();
+            matrices[*place] = random.singular_key_matrix(field);
         }
     }
     matrices
 }
 
 /// T-values, labels and the entries of both matrices. Faults: 17, 4, 5, 6, 26.
-pub fn key_parts(random: &mut Random, faults: &[u8]) -> Vec<Vec<u8>> {
-    let mut matrices = matrices(random, faults).map(|matrix| file_entries(&matrix));
+pub fn key_parts(random: &mut Random, field: Field, faults: &[u8]) -> Vec<Vec<u8>> {
+    let mut matrices = matrices(random, field, faults).map(|matrix| file_entries(&matrix));
     let (high, in_matrix) = (faults.contains(&17), random.one_in(2));
     if high && in_matrix {
         let place = random.pick(&[0, 55, 56]);
         matrices[random.below(2)][place] = too_high(random);
     }
-    let mut t_values = random.key_t_values();
+    let mut t_values = random.key_t_values(field);
     spoil_t_values(random, &mut t_values, faults.contains(&4), high && !in_matrix);
     if faults.contains(&5) {
-        t_values[random.below(2)] = random.within(2, 31) as u8;
+        t_values[random.below(2)] = random.element_from(field, 2);
     }
     let [first, second] = matrices.map(|entries| entries.to_vec());
     vec![t_values.to_vec(), list(random, faults), first, second]
 }
 
 /// A key file with another matrix, with an inverse or without one, in its first place or its second, counted from 0.
-pub fn with_matrix(file: &[u8], place: usize, matrix: &Matrix) -> Vec<u8> {
+pub fn with_matrix(field: Field, file: &[u8], place: usize, matrix: &Matrix) -> Vec<u8> {
     let mut bits = bits::of_bytes(file);
-    put_matrix(&mut bits, place, matrix);
+    put_matrix(&mut bits, field, place, matrix);
     bits::to_bytes(&bits)
 }
 
 /// Puts a matrix into the bits of a key file.
-fn put_matrix(bits: &mut [bool], place: usize, matrix: &Matrix) {
+fn put_matrix(bits: &mut [bool], field: Field, place: usize, matrix: &Matrix) {
+    let layout = layout(field);
+    let at = [layout.first.start, layout.second.start][place];
     for (number, entry) in file_entries(matrix).into_iter().enumerate() {
-        put(bits, MATRICES[place] + 5 * number, 5, entry.into());
+        put(bits, at + layout.element * number, layout.element as u32, entry.into());
     }
 }
 
-/// A key file, from one without faults. Faults: 1 to 7, 26.
-pub fn key(random: &mut Random, file: &[u8], faults: &[u8]) -> Vec<u8> {
+/// The other field.
+fn other(field: Field) -> Field {
+    match field {
+        Field::Gf32 => Field::Gf256,
+        Field::Gf256 => Field::Gf32,
+    }
+}
+
+/// A key file, from one without faults. Faults: 1 to 7, 26. For 3 its q changes, or its length becomes that of the
+/// other field's keys.
+pub fn key(random: &mut Random, field: Field, file: &[u8], faults: &[u8]) -> Vec<u8> {
     let mut bits = bits::of_bytes(file);
-    for fault in faults {
-        spoil_key(random, &mut bits, *fault);
+    let by_length = random.one_in(3);
+    for fault in faults.iter().filter(|fault| **fault != 3 || !by_length) {
+        spoil_key(random, &mut bits, field, *fault);
     }
     let mut file = bits::to_bytes(&bits);
+    if faults.contains(&3) && by_length {
+        with_length(random, &mut file, other(field).key_bytes());
+    }
     if faults.contains(&1) {
-        change_length(random, &mut file, 0);
+        key_length(random, &mut file);
     }
     file
 }
 
+/// The bytes cut to a length, or random ones put at their end.
+fn with_length(random: &mut Random, file: &mut Vec<u8>, length: usize) {
+    let more = random.bytes(length.saturating_sub(file.len()));
+    file.truncate(length);
+    file.extend(more);
+}
+
+/// Gives a key file a length that no key has.
+fn key_length(random: &mut Random, file: &mut Vec<u8>) {
+    let by_few = [file.len() - 2, file.len() - 1, file.len() + 1, file.len() + 2];
+    let any = random.within(0, 300);
+    let length = random.pick(&[82, 84, 127, 129, 211, any, by_few[0], by_few[1], by_few[2], by_few[3]]);
+    let is_free = Field::BOTH.iter().all(|field| field.key_bytes() != length);
+    with_length(random, file, if is_free { length } else { length + 1 });
+}
+
 /// Puts one fault, 2 to 7 or 26, into the bits of a key file.
-fn spoil_key(random: &mut Random, bits: &mut [bool], fault: u8) {
+fn spoil_key(random: &mut Random, bits: &mut [bool], field: Field, fault: u8) {
+    let layout = layout(field);
+    let (t_values, width) = (layout.t_values.start, layout.element);
     match fault {
         2 => put(bits, N, 8, random.pick(&[0, 7, 9, 10, 255])),
-        3 => put(bits, Q, 16, random.pick(&[0, 31, 33, 256, 288, 0x2000, 0xFFFF])),
-        4 => put(bits, T_VALUES + 5 * random.within(2, 7), 5, 0),
-        5 => put(bits, T_VALUES + 5 * random.below(2), 5, random.within(2, 31) as u16),
+        3 => {
+            let others = [0, 31, 33, 255, 257, 288, 0x2000, 0xFFFF, other(field).size()];
+            put(bits, Q, 16, random.pick(&others));
+        }
+        4 => put(bits, t_values + width * random.within(2, 7), width as u32, 0),
+        5 => {
+            let place = random.below(2);
+            put(bits, t_values + width * place, width as u32, random.element_from(field, 2).into());
+        }
         6 => {
             let (from, to) = two_places(random);
-            let label = bits::number(&bits[LABELS + 3 * from..LABELS + 3 * from + 3]);
-            put(bits, LABELS + 3 * to, 3, label);
+            let at = |place: usize| layout.labels.start + 3 * place;
+            let label = bits::number(&bits[at(from)..at(from) + 3]);
+            put(bits, at(to), 3, label);
         }
-        7 => bits[random.pick(&FILLERS)] = true,
+        7 => {
+            let fillers: Vec<usize> =
+                layout.first_filler.clone().chain(layout.second_filler.clone()).collect();
+            bits[random.pick(&fillers)] = true;
+        }
         26 => {
             for place in random.pick(&SINGULAR) {
-                put_matrix(bits, *place, &random.singular_key_matrix());
+                put_matrix(bits, field, *place, &random.singular_key_matrix(field));
             }
         }
         _ => {}
@@ -184,9 +224,10 @@ fn spoil_key(random: &mut Random, bits: &mut [bool], fault: u8) {
 }
 
 /// Turns one bit of the second matrix of a key file without faults round, such that it keeps an inverse.
-pub fn flip_second_matrix(random: &mut Random, file: &mut [u8]) {
+pub fn flip_second_matrix(random: &mut Random, field: Field, file: &mut [u8]) {
+    let second = &layout(field).second;
     loop {
-        let bit = random.within(SECOND_MATRIX.0, SECOND_MATRIX.1);
+        let bit = random.within(second.start, second.end - 1);
         file[bit / 8] ^= 0x80 >> (bit % 8);
         if read_key(file).answer == 0 {
             return;
@@ -195,8 +236,19 @@ pub fn flip_second_matrix(random: &mut Random, file: &mut [u8]) {
     }
 }
 
-/// A digest. Fault: 8.
-pub fn digest(random: &mut Random, digest: &[u8], faults: &[u8]) -> Vec<u8> {
+/// A digest that goes with a key. Fault: 8, by few bytes or by the length of the other field's digests.
+pub fn digest(random: &mut Random, field: Field, digest: &[u8], faults: &[u8]) -> Vec<u8> {
+    let mut file = digest.to_vec();
+    match faults.contains(&8) {
+        true if random.one_in(2) => with_length(random, &mut file, other(field).digest_bytes()),
+        true => change_length(random, &mut file, 0),
+        false => {}
+    }
+    file
+}
+
+/// A digest for the encoder alone. Fault: 8, a length that no digest has.
+pub fn digest_alone(random: &mut Random, digest: &[u8], faults: &[u8]) -> Vec<u8> {
     let mut file = digest.to_vec();
     if faults.contains(&8) {
         change_length(random, &mut file, 0);

@@ -1,4 +1,5 @@
-//! The desk program in both forms, on standard input and on three files: the line that it writes has the reference's answer.
+//! The desk program in both forms, on standard input and on three files: the line that it writes has the reference's
+//! answer.
 
 use std::ffi::OsStr;
 use std::fs;
@@ -7,29 +8,18 @@ use std::process::Output;
 use std::{env, process};
 
 use reference::testkit::Slip;
-use reference::verify;
 use reference::word::word_file;
+use reference::{desk, verify, Field};
 
-use crate::fixed::{hex, slips::plain_key};
+use crate::case::field_of_key;
+use crate::fixed::{hex, larger, slips};
 use crate::make::{files, Maker, Size};
 use crate::paper::Operation;
 use crate::programs::{ran, Checked, Counts};
 use crate::show;
 
-/// The bytes of a key and of a digest, and the most that the desk program reads of a signature: the longest word file and one.
-const KEY: usize = 83;
-const DIGEST: usize = 32;
-const SIGNATURE: usize = 5_003;
-
 /// How often each pair of faults, and each length, is drawn anew.
 const VARIANTS: usize = 5;
-
-/// The answer to a slip whose parts stand end to end, cut as document 01 says. Bytes past the longest signature and one are not read.
-fn answer_end_to_end(input: &[u8]) -> u8 {
-    let (key, rest) = input.split_at(input.len().min(KEY));
-    let (digest, rest) = rest.split_at(rest.len().min(DIGEST));
-    verify(key, digest, &rest[..rest.len().min(SIGNATURE)])
-}
 
 /// What is wrong with what a program wrote, if it is not the line of this answer alone.
 fn held(name: &str, input: &[&[u8]], output: &Output, answer: u8) -> Checked {
@@ -48,9 +38,28 @@ fn held(name: &str, input: &[&[u8]], output: &Output, answer: u8) -> Checked {
 struct Desk<'a> {
     programs: &'a Path,
     folder: PathBuf,
-    by_input: Counts,
-    by_files: Counts,
+    by_input: BySize,
+    by_files: BySize,
     without_answer: usize,
+}
+
+/// Cases counted by the field that a key tells, and by answer.
+#[derive(Default)]
+struct BySize([Counts; 2]);
+
+impl BySize {
+    fn count(&mut self, field: Field, answer: u8) {
+        self.0[usize::from(field == Field::Gf256)].count(answer);
+    }
+
+    /// A line for each field; an account if one of the answers that a verdict can have there was not reached.
+    fn summaries(&self, name: &str) -> Checked<Vec<String>> {
+        let summary = |(field, counts): (Field, &Counts)| {
+            let answers = [vec![0], Operation::Verify.questions_over(field)].concat();
+            counts.summary(&format!("{name} ({})", field.size()), &answers)
+        };
+        Field::BOTH.into_iter().zip(&self.0).map(summary).collect()
+    }
 }
 
 impl Drop for Desk<'_> {
@@ -69,10 +78,10 @@ impl Desk<'_> {
     /// The slip on standard input, in these pieces.
     fn on_input(&mut self, pieces: &[&[u8]]) -> Checked {
         let input = pieces.concat();
-        let answer = answer_end_to_end(&input);
+        let answer = desk::answer(&input);
         let output = ran(&self.programs.join("desk"), &[], pieces)?;
         held("desk", &[&input], &output, answer)?;
-        self.by_input.count(answer);
+        self.by_input.count(desk::field_told(&input), answer);
         Ok(())
     }
 
@@ -86,7 +95,7 @@ impl Desk<'_> {
         let answer = verify(parts[0], parts[1], parts[2]);
         let output = self.on_paths(&paths)?;
         held("desk_files", &parts, &output, answer)?;
-        self.by_files.count(answer);
+        self.by_files.count(field_of_key(parts[0]), answer);
         Ok(())
     }
 
@@ -101,7 +110,8 @@ impl Desk<'_> {
         self.on_files(slip)
     }
 
-    /// These files are not all there, or cannot be read: there is no line on standard output, and one on standard error.
+    /// These files are not all there, or cannot be read: there is no line on standard output, and one on standard
+    /// error.
     fn unanswered(&mut self, paths: &[PathBuf]) -> Checked {
         let output = self.on_paths(paths)?;
         if !output.stdout.is_empty() || output.stderr.is_empty() {
@@ -127,19 +137,44 @@ impl Desk<'_> {
         Ok(())
     }
 
-    /// Document 01's own slips. The reference gives the answers that it states.
+    /// Document 01's own slips, and the same over the larger field. The reference gives the answers that are stated.
     fn of_the_paper(&mut self) -> Checked {
-        let sevens = hex(&format!("00 80 {}", "66 ".repeat(64)));
-        let slip = |word| Slip { key: plain_key(), digest: vec![0; DIGEST], word };
+        let small = |word| Slip { key: slips::plain_key(), digest: vec![0; 32], word };
+        let large = |word| Slip { key: larger::plain_key(), digest: vec![0; 64], word };
         let empty = Slip { key: vec![], digest: vec![], word: vec![] };
-        for (slip, stated) in [(slip(sevens), 0), (slip(hex("00 00")), 14), (empty, 1)] {
+        for (slip, stated) in [
+            (small(larger::sevens(128)), 0),
+            (small(hex("00 00")), 14),
+            (large(larger::sevens(256)), 0),
+            (large(larger::sevens(128)), 14),
+            (large(hex("00 00")), 14),
+            (empty, 1),
+        ] {
             let answer = verify(&slip.key, &slip.digest, &slip.word);
             if answer != stated {
-                return Err(format!(
-                    "the reference answers {answer} to the slip that document 01 answers {stated}\n"
-                ));
+                return Err(format!("the reference answers {answer} to a slip whose answer is {stated}\n"));
             }
             self.both(&slip)?;
+        }
+        Ok(())
+    }
+
+    /// The parts of slips of both sizes put together in every way, and with the other's q: in files each is judged by
+    /// its own bytes, and end to end bytes 1 and 2 say where to cut.
+    fn mixed(&mut self, maker: &mut Maker) -> Checked {
+        let codes = maker.random.tangled_word(6);
+        let slips = Field::BOTH.map(|field| maker.slip(field, &codes));
+        let mut keys: Vec<Vec<u8>> = slips.iter().map(|slip| slip.key.clone()).collect();
+        for (key, q) in
+            slips.iter().flat_map(|slip| [[0, 32], [1, 0], [1, 32], [0, 0]].map(|q| (&slip.key, q)))
+        {
+            keys.push([&key[..1], &q, &key[3..]].concat());
+        }
+        for key in &keys {
+            for digest in slips.iter().map(|slip| &slip.digest) {
+                let (key, digest, word) = (key.clone(), digest.clone(), slips[0].word.clone());
+                self.both(&Slip { key, digest, word })?;
+            }
         }
         Ok(())
     }
@@ -178,17 +213,19 @@ impl Desk<'_> {
         self.on_input(&[&slip.key, &slip.digest, &slip.word])?;
         self.on_input(&[&slip.key[..1], &slip.key[1..], &slip.digest, &slip.word])?;
         let whole = [slip.key.as_slice(), &slip.digest, &slip.word].concat();
-        for at in [1, 82, 83, 84, 114, 115, 116, 117, whole.len() - 1] {
+        let (key, digest) = (slip.key.len(), slip.key.len() + slip.digest.len());
+        let edges = [1, 2, 3, 83, key - 1, key, key + 1, digest - 1, digest, digest + 1, digest + 2];
+        for at in edges.into_iter().chain([whole.len() - 1]) {
             self.on_input(&[&whole[..at], &whole[at..]])?;
         }
         Ok(())
     }
 
-    /// An accepted slip cut, lengthened and in pieces, and the same of the longest.
-    fn accepted(&mut self, maker: &mut Maker) -> Checked {
+    /// An accepted slip over a field cut, lengthened and in pieces, and the same of the longest.
+    fn accepted(&mut self, maker: &mut Maker, field: Field) -> Checked {
         for letters in [0, 1, 6, 13] {
             let codes = maker.random.tangled_word(letters);
-            let slip = maker.slip(&codes);
+            let slip = maker.slip(field, &codes);
             self.both(&slip)?;
             self.cut(&slip)?;
             self.lengthened(&slip)?;
@@ -196,38 +233,38 @@ impl Desk<'_> {
         }
         for letters in [9_999, 10_000] {
             let codes = maker.random.tangled_word(letters);
-            let slip = maker.slip(&codes);
+            let slip = maker.slip(field, &codes);
             self.both(&slip)?;
             self.in_pieces(&slip)?;
             self.both(&Slip { word: slip.word[..slip.word.len() - 1].to_vec(), ..slip.clone() })?;
             self.both(&Slip { word: [slip.word.as_slice(), &[0]].concat(), ..slip.clone() })?;
             self.both(&Slip { word: [slip.word.as_slice(), &[0, 0]].concat(), ..slip.clone() })?;
         }
-        self.both(&Slip { word: word_file(&[0; 10_001]), ..maker.slip(&[]) })
+        self.both(&Slip { word: word_file(&[0; 10_001]), ..maker.slip(field, &[]) })
     }
 
     /// Slips with faults in pairs, with none, and damaged ones.
-    fn faulty(&mut self, maker: &mut Maker) -> Checked {
-        let questions = Operation::Verify.questions();
+    fn faulty(&mut self, maker: &mut Maker, field: Field) -> Checked {
+        let questions = Operation::Verify.questions_over(field);
         for (place, first) in questions.iter().enumerate() {
             for second in &questions[place..] {
                 for _ in 0..VARIANTS {
                     let mut faults = vec![*first, *second];
                     faults.dedup();
-                    self.made(maker, &faults, false)?;
+                    self.made(maker, field, &faults, false)?;
                 }
             }
         }
         for place in 0..200 {
-            self.made(maker, &[], place % 2 == 1)?;
+            self.made(maker, field, &[], place % 2 == 1)?;
         }
         Ok(())
     }
 
     /// A slip with these faults, damaged besides or not.
-    fn made(&mut self, maker: &mut Maker, faults: &[u8], damaged: bool) -> Checked {
-        let case =
-            maker.with_faults(Operation::Verify, faults, Size::Short).expect("these faults stand together");
+    fn made(&mut self, maker: &mut Maker, field: Field, faults: &[u8], damaged: bool) -> Checked {
+        let case = maker.with_faults(Operation::Verify, field, faults, Size::Short);
+        let case = case.expect("these faults stand together");
         let mut parts = case.input.parts;
         if damaged {
             let place = maker.random.below(3);
@@ -238,18 +275,20 @@ impl Desk<'_> {
     }
 }
 
-/// Runs both forms: a line for each.
+/// Runs both forms over both fields: a line for each.
 pub fn check(programs: &Path, maker: &mut Maker) -> Checked<Vec<String>> {
     let folder = env::temp_dir().join(format!("walnut slips {}", process::id()));
     fs::create_dir_all(&folder).map_err(|error| format!("{}: {error}\n", folder.display()))?;
-    let (by_input, by_files) = (Counts::default(), Counts::default());
+    let (by_input, by_files) = (BySize::default(), BySize::default());
     let mut desk = Desk { programs, folder, by_input, by_files, without_answer: 0 };
     desk.of_the_paper()?;
     desk.missing()?;
-    desk.accepted(maker)?;
-    desk.faulty(maker)?;
-    let answers: Vec<u8> = (0..=14).chain([26]).collect();
-    let by_files = desk.by_files.summary("desk_files", &answers)?;
-    let line = format!("{by_files}; without an answer: {}", desk.without_answer);
-    Ok(vec![desk.by_input.summary("desk", &answers)?, line])
+    desk.mixed(maker)?;
+    for field in Field::BOTH {
+        desk.accepted(maker, field)?;
+        desk.faulty(maker, field)?;
+    }
+    let mut lines = [desk.by_input.summaries("desk")?, desk.by_files.summaries("desk_files")?].concat();
+    lines.push(format!("desk_files: without an answer, as a file cannot be read: {}", desk.without_answer));
+    Ok(lines)
 }

@@ -1,5 +1,5 @@
-//! The program `letters`: what it writes of a word file is what the reference reads there, each letter by its place and the second by its reader of
-//! words.
+//! The program `letters`: what it writes of a word file is what the reference reads there, each letter by its place and
+//! the second by its reader of words.
 
 use std::path::Path;
 
@@ -24,7 +24,8 @@ fn letter(code: Option<u8>) -> String {
     }
 }
 
-/// What the program must write: every place up to the first where none is left, and the next one; and the second letter by the reader of words.
+/// What the program must write: every place up to the first where none is left, and the next one; and the second letter
+/// by the reader of words.
 fn expected(file: &[u8]) -> String {
     let codes: String = code_part(file).iter().map(|byte| format!(" {byte:02x}")).collect();
     let by_place = letters(file);
@@ -50,7 +51,8 @@ fn compare(program: &Path, counts: &mut Counts, file: &[u8]) -> Checked {
     Ok(())
 }
 
-/// Words of each length up to 40, of some hundred letters and as long as can be; refused ones, with faults in pairs; and words drawn blindly.
+/// Words of each length up to 40, of some hundred letters and as long as can be; refused ones, with faults in pairs;
+/// and words drawn blindly.
 pub fn check(program: &Path, maker: &mut Maker) -> Checked<String> {
     let counts = &mut Counts::default();
     for letters in (0..=40).chain([255, 256, 9_999, 10_000]) {

@@ -2,7 +2,7 @@
 
 use reference::pair::TValues;
 use reference::testkit::{accepted_slip, move_list};
-use reference::{letters, read_key, start, verify, Pair};
+use reference::{letters, read_key, start, verify, Field, Pair};
 
 use crate::case::Input;
 use crate::paper::Operation;
@@ -15,9 +15,10 @@ const PLAIN_T_VALUES: TValues = [1, 1, 2, 3, 4, 5, 6, 7];
 /// What a slip is solved from.
 #[derive(Clone)]
 struct Source {
+    field: Field,
     t_values: TValues,
     pair: Pair,
-    digest: [u8; 32],
+    digest: Vec<u8>,
     codes: Vec<u8>,
 }
 
@@ -29,13 +30,13 @@ impl Source {
             return None;
         }
         let key = read_key(file);
-        let digest = digest.as_slice().try_into().ok()?;
-        Some(Source { t_values: key.t_values, pair: key.pair, digest, codes: letters(word) })
+        let (digest, codes) = (digest.clone(), letters(word));
+        Some(Source { field: key.field, t_values: key.t_values, pair: key.pair, digest, codes })
     }
 
     /// The accepted slip in the place of the input's.
     fn solved(&self, input: &Input) -> Input {
-        let slip = accepted_slip(&self.t_values, &self.pair, &self.digest, &self.codes);
+        let slip = accepted_slip(self.field, &self.t_values, &self.pair, &self.digest, &self.codes);
         Input { parts: vec![slip.key, slip.digest, slip.word], ..input.clone() }
     }
 }
@@ -88,7 +89,7 @@ impl Shrinker<'_> {
     pub fn solved_again(&self, input: Input) -> Input {
         let Some(mut source) = Source::of(&input) else { return input };
         let plainer: [fn(&Source) -> Source; 3] = [
-            |source| Source { digest: [0; 32], ..source.clone() },
+            |source| Source { digest: vec![0; source.digest.len()], ..source.clone() },
             |source| Source { pair: start(), ..source.clone() },
             |source| Source { t_values: PLAIN_T_VALUES, ..source.clone() },
         ];

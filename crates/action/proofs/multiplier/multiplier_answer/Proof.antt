@@ -18,15 +18,15 @@ abbrev start : tie.After-is-letter → tie.Start
 start t = t .before .before .before .before .before .before .before .before .before .before .before
 
 abbrev left : tie.After-is-letter → ℕ → List Question
-left t k = let a = start t .args in drop k (multiplierQuestions (a .pair) (a .t-values .now) (a .letter))
+left t k = let a = start t .args in drop k (multiplierQuestions (a .f) (a .pair) (a .t-values .now) (a .letter))
 
 -- the tests of the first question
 values-are : (t : tie.After-is-letter) {b : Bool} → t .before .before .before .before .before .before .before .all-elements .result ≡ b
-    → elements (start t .args .t-values .now) ≡ b
+    → elements (start t .args .f) (start t .args .t-values .now) ≡ b
 values-are t e = sym (t .before .before .before .before .before .before .before .all-elements .ensures) ∙ e
 
 entries-are : (t : tie.After-is-letter) {b : Bool} → t .before .before .before .before .before .all-elements2 .result ≡ b
-    → elements (start t .args .pair .matrix) ≡ b
+    → elements (start t .args .f) (start t .args .pair .matrix) ≡ b
 entries-are t e = sym (t .before .before .before .before .before .all-elements2 .ensures) ∙ e
 
 -- the tests, at each place
@@ -57,7 +57,7 @@ past-3 c =
 returns : tie.Need-returns
 returns c =
     let t = c .before in
-    sym (fails 17 (left t 1) (ap (λ (b : Bool). b && elements (start t .args .pair .matrix)) (values-are t (not-true _ (c .if1 .taken)))))
+    sym (fails 17 (left t 1) (ap (λ (b : Bool). b && elements (start t .args .f) (start t .args .pair .matrix)) (values-are t (not-true _ (c .if1 .taken)))))
 
 returns-2 : tie.Need-returns-2
 returns-2 c =

@@ -8,17 +8,17 @@ use Rattle.action.proofs.multiplier.multiply.Tie as tie
 returns : tie.Need-returns
 returns c =
     let a = c .before .before .before .args in
-    refused (a .pair) (a .t-values .now) (a .letter) (c .before .before .multiplier-answer .ensures) (c .before .if1 .taken) (c .zeros .ensures)
+    refused (a .f) (a .pair) (a .t-values .now) (a .letter) (c .before .before .multiplier-answer .ensures) (c .before .if1 .taken) (c .zeros .ensures)
 
 one-letter-requires : tie.Need-one-letter-requires
 one-letter-requires c κs =
     let a = c .before .before .args in
-    granted-letter (a .pair) (a .t-values .now) (a .letter) (sym (c .before .multiplier-answer .ensures) ∙ c .if1 .left)
+    granted-letter (a .f) (a .pair) (a .t-values .now) (a .letter) (sym (c .before .multiplier-answer .ensures) ∙ c .if1 .left)
 
 returns-2 : tie.Need-returns-2
 returns-2 c =
     let a = c .before .before .before .args in
-    multiplied (a .pair) (a .t-values .now) (a .letter) (c .before .before .multiplier-answer .ensures) (c .before .if1 .left) (c .one-letter .ensures)
+    multiplied (a .f) (a .pair) (a .t-values .now) (a .letter) (c .before .before .multiplier-answer .ensures) (c .before .if1 .left) (c .one-letter .ensures)
 
 pub multiply-spec : {M : Type 1} → statement M
 multiply-spec =

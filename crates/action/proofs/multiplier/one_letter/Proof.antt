@@ -1,52 +1,47 @@
--- `action::multiplier::one_letter` meets its contract: the pair's columns and labels, crossed with the number that the
--- letter takes.
-use Prim.Native.Nat.{ℕ}
-use mathlib.Core.Path.{refl, ap, ap₂, _∙_}
-use mathlib.Core.List.{List}
-use native.Mathlib.Omega.{arith}
+-- `action::multiplier::one_letter` meets its contract: the letter over the field that the match finds.
+use mathlib.Core.Path.{sym, ap, _∙_}
 use borrow.Author.Needs.{needs}
-use Rattle.field.specs.Gf32.{gf32, modulus}
-use Rattle.field.proofs.TableLaws.{gf32-degree}
-use Rattle.action.specs.Action.{pairOf, letterOn}
-use Rattle.action.proofs.CarryLaws.{column-below}
-use Rattle.action.proofs.ColumnLaws.{crossed-letter}
+use Rattle.field.specs.Fields.{operations}
+use Rattle.field.specs.declared.Field.{Field}
+use Rattle.field.specs.declared.Field.the-variants.{Gf32, Gf256}
+use Rattle.field.proofs.TableLaws.{lent}
+use Rattle.action.specs.Action.{letterOn}
 use Rattle.action.proofs.multiplier.one_letter.Statement.{statement}
 use Rattle.action.proofs.multiplier.one_letter.Tie as tie
 
-constants-taken-requires : tie.Need-constants-taken-requires
-constants-taken-requires c κs =
-    let s = c .before .before .before .before in
-    (search needs, column-below (s .args .letter) (s .pre))
+crossed-requires : tie.Need-crossed-requires
+crossed-requires c κs =
+    let r = c .before in
+    (lent Gf32 (r .small-reciprocals .result) (r .small-reciprocals .ensures), r .before .before .before .pre)
 
-cross-requires : tie.Need-cross-requires
-cross-requires c κs =
-    let columns = c .before .before .before in
-    let constants = columns .before .before in
-    let s = constants .before .before .before .before .before in
-    (columns .columns-of .ensures .0, constants .constants-taken .ensures .0, omega arith, search needs, column-below (s .args .letter) (s .pre))
+crossed-requires-2 : tie.Need-crossed-requires-2
+crossed-requires-2 c κs =
+    let r = c .before in
+    (lent Gf256 (r .large-reciprocals .result) (r .large-reciprocals .ensures), r .before .before .before .pre)
 
 returns : tie.Need-returns
 returns c =
-    let crossed = c .before .before .before in
-    let columns = crossed .before .before .before .before in
-    let constants = columns .before .before in
-    let s = constants .before .before .before .before .before in
-    let a = s .args in
-    c .with .ensures
-    ∙ ap₂ pairOf (c .before .matrix-of .ensures) refl
-    ∙ crossed-letter 5 modulus gf32-degree (a .t-values .now) (constants .constants-taken .result) (columns .columns-of .result) (a .pair .labels)
-    (crossed .cross .last .0) (crossed .cross .last .1 .0) (a .letter) 0 (s .pre) (constants .constants-taken .ensures .1) (crossed .cross .ensures)
-    ∙ ap (λ (m : List ℕ). letterOn gf32 (a .t-values .now) (a .letter) (pairOf m (a .pair .labels))) (columns .columns-of .ensures .1)
+    let told = c .before .before .before in
+    let a = told .before .before .args in
+    c .crossed .ensures ∙ ap (λ (f : Field). letterOn (operations f) (a .t-values .now) (a .letter) (a .pair)) (sym (told .enum-told .given .1))
+
+returns-2 : tie.Need-returns-2
+returns-2 c =
+    let told = c .before .before .before in
+    let a = told .before .before .args in
+    c .crossed2 .ensures ∙ ap (λ (f : Field). letterOn (operations f) (a .t-values .now) (a .letter) (a .pair)) (sym (told .enum-told2 .given .1))
 
 pub one-letter-spec : {M : Type 1} → statement M
 one-letter-spec =
     tie.close
     (tie.spec
     (λ c. search needs)
-    constants-taken-requires
     (λ c κs. search needs)
     (λ c. search needs)
-    cross-requires
+    crossed-requires
+    (λ c. search needs)
     (λ c κs. search needs)
-    (λ c κs. search needs)
-    returns)
+    (λ c. search needs)
+    crossed-requires-2
+    returns
+    returns-2)

@@ -1,38 +1,47 @@
--- `action::word::carry_letters` meets its contract: the loop begins with the pair's columns, every label at its own
--- place, and ends with the pair that the letters carry it to.
-use mathlib.Core.Path.{_≡_, sym, _∙_}
-use lib.ListN.{length, length-map}
+-- `action::word::carry_letters` meets its contract: the row of letters over the field that the match finds.
+use mathlib.Core.Path.{sym, ap, _∙_}
 use borrow.Author.Needs.{needs}
-use Rattle.base.specs.Lists.{valuesFrom}
-use Rattle.action.proofs.NamedLabels.{begun, ended}
+use Rattle.field.specs.Fields.{operations}
+use Rattle.field.specs.declared.Field.{Field}
+use Rattle.field.specs.declared.Field.the-variants.{Gf32, Gf256}
+use Rattle.field.proofs.TableLaws.{lent}
+use Rattle.action.specs.Action.{wordOn}
 use Rattle.action.proofs.word.carry_letters.Statement.{statement}
 use Rattle.action.proofs.word.carry_letters.Tie as tie
 
--- the pair's labels are eight
-labels-size : (c : tie.Start) → length (c .args .pair .labels) ≡ 8
-labels-size c = sym (length-map (c .args .pair .labels) (λ v. v)) ∙ c .good .0 .1 .1 .1 .0 .1 .0 .1
+row-requires : tie.Need-row-requires
+row-requires c κs =
+    let r = c .before in
+    (lent Gf32 (r .small-reciprocals .result) (r .small-reciprocals .ensures), r .before .before .before .before .pre)
 
-run-requires : tie.Need-run-requires
-unfolding valuesFrom
-run-requires c κs =
-    let columns = c .before .before .before in
-    let constants = columns .before .before in
-    let s = constants .before .before .before .before .before .before in
-    (begun (constants .constants-by-place .result) (columns .columns-of .result) (constants .constants-by-place .ensures .bytes) (columns .columns-of .ensures .0), s .pre)
+row-requires-2 : tie.Need-row-requires-2
+row-requires-2 c κs =
+    let r = c .before in
+    (lent Gf256 (r .large-reciprocals .result) (r .large-reciprocals .ensures), r .before .before .before .before .pre)
 
 returns : tie.Need-returns
-unfolding valuesFrom
 returns c =
-    let run = c .before .before .before .before in
-    let columns = run .before .before .before .before in
-    let constants = columns .before .before in
-    let s = constants .before .before .before .before .before .before in
-    let a = s .args in
-    c .pair-of .ensures
-    ∙ ended (a .t-values .now) (a .pair .labels) (a .pair .matrix) (constants .constants-by-place .result) (a .codes .now) (columns .columns-of .result)
-    (run .run .last .0) (run .run .last .1 .0) (labels-size s) (columns .columns-of .ensures .1) (constants .constants-by-place .ensures) (s .pre) (run .run .ensures)
+    let told = c .before .before .before in
+    let a = told .before .before .before .args in
+    c .row .ensures ∙ ap (λ (f : Field). wordOn (operations f) (a .t-values .now) (a .codes .now) (a .pair)) (sym (told .enum-told .given .1))
+
+returns-2 : tie.Need-returns-2
+returns-2 c =
+    let told = c .before .before .before in
+    let a = told .before .before .before .args in
+    c .row2 .ensures ∙ ap (λ (f : Field). wordOn (operations f) (a .t-values .now) (a .codes .now) (a .pair)) (sym (told .enum-told2 .given .1))
 
 pub carry-letters-spec : {M : Type 1} → statement M
 carry-letters-spec =
     tie.close
-    (tie.spec (λ c κs. search needs) (λ c κs. search needs) run-requires (λ c κs. search needs) returns)
+    (tie.spec
+    (λ c. search needs)
+    (λ c κs. search needs)
+    (λ c. search needs)
+    row-requires
+    (λ c. search needs)
+    (λ c κs. search needs)
+    (λ c. search needs)
+    row-requires-2
+    returns
+    returns-2)

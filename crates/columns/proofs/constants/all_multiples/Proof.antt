@@ -1,5 +1,5 @@
--- `columns::constants::all_multiples` meets its contract. The loop's invariant: the constants of the first a numbers are
--- stored.
+-- `columns::constants::all_multiples` meets its contract. The loop's invariant: the constants of the first a numbers
+-- are stored.
 use Prim.Native.Nat.{_-_, _≤_}
 use mathlib.Core.Path.{_≡_}
 use native.Mathlib.Omega.{arith}

@@ -27,7 +27,7 @@ loop-holds c =
     )
 
 times-x-requires : tie.Need-times-x-requires Inv-loop μ-loop
-times-x-requires c κs = (c .before .before .before .before .pre .2, c .before .loop .inv .1 .below)
+times-x-requires c κs = let pre = c .before .before .before .before .pre in (pre .3, pre .2, c .before .loop .inv .1 .below)
 
 loop-again : tie.Need-loop-again Inv-loop μ-loop
 loop-again c =
@@ -35,7 +35,7 @@ loop-again c =
     let a = c .before .before .before .before .before .args in
     let pre = c .before .before .before .before .before .pre in (
       omega arith,
-      rw (c .times-x .ensures)
+      rw (c .times-x .ensures .0)
           (next-filled (pre .3) (pre .2) (a .number) (a .at) (l .i) (a .list .now) (l .list) (l .product) (pre .0) (omega arith) (l .inv .1)),
     )
 

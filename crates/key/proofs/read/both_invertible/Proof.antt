@@ -1,8 +1,8 @@
 -- `key::read::both_invertible` meets its contract: the second matrix is asked where the first has an inverse.
-use mathlib.Core.Path.{_≡_, sym, ap, _∙_}
-use mathlib.Core.Bool.{Bool, true, false, _&&_}
+use mathlib.Core.Path.{sym, ap, _∙_}
+use mathlib.Core.Bool.{Bool, _&&_}
 use borrow.Author.Tests.{not-true, not-false}
-use Rattle.field.specs.Gf32.{gf32}
+use Rattle.field.specs.Fields.{operations}
 use Rattle.matrix.specs.Layout.{entry}
 use Rattle.matrix.specs.Elimination.{invertible}
 use borrow.Author.Needs.{needs}
@@ -12,14 +12,14 @@ use Rattle.key.proofs.read.both_invertible.Tie as tie
 returns : tie.Need-returns
 returns c =
     let a = c .before .before .args in
-    sym (ap (λ (b : Bool). b && invertible gf32 8 (entry (a .second))) (sym (c .before .is-invertible .ensures) ∙ not-true _ (c .if1 .taken)))
+    sym (ap (λ (b : Bool). b && invertible (operations (a .f)) 8 (entry (a .second))) (sym (c .before .is-invertible .ensures) ∙ not-true _ (c .if1 .taken)))
 
 returns-2 : tie.Need-returns-2
 returns-2 c =
     let b = c .before .before in
     let a = b .before .args in
     c .is-invertible2 .ensures
-    ∙ sym (ap (λ (b : Bool). b && invertible gf32 8 (entry (a .second))) (sym (b .is-invertible .ensures) ∙ not-false _ (c .before .if1 .left)))
+    ∙ sym (ap (λ (b : Bool). b && invertible (operations (a .f)) 8 (entry (a .second))) (sym (b .is-invertible .ensures) ∙ not-false _ (c .before .if1 .left)))
 
 pub both-invertible-spec : {M : Type 1} → statement M
 both-invertible-spec = tie.close (tie.spec (λ c κs. search needs) returns (λ c κs. search needs) returns-2)

@@ -8,7 +8,7 @@ use Rattle.key.proofs.read.matrix.Statement.{statement}
 use Rattle.key.proofs.read.matrix.Tie as tie
 
 whole-matrix-size : tie.Need-slice-aggregate-whole-matrix
-whole-matrix-size c = sym (ap length (c .before .entries .ensures) ∙ entries-size (c .before .before .before .args .bytes .now))
+whole-matrix-size c = let a = c .before .before .before .args in sym (ap length (c .before .entries .ensures) ∙ entries-size (a .bits) (a .bytes .now))
 
 whole-matrix-requires : tie.Need-whole-matrix-requires
 whole-matrix-requires c κs = search needs

@@ -1,12 +1,32 @@
 -- `key::read::order` meets its contract.
-use Rattle.key.specs.Keys.{labels}
+use Prim.Native.Nat.{ℕ, _+_, _-_}
+use mathlib.Core.Path.{_≡_, ap, _∙_}
+use native.Mathlib.Omega.{arith}
+use Rattle.base.specs.Digits.{value, digits, part}
+use Rattle.key.specs.Keys.{listPlace, labels}
 use borrow.Author.Needs.{needs}
 use Rattle.key.proofs.read.order.Statement.{statement}
 use Rattle.key.proofs.read.order.Tie as tie
 
 returns : tie.Need-returns
 unfolding labels
-returns c = c .eight .ensures
+returns c =
+    let a = c .before .before .before .args in
+    let at = listPlace (a .bits) in
+    let n : at + 3 - at ≡ 3 = omega arith in
+    c .eight .ensures ∙ ap (λ (n : ℕ). digits 8 8 (value 256 (part at n (a .file .now)))) n
 
 pub order-spec : {M : Type 1} → statement M
-order-spec = tie.close (tie.spec (λ c. search needs) (λ c. search needs) (λ c. search needs) (λ c κs. search needs) returns)
+order-spec =
+    tie.close
+    (tie.spec
+    (λ c. search needs)
+    (λ c. search needs)
+    (λ c. search needs)
+    (λ c. search needs)
+    (λ c. search needs)
+    (λ c. search needs)
+    (λ c. search needs)
+    (λ c. search needs)
+    (λ c κs. search needs)
+    returns)

@@ -8,25 +8,25 @@ use borrow.Author.Needs.{needs}
 use Rattle.key.proofs.write.all_elements.Statement.{statement}
 use Rattle.key.proofs.write.all_elements.Tie as tie
 
-first-passed : (c : tie.Else1) → elements (c .before .before .before .args .ts .now) ≡ true
+first-passed : (c : tie.Else1) → let a = c .before .before .before .args in elements (a .f) (a .ts .now) ≡ true
 first-passed c = sym (c .before .all-elements .ensures) ∙ not-false _ (c .if1 .left)
 
 returns : tie.Need-returns
 returns c =
     let a = c .before .before .before .args in
-    first-fails (elements (a .first .now)) (elements (a .second .now)) (sym (c .before .all-elements .ensures) ∙ not-true _ (c .if1 .taken))
+    first-fails (elements (a .f) (a .first .now)) (elements (a .f) (a .second .now)) (sym (c .before .all-elements .ensures) ∙ not-true _ (c .if1 .taken))
 
 returns-2 : tie.Need-returns-2
 returns-2 c =
     let a = c .before .before .before .before .before .before .args in
-    second-fails (elements (a .second .now)) (first-passed (c .before .before .before)) (sym (c .before .all-elements2 .ensures) ∙ not-true _ (c .if2 .taken))
+    second-fails (elements (a .f) (a .second .now)) (first-passed (c .before .before .before)) (sym (c .before .all-elements2 .ensures) ∙ not-true _ (c .if2 .taken))
 
 returns-3 : tie.Need-returns-3
 returns-3 c =
     let w = c .before .before in
     let a = w .before .before .before .before .before .before .args in
     c .all-elements3 .ensures
-    ∙ third-decides (elements (a .second .now)) (first-passed (w .before .before .before)) (sym (w .before .all-elements2 .ensures) ∙ not-false _ (w .if2 .left))
+    ∙ third-decides (elements (a .f) (a .second .now)) (first-passed (w .before .before .before)) (sym (w .before .all-elements2 .ensures) ∙ not-false _ (w .if2 .left))
 
 pub all-elements-spec : {M : Type 1} → statement M
 all-elements-spec =

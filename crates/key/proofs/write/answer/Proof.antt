@@ -1,24 +1,25 @@
 -- `key::write::answer` meets its contract: one question after another. `past-k`: the first k questions are passed, so
 -- the answer is that of the rest.
-use Prim.Native.Nat.{ℕ}
-use mathlib.Core.Path.{_≡_, sym, ap₂, _∙_}
+use Prim.Native.Nat.{ℕ, _≤_, _<_}
+use mathlib.Core.Path.{_≡_, sym, ap₂, _∙_, subst}
 use mathlib.Core.List.{List}
 use borrow.Author.Tests.{le-leb, lt-leb, not-true, not-false}
 use borrow.Author.Needs.{needs}
 use lib.ListN.{drop}
 use Rattle.base.specs.Questions.{Question, firstNo}
 use Rattle.base.proofs.QuestionLaws.{passes, fails}
+use Rattle.field.specs.Fields.{keyBytes}
 use Rattle.key.specs.Keys.{wholeMatrix, bothInvertible, keyWriterQuestions}
 use Rattle.key.proofs.write.answer.Statement.{statement}
 use Rattle.key.proofs.write.answer.Tie as tie
 
 -- what is left of the questions
 abbrev rest : ℕ → tie.Start → List Question
-rest k s = let a = s .args in drop k (keyWriterQuestions (a .room) (a .ts .now) (a .order .now) (a .first .now) (a .second .now))
+rest k s = let a = s .args in drop k (keyWriterQuestions (a .f) (a .room) (a .ts .now) (a .order .now) (a .first .now) (a .second .now))
 
 -- where the function was entered
 abbrev at-2 : tie.After-all-elements → tie.Start
-at-2 c = c .before .before
+at-2 c = c .before .before .before
 
 abbrev at-3 : tie.After-all-nonzero → tie.Start
 at-3 c = at-2 (c .before .before .before)
@@ -35,8 +36,11 @@ at-6 c = at-5 (c .before .before .before .before .before .before)
 abbrev Past : ℕ → tie.Start → Type 0
 Past k s = firstNo (rest 0 s) ≡ firstNo (rest k s)
 
-past-1 : (c : tie.Else1) → Past 1 (c .before)
-past-1 c = passes 16 (rest 1 (c .before)) (le-leb 83 (c .before .args .room) (c .if1 .left))
+past-1 : (c : tie.Else1) → Past 1 (c .before .before)
+past-1 c =
+    let a = c .before .before .args in
+    passes 16 (rest 1 (c .before .before))
+    (le-leb (keyBytes (a .f)) (a .room) (subst (λ (n : ℕ). n ≤ a .room) (c .before .key-bytes .ensures) (c .if1 .left)))
 
 past-2 : (c : tie.Else2) → Past 2 (at-2 (c .before))
 past-2 c = let b = c .before in past-1 (b .before) ∙ passes 17 (rest 2 (at-2 b)) (sym (b .all-elements .ensures) ∙ not-false _ (c .if2 .left))
@@ -51,7 +55,11 @@ past-5 : (c : tie.Else5) → Past 5 (at-5 (c .before))
 past-5 c = let b = c .before in past-4 (b .before .before) ∙ passes 6 (rest 5 (at-5 b)) (sym (b .is-order .ensures) ∙ not-false _ (c .if5 .left))
 
 returns : tie.Need-returns
-returns c = sym (fails 16 (rest 1 (c .before)) (lt-leb 83 (c .before .args .room) (c .if1 .taken)))
+returns c =
+    let a = c .before .before .args in
+    sym
+    (fails 16 (rest 1 (c .before .before))
+    (lt-leb (keyBytes (a .f)) (a .room) (subst (λ (n : ℕ). a .room < n) (c .before .key-bytes .ensures) (c .if1 .taken))))
 
 returns-2 : tie.Need-returns-2
 returns-2 c = let b = c .before in sym (past-1 (b .before) ∙ fails 17 (rest 2 (at-2 b)) (sym (b .all-elements .ensures) ∙ not-true _ (c .if2 .taken)))
@@ -67,9 +75,10 @@ returns-5 c = let b = c .before in sym (past-4 (b .before .before) ∙ fails 6 (
 
 -- what the test on the matrices found
 test-6 : (c : tie.After-both-invertible) → let a = at-6 c .args in
-    bothInvertible (wholeMatrix (a .first .now)) (wholeMatrix (a .second .now)) ≡ c .both-invertible .result
+    bothInvertible (a .f) (wholeMatrix (a .first .now)) (wholeMatrix (a .second .now)) ≡ c .both-invertible .result
 test-6 c =
-    sym (c .both-invertible .ensures ∙ ap₂ (λ (f s : List ℕ). bothInvertible f s) (c .before .before .before .whole-matrix .ensures) (c .before .whole-matrix2 .ensures))
+    let f = at-6 c .args .f in
+    sym (c .both-invertible .ensures ∙ ap₂ (λ (p s : List ℕ). bothInvertible f p s) (c .before .before .before .whole-matrix .ensures) (c .before .whole-matrix2 .ensures))
 
 returns-6 : tie.Need-returns-6
 returns-6 c = let b = c .before in sym (past-5 (b .before .before .before .before .before) ∙ fails 26 (rest 6 (at-6 b)) (test-6 b ∙ not-true _ (c .if6 .taken)))
@@ -82,6 +91,7 @@ pub answer-spec : {M : Type 1} → statement M
 answer-spec =
     tie.close
     (tie.spec
+    (λ c κs. search needs)
     returns
     (λ c κs. search needs)
     returns-2

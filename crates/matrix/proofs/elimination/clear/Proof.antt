@@ -4,8 +4,9 @@ use Prim.Native.Nat.{ℕ}
 use mathlib.Core.Path.{sym, ap, _∙_}
 use native.Mathlib.Omega.{arith}
 use lib.ListN.{getD}
-use Rattle.field.specs.Gf32.{gf32}
-use Rattle.field.proofs.GivesLaws.{reciprocal-any}
+use Rattle.field.specs.Fields.{operations}
+use Rattle.field.proofs.Fields.{degree}
+use Rattle.field.proofs.TableLaws.{inverse-at, reciprocals-short}
 use Rattle.matrix.specs.Layout.{entry}
 use Rattle.matrix.specs.Elimination.{invertible}
 use Rattle.matrix.proofs.SweepLaws.{clear-none, clear-some}
@@ -26,16 +27,18 @@ returns : tie.Need-returns
 unfolding entry
 returns c =
     let here = c .before .before in
-    let s = here .before .before .before in
+    let s = here .before .before .before .before in
     let m = s .args .m .now in
     let n = s .args .n in (
       s .pre .0,
-      clear-none gf32 n m (here .before .pivot-row .result) (here .before .pivot-row .ensures .0) (invertible gf32 n (entry m))
+      clear-none (operations (s .args .f)) n m (here .before .pivot-row .result) (here .before .pivot-row .ensures .0) (invertible (operations (s .args .f)) n (entry m))
           (sym (ap (λ (k : ℕ). getD m k 0) (here .place .ensures .0)) ∙ c .if1 .taken),
     )
 
-reciprocal-requires : tie.Need-reciprocal-requires
-reciprocal-requires c κs = search needs
+inverse-requires : tie.Need-inverse-requires
+inverse-requires c κs =
+    let s = c .before .before .before .before .before .before in
+    reciprocals-short (s .args .f) (s .args .inverses .now) (s .pre .2)
 
 raise-requires : tie.Need-raise-requires
 raise-requires c κs = search needs
@@ -50,12 +53,13 @@ returns-2 c =
     let divided = raised .before .before in
     let kept = divided .before in
     let here = kept .before .before in
-    let s = here .before .before .before in
+    let s = here .before .before .before .before in
     let m = s .args .m .now in
     let there = ap (λ (k : ℕ). getD m k 0) (here .place .ensures .0) in (
       c .sweep .ensures .size,
-      clear-some gf32 (s .args .n) m (here .before .pivot-row .result) (here .before .pivot-row .ensures .0) (divided .reciprocal .result .value) _ _
-          (λ z. kept .if1 .left (there ∙ z)) (reciprocal-any _ (divided .reciprocal .ensures) ∙ ap (gf32 .inv) there) (raised .raise .ensures)
+      clear-some (operations (s .args .f)) (s .args .n) m (here .before .pivot-row .result) (here .before .pivot-row .ensures .0) (divided .inverse .result) _ _
+          (λ z. kept .if1 .left (there ∙ z)) (divided .inverse .ensures ∙ inverse-at (degree (s .args .f)) (s .args .inverses .now) (s .pre .2) _ ∙ ap (operations (s .args .f) .inv) there)
+          (raised .raise .ensures)
           (c .sweep .ensures) (omega arith),
     )
 
@@ -67,7 +71,7 @@ clear-spec =
     place-requires
     element-copy-out-x
     returns
-    reciprocal-requires
+    inverse-requires
     raise-requires
     sweep-requires
     returns-2)

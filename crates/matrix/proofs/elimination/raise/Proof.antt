@@ -3,7 +3,7 @@ use Prim.Native.Nat.{_+_, _-_, _≤_}
 use mathlib.Core.Path.{_≡_}
 use native.Mathlib.Omega.{arith}
 use borrow.Author.Needs.{needs}
-use Rattle.field.specs.Gf32.{gf32}
+use Rattle.field.specs.Fields.{operations}
 use Rattle.matrix.specs.Layout.{entry}
 use Rattle.matrix.specs.Sweeping.{Raised}
 use Rattle.matrix.proofs.SweepLaws.{raised-start, raised-next}
@@ -11,13 +11,13 @@ use Rattle.matrix.proofs.elimination.raise.Statement.{statement}
 use Rattle.matrix.proofs.elimination.raise.Tie as tie
 
 abbrev Inv-loop : tie.InvT-loop
-Inv-loop m₀ table p n q j₀ m j = (j ≤ n + 1) × Raised gf32 q n p j m₀ m
+Inv-loop m₀ table p n q f j₀ m j = (j ≤ n + 1) × Raised (operations f) q n p j m₀ m
 
 abbrev μ-loop : tie.MeasureT-loop
-μ-loop m₀ table p n q j₀ m j = n + 1 - j
+μ-loop m₀ table p n q f j₀ m j = n + 1 - j
 
 loop-holds : tie.Need-loop-holds Inv-loop μ-loop
-loop-holds c = let a = c .args in (omega arith, raised-start gf32 (a .q) (a .n) (a .p) (a .m .now) (c .pre .0))
+loop-holds c = let a = c .args in (omega arith, raised-start (operations (a .f)) (a .q) (a .n) (a .p) (a .m .now) (c .pre .0))
 
 place-requires : tie.Need-place-requires Inv-loop μ-loop
 place-requires c κs = (omega arith, omega arith)
@@ -54,7 +54,7 @@ loop-again c =
     let a = b .before .before .before .before .args in (
       omega arith,
       rw (c .times .ensures, b .before .place .ensures .0, b .place2 .ensures .0)
-          (raised-next gf32 (a .q) (a .n) (a .p) (l .j) (a .m .now) (l .m) (omega arith) (omega arith) (omega arith) (l .inv .1)),
+          (raised-next (operations (a .f)) (a .q) (a .n) (a .p) (l .j) (a .m .now) (l .m) (omega arith) (omega arith) (omega arith) (l .inv .1)),
     )
 
 returns : tie.Need-returns Inv-loop μ-loop

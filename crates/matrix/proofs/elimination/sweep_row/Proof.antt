@@ -3,7 +3,7 @@ use Prim.Native.Nat.{_-_, _≤_}
 use mathlib.Core.Path.{_≡_}
 use native.Mathlib.Omega.{arith}
 use borrow.Author.Needs.{needs}
-use Rattle.field.specs.Gf32.{gf32}
+use Rattle.field.specs.Fields.{operations}
 use Rattle.matrix.specs.Layout.{entry}
 use Rattle.matrix.specs.Sweeping.{RowSwept}
 use Rattle.matrix.proofs.SweepLaws.{row-start, row-next}
@@ -11,10 +11,10 @@ use Rattle.matrix.proofs.elimination.sweep_row.Statement.{statement}
 use Rattle.matrix.proofs.elimination.sweep_row.Tie as tie
 
 abbrev Inv-loop : tie.InvT-loop
-Inv-loop m₀ table i n x j₀ m j = (j ≤ n) × RowSwept gf32 n i j m₀ m
+Inv-loop m₀ table i n f x j₀ m j = (j ≤ n) × RowSwept (operations f) n i j m₀ m
 
 abbrev μ-loop : tie.MeasureT-loop
-μ-loop m₀ table i n x j₀ m j = n - j
+μ-loop m₀ table i n f x j₀ m j = n - j
 
 place-requires : tie.Need-place-requires Inv-loop μ-loop
 place-requires c κs = (omega arith, omega arith)
@@ -23,7 +23,7 @@ element-copy-out-x : tie.Need-element-copy-out-x Inv-loop μ-loop
 element-copy-out-x c = omega arith
 
 loop-holds : tie.Need-loop-holds Inv-loop μ-loop
-loop-holds c = let s = c .before .before in (omega arith, row-start gf32 (s .args .n) (s .args .i) (s .args .m .now) (s .pre .0))
+loop-holds c = let s = c .before .before in (omega arith, row-start (operations (s .args .f)) (s .args .n) (s .args .i) (s .args .m .now) (s .pre .0))
 
 place-requires-2 : tie.Need-place-requires-2 Inv-loop μ-loop
 place-requires-2 c κs = (omega arith, omega arith)
@@ -58,7 +58,7 @@ loop-again c =
     let a = s .before .args in (
       omega arith,
       rw (c .times .ensures, s .place .ensures .0, b .before .place2 .ensures .0, b .place3 .ensures .0)
-          (row-next gf32 (a .n) (a .i) (l .j) (a .m .now) (l .m) (omega arith) (omega arith) (omega arith) (l .inv .1)),
+          (row-next (operations (a .f)) (a .n) (a .i) (l .j) (a .m .now) (l .m) (omega arith) (omega arith) (omega arith) (l .inv .1)),
     )
 
 returns : tie.Need-returns Inv-loop μ-loop

@@ -5,7 +5,8 @@ use mathlib.Core.List.{List}
 use native.Mathlib.Omega.{arith}
 use borrow.Author.Needs.{needs}
 use lib.ListN.{getD}
-use Rattle.field.specs.Gf32.{gf32}
+use Rattle.field.specs.Fields.{operations}
+use Rattle.field.specs.declared.Field.{Field}
 use Rattle.matrix.specs.Layout.{entry}
 use Rattle.matrix.specs.Product.{sum}
 use Rattle.matrix.proofs.SumLaws.{sum-next}
@@ -13,15 +14,15 @@ use Rattle.matrix.proofs.product.dot.Statement.{statement}
 use Rattle.matrix.proofs.product.dot.Tie as tie
 
 -- the products of a row and a column
-abbrev terms : List ℕ → List ℕ → ℕ → ℕ → ℕ → ℕ
-terms a b row column = λ j. gf32 .mul (entry a row j) (entry b j column)
+abbrev terms : Field → List ℕ → List ℕ → ℕ → ℕ → ℕ → ℕ
+terms f a b row column = λ j. operations f .mul (entry a row j) (entry b j column)
 
 abbrev Inv-loop : tie.InvT-loop
-Inv-loop table a b row column total₀ k₀ total k =
-    (k ≤ 8) × (total ≡ sum gf32 (terms a b row column) k)
+Inv-loop table a b row column f total₀ k₀ total k =
+    (k ≤ 8) × (total ≡ sum (operations f) (terms f a b row column) k)
 
 abbrev μ-loop : tie.MeasureT-loop
-μ-loop table a b row column total₀ k₀ total k = 8 - k
+μ-loop table a b row column f total₀ k₀ total k = 8 - k
 
 loop-holds : tie.Need-loop-holds Inv-loop μ-loop
 unfolding sum
@@ -54,11 +55,11 @@ loop-again c =
     let l = c .before .before .before .before .before .before .loop in
     let a = c .before .before .before .before .before .before .before .args in (
       omega arith,
-      ap₂ (gf32 .add) (l .inv .1)
+      ap₂ (operations (a .f) .add) (l .inv .1)
           (c .times .ensures
-          ∙ ap₂ (λ (p q : ℕ). gf32 .mul (getD (a .a .now) p 0) (getD (a .b .now) q 0)) (c .before .before .before .before .place .ensures .0)
+          ∙ ap₂ (λ (p q : ℕ). operations (a .f) .mul (getD (a .a .now) p 0) (getD (a .b .now) q 0)) (c .before .before .before .before .place .ensures .0)
           (c .before .before .place2 .ensures .0))
-          ∙ sym (sum-next gf32 (terms (a .a .now) (a .b .now) (a .row) (a .column)) (l .k)),
+          ∙ sym (sum-next (operations (a .f)) (terms (a .f) (a .a .now) (a .b .now) (a .row) (a .column)) (l .k)),
     )
 
 returns : tie.Need-returns Inv-loop μ-loop
@@ -66,7 +67,7 @@ returns c =
     let l = c .before .loop in
     let a = c .before .before .args in
     let e : l .k ≡ 8 = omega arith in
-    l .inv .1 ∙ ap (sum gf32 (terms (a .a .now) (a .b .now) (a .row) (a .column))) e
+    l .inv .1 ∙ ap (sum (operations (a .f)) (terms (a .f) (a .a .now) (a .b .now) (a .row) (a .column))) e
 
 pub dot-spec : {M : Type 1} → statement M
 dot-spec =

@@ -10,10 +10,12 @@ use lib.ListN.{length}
 use Rattle.base.specs.Questions.{firstNo}
 use Rattle.base.proofs.ListLaws.{and-left}
 use Rattle.base.proofs.QuestionLaws.{fails, refused-there, granted-zero}
-use Rattle.field.specs.Gf32.{gf32}
+use Rattle.field.specs.Fields.{operations}
+use Rattle.field.specs.declared.Field.{Field}
 use Rattle.braid.specs.Words.{codes, wordQuestions, wordAnswer}
 use Rattle.key.specs.declared.Key.{Key}
-use Rattle.key.specs.Keys.{keyQuestions, keyAnswer}
+use Rattle.key.specs.Keys.{keyQuestions, keyAnswer, keyOf}
+use Rattle.key.proofs.KeyFacts.{key-field}
 use Rattle.verify.specs.Cloaking.{comesBack, cloakQuestions}
 use Rattle.verify.proofs.CloakLaws.{isList, afterKey, past-key, past-list, refused, answered}
 use borrow.Author.Needs.{needs}
@@ -87,7 +89,8 @@ returns-4 c =
     let s = at-3 e in
     let key-is = k .before .read-key .ensures .key-is ∙ granted-zero _ _ (key-passed k) in
     answered (key s) (order s) (word s) (past-2 l ∙ word-passed e)
-    (c .comes-back .ensures ∙ ap (λ (q : Key). comesBack gf32 (q .«t_values») (order s) (codes (word s))) key-is)
+    (c .comes-back .ensures ∙ ap (λ (q : Key). comesBack (operations (q .field)) (q .«t_values») (order s) (codes (word s))) key-is
+    ∙ ap (λ (f : Field). comesBack (operations f) (keyOf (key s) .«t_values») (order s) (codes (word s))) (key-field (key s)))
 
 pub cloaks-spec : {M : Type 1} → statement M
 cloaks-spec =

@@ -3,7 +3,7 @@ use mathlib.Core.Path.{_≡_, sym, ap, _∙_}
 use mathlib.Core.Bool.{Bool, _&&_}
 use borrow.Author.Tests.{not-true, not-false}
 use Rattle.base.specs.Lists.{equal}
-use Rattle.field.specs.Gf32.{gf32}
+use Rattle.field.specs.Fields.{operations}
 use Rattle.braid.specs.Words.{codes}
 use Rattle.action.specs.Action.{wordOn}
 use Rattle.verify.specs.Cloaking.{comesBack}
@@ -21,13 +21,13 @@ module _ (e : tie.After-equal) where
   t = k .before .before .before .before
 
   comes : {b : Bool} → e .equal .result ≡ b → let a = t .before .before .before .args in
-      comesBack gf32 (a .t-values .now) (a .labels .now) (codes (a .word .now))
+      comesBack (operations (a .f)) (a .t-values .now) (a .labels .now) (codes (a .word .now))
       ≡ (b && equal (k .carried .result .labels) (a .labels .now))
   comes h =
       let a = t .before .before .before .args in
-      back gf32 (a .t-values .now) (a .labels .now) (codes (a .word .now)) (k .before .before .eight .result) (t .start .result) (k .carried .result)
+      back (operations (a .f)) (a .t-values .now) (a .labels .now) (codes (a .word .now)) (k .before .before .eight .result) (t .start .result) (k .carried .result)
       (t .start .ensures) (k .before .before .eight .ensures)
-      (k .carried .ensures ∙ ap (wordOn gf32 (a .t-values .now) (codes (a .word .now))) (k .before .with .ensures)) (sym h ∙ e .equal .ensures)
+      (k .carried .ensures ∙ ap (wordOn (operations (a .f)) (a .t-values .now) (codes (a .word .now))) (k .before .with .ensures)) (sym h ∙ e .equal .ensures)
 
 returns : tie.Need-returns
 returns c = sym (comes (c .before) (not-true _ (c .if1 .taken)))

@@ -6,7 +6,7 @@ use native.Mathlib.Omega.{arith}
 use lib.ListN.{getD}
 use lib.Seq.{length-take-le}
 use Rattle.base.specs.Lists.{every}
-use Rattle.field.specs.Gf32.{gf32}
+use Rattle.field.specs.Fields.{operations}
 use Rattle.braid.specs.Letters.{isLetter}
 use Rattle.action.specs.declared.Pair.{Pair}
 use Rattle.action.specs.Action.{wordOn}
@@ -36,7 +36,7 @@ returns c =
     let e = t .before .before in
     let a = e .before .before .before .args in
     ap (λ (p : Pair). p .matrix)
-    (k .carry-letters .ensures ∙ ap₂ (λ (w : List ℕ) (p : Pair). wordOn gf32 (a .t-values .now) w p) (e .encode-into .ensures .1) (t .start .ensures))
+    (k .carry-letters .ensures ∙ ap₂ (λ (w : List ℕ) (p : Pair). wordOn (operations (a .f)) (a .t-values .now) w p) (e .encode-into .ensures .1) (t .start .ensures))
 
 pub digest-matrix-spec : {M : Type 1} → statement M
 digest-matrix-spec =

@@ -2,7 +2,6 @@
 use mathlib.Core.Path.{_≡_, sym, ap, _∙_}
 use mathlib.Core.Bool.{Bool, cond}
 use Rattle.base.specs.Lists.{equal}
-use Rattle.field.specs.Gf32.{gf32}
 use Rattle.braid.specs.Words.{codes}
 use Rattle.verify.specs.Verdict.{signed, target}
 use Rattle.verify.proofs.VerdictLaws.{signed-is, sides}
@@ -18,15 +17,15 @@ start c = start-carried (c .before .before .before .before .before .before .befo
 
 -- the comparison is that of the two sides
 compared : (e : tie.After-equal) → let a = start e .args in
-    e .equal .result ≡ equal (signed gf32 (a .held) (codes (a .word .now))) (target gf32 (a .held) (a .digest .now))
+    e .equal .result ≡ equal (signed (a .held) (codes (a .word .now))) (target (a .held) (a .digest .now))
 compared e =
     let x = e .before .before .before in
     let f = x .before .before .before in
     let k = f .before .before .before in
     let a = start e .args in
     e .equal .ensures
-    ∙ sides gf32 (a .held) (codes (a .word .now)) (a .digest .now) (k .carried .result .matrix) (f .digest-matrix .result) (x .matrix-product .result)
-    (signed-is gf32 (a .held) (codes (a .word .now)) (k .carried .result) (k .carried .ensures)) (f .digest-matrix .ensures) (x .matrix-product .ensures)
+    ∙ sides (a .held) (codes (a .word .now)) (a .digest .now) (k .carried .result .matrix) (f .digest-matrix .result) (x .matrix-product .result)
+    (signed-is (a .held) (codes (a .word .now)) (k .carried .result) (k .carried .ensures)) (f .digest-matrix .ensures) (x .matrix-product .ensures)
 
 returns : tie.Need-returns
 returns c = ap (λ (b : Bool). cond b 0 14) (sym (c .if1 .taken) ∙ compared (c .before))

@@ -3,7 +3,7 @@
 use Prim.Native.Nat.{ℕ}
 use mathlib.Core.Path.{ap, _∙_}
 use mathlib.Core.List.{List}
-use Rattle.field.specs.Gf32.{gf32}
+use Rattle.field.specs.Fields.{operations}
 use Rattle.braid.specs.Words.{codes}
 use Rattle.braid.proofs.ReadLaws.{accepted-word}
 use Rattle.braid.proofs.ReducerLaws.{part-codes}
@@ -22,8 +22,8 @@ returns c =
     let a = s .args in
     let f = a .file .now in
     c .carry .ensures
-    ∙ ap (λ (w : List ℕ). codesOn gf32 (a .t-values .now) w (a .pair)) (part-codes f (s .pre .0) (a .n) (s .pre .1))
-    ∙ codes-word gf32 (a .t-values .now) (codes f) (a .pair) (accepted-word f (s .pre .0) .lettered)
+    ∙ ap (λ (w : List ℕ). codesOn (operations (a .f)) (a .t-values .now) w (a .pair)) (part-codes f (s .pre .0) (a .n) (s .pre .1))
+    ∙ codes-word (operations (a .f)) (a .t-values .now) (codes f) (a .pair) (accepted-word f (s .pre .0) .lettered)
 
 pub carried-spec : {M : Type 1} → statement M
 carried-spec = tie.close (tie.spec long-enough long-enough (λ c. search needs) (λ c κs. search needs) returns)

@@ -1,0 +1,52 @@
+// Products and reciprocals in any field of polynomials whose elements are bytes, by what is lent of the field.
+ghost use mathlib.Core.Path.{_≡_};
+ghost use mathlib.Core.List.{_∷_};
+ghost use Prim.Native.Nat.{suc, _%_, _^_, _<_, _≤_};
+ghost use lib.ListN.{length, getD};
+ghost use Rattle.field.specs.Polynomial.{Degree, timesX, times};
+
+// x times a: where the degree reaches the polynomial's, the polynomial is taken away.
+pub fn times_x(a: u64, bits: usize, modulus: u64) -> u64
+    requires { ⌜ Degree bits modulus × (bits ≤ 8) × (a < 2 ^ bits) ⌝ }
+    ensures { λ r. ⌜ (r ≡ timesX bits modulus a) × (r < 2 ^ bits) ⌝ }
+{
+    let doubled = a * 2;
+    let top = doubled >> bits;
+    doubled ^ (top * modulus)
+}
+
+// The low bits of a number.
+fn low(a: u8, bits: usize) -> u64
+    requires { ⌜ bits ≤ 8 ⌝ }
+    ensures { λ r. ⌜ r ≡ a % 2 ^ bits ⌝ }
+{
+    let size: u64 = 1 << bits;
+    (a as u64) & (size - 1)
+}
+
+// A product, by the bits of b, the lowest first. Factors count by their low bits.
+pub fn times(a: u8, b: u8, bits: usize, modulus: u64) -> u8
+    requires { ⌜ Degree bits modulus × (bits ≤ 8) ⌝ }
+    ensures { λ r. ⌜ r ≡ times bits modulus a b ⌝ }
+{
+    let mut total: u64 = 0;
+    let mut t = low(a, bits);
+    let mut rest = b as u64;
+    let mut i = 0;
+    while i < bits {
+        total = total ^ (rest % 2 * t);
+        t = times_x(t, bits, modulus);
+        rest = rest / 2;
+        i += 1;
+    }
+    total as u8
+}
+
+// A reciprocal by the lent table, whose entry a - 1 is that of a; 0 for zero. A number counts by its low bits.
+pub fn inverse(a: u8, table: &[u8]) -> u8
+    requires { ⌜ length (now table) < 256 ⌝ }
+    ensures { λ r. ⌜ r ≡ getD (0 ∷ now (table .entry)) (a % suc (length (now (table .entry)))) 0 ⌝ }
+{
+    let at = (a as usize) % (table.len() + 1);
+    if at == 0 { 0 } else { table[at - 1] }
+}

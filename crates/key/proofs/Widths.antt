@@ -1,0 +1,81 @@
+-- The two widths of an element, 5 bits and 8, and the two lengths of a key file: each field's own, and the field that
+-- goes with a length.
+use Prim.Native.Nat.{ℕ}
+use mathlib.Core.Path.{_≡_, refl, sym, ap, _∙_, subst}
+use mathlib.Core.Bool.{Bool, true, false, cond, _||_, false≢true}
+use mathlib.Core.List.{List}
+use native.Mathlib.Omega.{arith}
+use borrow.Author.Tests.{eqb-true}
+use lib.Dec.{eqb}
+use lib.ListN.{length}
+use Rattle.field.specs.Fields.{bits, keyBytes}
+use Rattle.field.specs.declared.Field.{Field}
+use Rattle.field.specs.declared.Field.the-variants.{Gf32, Gf256}
+use Rattle.key.specs.Keys.{keyField}
+use Rattle.key.specs.Parts.{Width, fileBytes}
+
+-- eight elements go into as many bytes as one has bits, 57 and the filler into a matrix's
+pub width : (f : Field) → Width (bits f)
+width Gf32 =
+    record {
+      narrow = omega arith;
+      a-byte = omega arith;
+      filler-below = omega arith;
+      positive = omega arith;
+      filler-positive = omega arith;
+      last-byte = refl;
+      eight = refl;
+      fits = omega arith;
+      matrix = refl;
+    }
+width Gf256 =
+    record {
+      narrow = omega arith;
+      a-byte = omega arith;
+      filler-below = omega arith;
+      positive = omega arith;
+      filler-positive = omega arith;
+      last-byte = refl;
+      eight = refl;
+      fits = omega arith;
+      matrix = refl;
+    }
+
+-- the bytes of a file, by the bits of an element
+pub file-bytes : (f : Field) → fileBytes (bits f) ≡ keyBytes f
+file-bytes Gf32 = refl
+file-bytes Gf256 = refl
+
+-- the same of a number that is a field's bits
+pub told-width : (f : Field) {b : ℕ} → b ≡ bits f → Width b
+told-width f e = subst Width (sym e) (width f)
+
+pub told-bytes : (f : Field) {b n : ℕ} → b ≡ bits f → n ≡ keyBytes f → n ≡ fileBytes b
+told-bytes f e l = l ∙ sym (file-bytes f) ∙ ap (λ (b : ℕ). fileBytes b) (sym e)
+
+-- a file of a field's length is a file over this field
+by-length : (f : Field) → cond (eqb (keyBytes f) (keyBytes Gf256)) Gf256 Gf32 ≡ f
+by-length Gf32 = refl
+by-length Gf256 = refl
+
+pub field-of-length : (f : Field) (file : List ℕ) → length file ≡ keyBytes f → keyField file ≡ f
+unfolding keyField
+field-of-length f file e = ap (λ (n : ℕ). cond (eqb n (keyBytes Gf256)) Gf256 Gf32) e ∙ by-length f
+
+-- question 1 is passed by just these lengths
+abbrev pub eitherLength : ℕ → Bool
+eitherLength n = eqb n (keyBytes Gf32) || eqb n (keyBytes Gf256)
+
+pub length-passes : (f : Field) → eitherLength (keyBytes f) ≡ true
+length-passes Gf32 = refl
+length-passes Gf256 = refl
+
+pub own-length : (file : List ℕ) → eitherLength (length file) ≡ true → length file ≡ keyBytes (keyField file)
+unfolding keyField
+own-length file e = told (eqb (length file) (keyBytes Gf32)) (eqb (length file) (keyBytes Gf256)) refl refl e
+  where
+    told : (s t : Bool) → eqb (length file) (keyBytes Gf32) ≡ s → eqb (length file) (keyBytes Gf256) ≡ t → s || t ≡ true
+        → length file ≡ keyBytes (cond t Gf256 Gf32)
+    told s true p q h = eqb-true (length file) (keyBytes Gf256) q
+    told true false p q h = eqb-true (length file) (keyBytes Gf32) p
+    told false false p q h = absurd (false≢true h)

@@ -1,0 +1,33 @@
+// What differs between the key files of the two fields: the bits of an element, and the bytes of a file.
+use field::Field;
+ghost use mathlib.Core.Path.{_≡_};
+ghost use Prim.Native.Nat.{_^_, _≤_};
+ghost use Rattle.field.specs.Fields.{bits, keyBytes};
+
+// The bits of an element.
+pub(crate) fn bits_of(f: Field) -> usize
+    ensures { λ r. ⌜ r ≡ bits f ⌝ }
+{
+    match f {
+        Field::Gf32 => field::SMALL_BITS,
+        Field::Gf256 => field::LARGE_BITS,
+    }
+}
+
+// The bytes of a key file.
+pub(crate) fn key_bytes(f: Field) -> usize
+    ensures { λ r. ⌜ r ≡ keyBytes f ⌝ }
+{
+    match f {
+        Field::Gf32 => 83,
+        Field::Gf256 => 128,
+    }
+}
+
+// How many numbers n bits write.
+pub(crate) fn power(n: usize) -> u64
+    requires { ⌜ n ≤ 8 ⌝ }
+    ensures { λ r. ⌜ r ≡ 2 ^ n ⌝ }
+{
+    1 << n
+}

@@ -1,0 +1,13 @@
+-- Products by logarithms: what a table that is lent to loops gives.
+use Prim.Native.Nat.{ℕ, _+_, _<_, _≤_}
+use mathlib.Core.Path.{_≡_}
+use mathlib.Core.List.{List}
+use lib.ListN.{getD}
+use Rattle.field.specs.Fields.{operations}
+use Rattle.field.specs.declared.Field.{Field}
+
+-- the product of two bytes stands at 256 and the two entries of the bytes; what stands from 256 on are bytes
+pub record ProductsBy (f : Field) (table : List ℕ) : Type 0 where
+  pub near : (a : ℕ) → a < 256 → getD table a 0 < 512
+  pub byte : (k : ℕ) → 256 ≤ k → getD table k 0 < 256
+  pub product : (a b : ℕ) → a < 256 → b < 256 → getD table (256 + getD table a 0 + getD table b 0) 0 ≡ operations f .mul a b

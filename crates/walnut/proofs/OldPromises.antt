@@ -1,0 +1,50 @@
+-- Old promises are instances: the operations that now name a field ask, over GF(32), what they did when there was no
+-- other, with 32 and the polynomial spelled; the encoder alone, of a digest that has not 64 bytes. Of keys, verdicts,
+-- cloaking and the desk: OldKeys in key, OldSlips in verify, old-input in desk_line.
+use Prim.Native.Nat.{ℕ}
+use mathlib.Core.Path.{_≡_, refl, ap, _∙_}
+use mathlib.Core.Bool.{Bool, true, false, not, _&&_, _||_}
+use mathlib.Core.List.{List, [], _∷_}
+use borrow.Author.Tests.{ne-eqb}
+use lib.Dec.{ltb, eqb}
+use lib.ListN.{length}
+use Rattle.base.specs.Questions.{_else_, firstNo}
+use Rattle.base.specs.Lists.{every}
+use Rattle.field.specs.Polynomial.{polynomials}
+use Rattle.field.specs.Fields.{operations}
+use Rattle.field.specs.Elements.{productQuestions, reciprocalQuestions}
+use Rattle.field.specs.declared.Field.the-variants.{Gf32}
+use Rattle.braid.specs.Letters.{isLetter}
+use Rattle.braid.specs.Strands.{isOrder}
+use Rattle.braid.specs.Words.{roomQuestion}
+use Rattle.action.specs.declared.Pair.{Pair}
+use Rattle.action.specs.Multiplier.{multiplierQuestions}
+use Rattle.digest.specs.Digest.{encoderQuestions}
+
+pub old-field : operations Gf32 ≡ polynomials 5 0b100101
+old-field = refl
+
+pub old-product : (a b : ℕ) → productQuestions Gf32 a b ≡ (ltb a 32 else 17) ∷ (ltb b 32 else 17) ∷ []
+old-product a b = refl
+
+pub old-reciprocal : (a : ℕ) → reciprocalQuestions Gf32 a ≡ (ltb a 32 else 17) ∷ (not (eqb a 0) else 4) ∷ []
+old-reciprocal a = refl
+
+pub old-multiplier : (p : Pair) (ts : List ℕ) (c : ℕ)
+    → multiplierQuestions Gf32 p ts c
+    ≡ (every (λ x. ltb x 32) ts && every (λ x. ltb x 32) (p .matrix) else 17)
+    ∷ (every (λ t. not (eqb t 0)) ts else 4)
+    ∷ (isOrder (p .labels) else 6)
+    ∷ (isLetter c else 12)
+    ∷ []
+old-multiplier p ts c = refl
+
+or-false : (b : Bool) → b || false ≡ b
+or-false true = refl
+or-false false = refl
+
+pub old-encoder : (room : ℕ) (digest : List ℕ) → (length digest ≡ 64 → ⊥)
+    → firstNo (encoderQuestions room digest) ≡ firstNo (roomQuestion room ∷ (eqb (length digest) 32 else 8) ∷ [])
+old-encoder room digest h =
+    ap (λ (b : Bool). firstNo (roomQuestion room ∷ (b else 8) ∷ []))
+    (ap (λ (b : Bool). eqb (length digest) 32 || b) (ne-eqb (length digest) 64 h) ∙ or-false (eqb (length digest) 32))
