@@ -1,4 +1,4 @@
-/* The verdict, cloaking, the rewriter and free reduction in plain C, as one would write them by hand: for the library's times to stand beside. */
+/* The key reader, the verdict, cloaking, the rewriter and free reduction in plain C, as one would write them by hand: for the library's times to stand beside. */
 #include <stdbool.h>
 #include <stddef.h>
 #include <stdint.h>
@@ -297,6 +297,13 @@ static void matrix_product(const field *f, const uint8_t *a, const uint8_t *b, u
                 sum ^= f->products[(size_t)a[8 * r + k] << f->bits | b[8 * k + c]];
             out[8 * r + c] = sum;
         }
+}
+
+/* The answer; the key is left in what is held. */
+uint8_t plain_read_key(const uint8_t *file, size_t n)
+{
+    static key held;
+    return read_key(file, n, &held);
 }
 
 uint8_t plain_verify(const uint8_t *file, size_t kn, const uint8_t *digest, size_t dn, const uint8_t *word, size_t wn)

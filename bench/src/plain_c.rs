@@ -2,6 +2,7 @@
 
 extern "C" {
     fn plain_tables();
+    fn plain_read_key(file: *const u8, n: usize) -> u8;
     fn plain_verify(
         key: *const u8,
         kn: usize,
@@ -36,6 +37,11 @@ extern "C" {
 pub fn tables() {
     // SAFETY: see above.
     unsafe { plain_tables() }
+}
+
+pub fn read_key(file: &[u8]) -> u8 {
+    // SAFETY: see above.
+    unsafe { plain_read_key(file.as_ptr(), file.len()) }
 }
 
 pub fn verify(key: &[u8], digest: &[u8], word: &[u8]) -> u8 {

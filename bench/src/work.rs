@@ -1,5 +1,7 @@
 //! What is timed: the same inputs for the library, for plain Rust and for plain C.
 
+use std::hint::black_box;
+
 use reference::pair::carried;
 use reference::rewrite::Move;
 use reference::start;
@@ -26,6 +28,9 @@ const LONGEST: usize = 10_000;
 const REWRITTEN: usize = 5_000;
 const MOVES: usize = 4_096;
 
+/// The keys that are read in one piece of work.
+const KEYS: usize = 100;
+
 /// Who does the work.
 #[derive(Clone, Copy, PartialEq, Eq)]
 pub enum Who {
@@ -42,6 +47,7 @@ pub enum Work {
     Cloaking { key: Vec<u8>, word: Vec<u8>, by_columns: bool },
     Rewriting { word: Vec<u8>, moves: Vec<u8> },
     Reduction { word: Vec<u8> },
+    Keys(Vec<Vec<u8>>),
 }
 
 /// What came of it: an answer or a number, and the bytes written.
@@ -66,6 +72,15 @@ fn cloaking_number(answer: Result<bool, u8>) -> u32 {
     match answer {
         Ok(yes) => u32::from(yes),
         Err(refusal) => 256 + u32::from(refusal),
+    }
+}
+
+/// The answer of reading a key.
+fn key_answer(file: &[u8], who: Who) -> u32 {
+    match who {
+        Who::Library => number(black_box(walnut::read_key(file)).map(|_| ()).map_err(Refusal::number)),
+        Who::Rust => number(plain::read(file)),
+        Who::C => u32::from(plain_c::read_key(file)),
     }
 }
 
@@ -105,6 +120,7 @@ impl Work {
             }
             (Work::Reduction { word }, Who::Rust) => (0, plain::free_reduce(word, out).unwrap_or(0)),
             (Work::Reduction { word }, Who::C) => (0, plain_c::free_reduce(word, out)),
+            (Work::Keys(files), who) => (files.iter().map(|file| key_answer(file, who)).sum(), 0),
         }
     }
 
@@ -141,6 +157,22 @@ fn cloaking(random: &mut Random, field: Field, by_columns: bool) -> Work {
     Work::Cloaking { key: accepted(random, field, &[]).key, word: word_file(&codes), by_columns }
 }
 
+/// Keys as keys are made.
+fn keys(random: &mut Random, field: Field) -> Work {
+    Work::Keys((0..KEYS).map(|_| accepted(random, field, &[]).key).collect())
+}
+
+/// Keys of the smaller field with both matrices zero: the first elimination ends at its first column.
+fn zero_keys(random: &mut Random) -> Work {
+    let blank = |_| {
+        let mut key = accepted(random, Field::Gf32, &[]).key;
+        key[8..44].fill(0);
+        key[47..].fill(0);
+        key
+    };
+    Work::Keys((0..KEYS).map(blank).collect())
+}
+
 /// 4,096 moves of all kinds, each possible on the word that the last one left.
 fn rewriting(random: &mut Random) -> Work {
     let codes = random.tangled_word(REWRITTEN);
@@ -168,7 +200,7 @@ fn reduction(random: &mut Random, letters: usize) -> Work {
 }
 
 /// How many cases there are.
-pub const CASES: usize = 12;
+pub const CASES: usize = 15;
 
 /// The case of a number, the same in every run.
 pub fn case(number: usize) -> Case {
@@ -188,7 +220,10 @@ pub fn case(number: usize) -> Case {
         8 => ("rewriter, no letters", 1, by_turns(0, 0)),
         9 => ("rewriter, no moves", 1, no_moves(random, LONGEST - 2)),
         10 => ("free reduction", 1, reduction(random, LONGEST - 2)),
-        _ => ("a letter, C by columns too", LONGEST, cloaking(random, small, true)),
+        11 => ("a letter, C by columns too", LONGEST, cloaking(random, small, true)),
+        12 => ("a key read", KEYS, keys(random, small)),
+        13 => ("a key of zeros refused", KEYS, zero_keys(random)),
+        _ => ("256: a key read", KEYS, keys(random, large)),
     };
     Case { name, parts, work }
 }

@@ -1,4 +1,4 @@
-// Text on standard output: numbers in decimal, bytes in hexadecimal.
+// Text on standard output: numbers in decimal, bytes in hexadecimal, and what an operation gives.
 use libc::STDOUT_FILENO;
 
 fn wide(x: u8) -> u64 {
@@ -37,4 +37,37 @@ pub fn choice(first: bool, a: &[u8], b: &[u8]) {
     } else {
         text(b);
     }
+}
+
+// A colon, and an answer.
+pub fn answer(found: u8) {
+    text(b": ");
+    io::print_decimal(STDOUT_FILENO, wide(found));
+}
+
+// An answer and bytes, to the end of the line.
+pub fn line(found: u8, bytes: &[u8]) {
+    answer(found);
+    hex(bytes);
+    text(b"\n");
+}
+
+fn is_all(bytes: &[u8], byte: u8) -> bool {
+    let mut i = 0;
+    while i < bytes.len() {
+        if bytes[i] != byte {
+            return false;
+        }
+        i += 1;
+    }
+    true
+}
+
+// The first n bytes of an output, and whether the rest of it is as it was filled, to the end of the line.
+pub fn output(out: &[u8], n: usize, fill: u8) {
+    if out.len() < n {
+        return;
+    }
+    hex(&out[0..n]);
+    choice(is_all(&out[n..], fill), b" kept\n", b" changed\n");
 }

@@ -6,10 +6,10 @@ use Rattle.examples.proofs.pairs.after.Statement.{statement}
 use Rattle.examples.proofs.pairs.after.Tie as tie
 
 abbrev Inv-loop : tie.InvT-loop
-Inv-loop codes ts last₀ i₀ last i = i ≤ length codes
+Inv-loop t-values codes last₀ i₀ last i = i ≤ length codes
 
 abbrev μ-loop : tie.MeasureT-loop
-μ-loop codes ts last₀ i₀ last i = length codes - i
+μ-loop t-values codes last₀ i₀ last i = length codes - i
 
 pub after-spec : {M : Type 1} → statement M
 after-spec =
@@ -17,8 +17,6 @@ after-spec =
     (tie.spec
     Inv-loop
     μ-loop
-    (λ c κs. search needs)
-    (λ c κs. search needs)
     (λ c. search needs)
     (λ c. search needs)
     (λ c κs. search needs)
