@@ -1,4 +1,5 @@
-/* The key reader, the verdict, cloaking, the rewriter and free reduction in plain C, as one would write them by hand: for the library's times to stand beside. */
+/* The key reader, the verdict, cloaking, the lent multiplier, the rewriter and free reduction in plain C, as one would
+   write them by hand: for the library's times to stand beside. */
 #include <stdbool.h>
 #include <stddef.h>
 #include <stdint.h>
@@ -112,9 +113,13 @@ static void word_on(pair *p, const field *f, const uint8_t *t_values, const uint
    entry, of bit i of every byte times t x^i, which stands in the constants. */
 static inline uint64_t times_column(const uint64_t *constants, uint64_t column, unsigned bits)
 {
-    uint64_t product = 0;
-    for (unsigned i = 0; i < bits; i++)
-        product ^= (column >> i & 0x0101010101010101) * constants[i];
+    const uint64_t ones = 0x0101010101010101;
+    uint64_t product = (column & ones) * constants[0] ^ (column >> 1 & ones) * constants[1]
+        ^ (column >> 2 & ones) * constants[2] ^ (column >> 3 & ones) * constants[3]
+        ^ (column >> 4 & ones) * constants[4];
+    if (bits == 8)
+        product ^= (column >> 5 & ones) * constants[5] ^ (column >> 6 & ones) * constants[6]
+            ^ (column >> 7 & ones) * constants[7];
     return product;
 }
 
@@ -202,7 +207,7 @@ static bool is_invertible(const field *f, const uint8_t *matrix)
         const uint8_t *scale = f->products + ((size_t)f->reciprocals[held[c]] << f->bits);
         for (uint8_t *row = own + 8; row < rows + 64; row += 8) {
             const uint8_t *factor = f->products + ((size_t)scale[row[c]] << f->bits);
-            for (unsigned i = c; i < 8; i++)
+            for (unsigned i = c + 1; i < 8; i++)
                 row[i] ^= factor[held[i]];
         }
     }
@@ -342,6 +347,29 @@ unsigned plain_cloaks(const uint8_t *file, size_t kn, const uint8_t *labels, siz
     after = before;
     (by_columns ? word_on_columns : word_on)(&after, k.over, k.t_values, word + 2, letters);
     return memcmp(&before, &after, sizeof before) == 0;
+}
+
+/* One letter on a lent pair, its matrix row by row and then its labels, with the multiplier's questions over the
+   smaller field. */
+uint8_t plain_multiply(uint8_t *lent, const uint8_t *t_values, uint8_t letter)
+{
+    pair *p = (pair *)lent;
+    rows r;
+    for (int i = 0; i < 8; i++)
+        if (t_values[i] > 31)
+            return 17;
+    for (int i = 0; i < 64; i++)
+        if (p->matrix[i] > 31)
+            return 17;
+    if (memchr(t_values, 0, 8))
+        return 4;
+    if (!is_order(p->labels))
+        return 6;
+    if (letter > 15 || (letter & 7) == 7)
+        return 12;
+    rows_of(&small, t_values, &r);
+    letter_on(p, &r, letter);
+    return 0;
 }
 
 /* One move on n codes; gives the answer, and leaves the new number of letters. */

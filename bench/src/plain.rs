@@ -1,5 +1,5 @@
-//! The key reader, the verdict, cloaking, the rewriter and free reduction in plain Rust, as one would write them by hand: for the
-//! library's times to stand beside.
+//! The key reader, the verdict, cloaking, the lent multiplier, the rewriter and free reduction in plain Rust, as one
+//! would write them by hand: for the library's times to stand beside.
 
 use std::hint::black_box;
 
@@ -102,6 +102,32 @@ impl Pair {
 /// A row of the table for each label.
 type Rows<'a, const SIZE: usize> = [&'a [u8; SIZE]; 8];
 
+/// One letter on a lent pair, its matrix row by row and then its labels, with the multiplier's questions over
+/// the smaller field.
+pub fn multiply(lent: &mut [u8; 72], t_values: &Eight, letter: u8) -> Result<(), u8> {
+    let (entries, labels) = lent.split_at(64);
+    if t_values.iter().chain(entries).any(|number| *number > 31) {
+        return Err(17);
+    }
+    if t_values.contains(&0) {
+        return Err(4);
+    }
+    if !is_order(labels) {
+        return Err(6);
+    }
+    if letter > 15 || letter & 7 == 7 {
+        return Err(12);
+    }
+    let rows = std::array::from_fn(|row| std::array::from_fn(|column| entries[8 * row + column]));
+    let mut pair = Pair { matrix: rows, labels: std::array::from_fn(|place| labels[place]) };
+    let values = t_values.map(|value| SMALL.row(value));
+    let inverses = t_values.map(|value| SMALL.row(SMALL.reciprocal(value)));
+    pair.letter(&values, &inverses, letter);
+    lent[..64].copy_from_slice(pair.matrix.as_flattened());
+    lent[64..].copy_from_slice(&pair.labels);
+    Ok(())
+}
+
 struct Key {
     t_values: Eight,
     pair: Pair,
@@ -137,7 +163,7 @@ fn is_invertible<const SIZE: usize>(table: &Table<SIZE>, mut matrix: Matrix) -> 
         let scale = table.row(table.reciprocal(pivot[column]));
         for row in &mut matrix[column + 1..] {
             let factor = table.row(scale[usize::from(row[column])]);
-            for place in column..8 {
+            for place in column + 1..8 {
                 row[place] ^= factor[usize::from(pivot[place])];
             }
         }

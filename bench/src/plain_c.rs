@@ -20,6 +20,7 @@ extern "C" {
         wn: usize,
         by_columns: bool,
     ) -> u32;
+    fn plain_multiply(pair: *mut u8, t_values: *const u8, letter: u8) -> u8;
     fn plain_rewrite(
         word: *const u8,
         wn: usize,
@@ -54,6 +55,12 @@ pub fn cloaks(key: &[u8], labels: &[u8], word: &[u8], by_columns: bool) -> u32 {
     let ((file, bytes), (list, n)) = ((key.as_ptr(), key.len()), (labels.as_ptr(), labels.len()));
     // SAFETY: see above.
     unsafe { plain_cloaks(file, bytes, list, n, word.as_ptr(), word.len(), by_columns) }
+}
+
+/// The pair is its matrix, row by row, and then its labels.
+pub fn multiply(pair: &mut [u8; 72], t_values: &[u8; 8], letter: u8) -> u8 {
+    // SAFETY: see above.
+    unsafe { plain_multiply(pair.as_mut_ptr(), t_values.as_ptr(), letter) }
 }
 
 pub fn rewrite(word: &[u8], moves: &[u8], out: &mut [u8]) -> usize {

@@ -44,9 +44,23 @@ pub const ALL: [Who; 3] = [Who::Library, Who::Rust, Who::C];
 /// One piece of work, with its inputs.
 pub enum Work {
     Verdict(Slip),
-    Cloaking { key: Vec<u8>, word: Vec<u8>, by_columns: bool },
-    Rewriting { word: Vec<u8>, moves: Vec<u8> },
-    Reduction { word: Vec<u8> },
+    Cloaking {
+        key: Vec<u8>,
+        word: Vec<u8>,
+        by_columns: bool,
+    },
+    /// One letter after another on a lent pair, from the starting one.
+    Multiplying {
+        t_values: [u8; 8],
+        codes: Vec<u8>,
+    },
+    Rewriting {
+        word: Vec<u8>,
+        moves: Vec<u8>,
+    },
+    Reduction {
+        word: Vec<u8>,
+    },
     Keys(Vec<Vec<u8>>),
 }
 
@@ -84,6 +98,20 @@ fn key_answer(file: &[u8], who: Who) -> u32 {
     }
 }
 
+/// A pair's matrix, row by row, and then its labels.
+fn by_rows(pair: &walnut::Pair) -> [u8; 72] {
+    std::array::from_fn(|at| match at {
+        64.. => pair.labels[at - 64],
+        _ => pair.matrix[walnut::place(at / 8 + 1, at % 8 + 1)],
+    })
+}
+
+/// Writes bytes to the front of the output: how many.
+fn lay_out(bytes: &[u8], out: &mut [u8]) -> usize {
+    out[..bytes.len()].copy_from_slice(bytes);
+    bytes.len()
+}
+
 const ORDER: [u8; 8] = [0, 1, 2, 3, 4, 5, 6, 7];
 
 impl Work {
@@ -107,6 +135,21 @@ impl Work {
             }
             (Work::Cloaking { key, word, by_columns }, Who::C) => {
                 (plain_c::cloaks(key, &ORDER, word, *by_columns), 0)
+            }
+            (Work::Multiplying { t_values, codes }, Who::Library) => {
+                let mut pair = walnut::Pair::start();
+                let answer = |code: &u8| {
+                    number(pair.multiply(walnut::Field::Gf32, t_values, *code).map_err(Refusal::number))
+                };
+                (codes.iter().map(answer).sum(), lay_out(&by_rows(&pair), out))
+            }
+            (Work::Multiplying { t_values, codes }, who) => {
+                let mut pair = by_rows(&walnut::Pair::start());
+                let answer = |code: &u8| match who {
+                    Who::C => u32::from(plain_c::multiply(&mut pair, t_values, *code)),
+                    _ => number(plain::multiply(&mut pair, t_values, *code)),
+                };
+                (codes.iter().map(answer).sum(), lay_out(&pair, out))
             }
             (Work::Rewriting { word, moves }, Who::Library) => {
                 (0, walnut::rewrite(word, moves, out).map_or(0, |written| written.len()))
@@ -173,6 +216,11 @@ fn zero_keys(random: &mut Random) -> Work {
     Work::Keys((0..KEYS).map(blank).collect())
 }
 
+/// So many letters on a lent pair.
+fn multiplying(random: &mut Random, letters: usize) -> Work {
+    Work::Multiplying { t_values: random.key_t_values(Field::Gf32), codes: random.word(letters) }
+}
+
 /// 4,096 moves of all kinds, each possible on the word that the last one left.
 fn rewriting(random: &mut Random) -> Work {
     let codes = random.tangled_word(REWRITTEN);
@@ -200,7 +248,7 @@ fn reduction(random: &mut Random, letters: usize) -> Work {
 }
 
 /// How many cases there are.
-pub const CASES: usize = 15;
+pub const CASES: usize = 16;
 
 /// The case of a number, the same in every run.
 pub fn case(number: usize) -> Case {
@@ -223,7 +271,8 @@ pub fn case(number: usize) -> Case {
         11 => ("a letter, C by columns too", LONGEST, cloaking(random, small, true)),
         12 => ("a key read", KEYS, keys(random, small)),
         13 => ("a key of zeros refused", KEYS, zero_keys(random)),
-        _ => ("256: a key read", KEYS, keys(random, large)),
+        14 => ("256: a key read", KEYS, keys(random, large)),
+        _ => ("lent multiplier, a letter", typical(small), multiplying(random, typical(small))),
     };
     Case { name, parts, work }
 }

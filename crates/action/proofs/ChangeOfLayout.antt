@@ -22,7 +22,8 @@ use Rattle.braid.specs.Letters.{generator, isInverse}
 use Rattle.braid.specs.Strands.{swapped}
 use Rattle.action.specs.declared.Pair.{Pair}
 use Rattle.action.specs.Action.{Share, shareOf, rowAfter, pairOf, letterOn, wordOn}
-use Rattle.action.specs.Multiplier.{elements, multiplierQuestions, zeroPair, Multiplies}
+use Rattle.action.specs.Multiplier.{multiplierQuestions, zeroPair, Multiplies}
+use Rattle.operands.specs.Operands.{elements}
 use Rattle.action.specs.ByRows.{turnedPair, letterByRows, wordByRows}
 use Rattle.action.proofs.RowLaws.{rowAfter-same}
 

@@ -8,21 +8,19 @@ use mathlib.Core.Logic.{_⊎_, inl, inr, ⊎-elim}
 use native.Mathlib.Numerals.{add-one}
 use native.Mathlib.Omega.{arith}
 use native.Mathlib.Decide.{decLt}
-use borrow.Author.Tests.{le-leb}
 use lib.Dec.{leb}
 use lib.Bits.{bitXor}
-use lib.ListN.{length, getD, set, take, drop, length-set, length-drop}
-use lib.Seq.{getD-set-same, getD-set-other, getD-drop, take-suc, take-all, take-add}
+use lib.ListN.{length, getD, set, take, length-set}
+use lib.Seq.{getD-set-same, getD-set-other, take-suc, take-all}
 use Rattle.field.specs.Binary.{Operations}
 use Rattle.field.specs.Polynomial.{Degree, polynomials}
-use Rattle.matrix.specs.Layout.{entry, matrixOf}
+use Rattle.matrix.specs.Layout.{entry}
 use Rattle.matrix.proofs.LayoutLaws.{entry-matrixOf, matrixOf-ext}
 use Rattle.columns.specs.Lanes.{lane, chosen, InLanes, columnsMatrix}
-use Rattle.columns.specs.Constants.{Multiples, Constants, OverFields}
+use Rattle.columns.specs.Constants.{Multiples, Constants}
 use Rattle.columns.proofs.LaneLaws.{lane-xor}
 use Rattle.columns.proofs.BitLaws.{by-constants}
-use Rattle.braid.specs.Letters.{isLetter, isInverse, generator}
-use Rattle.braid.specs.Strands.{swapped}
+use Rattle.braid.specs.Letters.{isLetter}
 use Rattle.braid.proofs.StrandLaws.{length-swapped, swapped-below}
 use Rattle.action.specs.Action.{Share, tValue, positiveShare, inverseShare, shareOf, rowAfter, rowsOn, pairOf, letterOn, wordOn}
 use Rattle.action.specs.Columns.{heldPair, Held, Spread, shareBy, takenBy, Crossed, Carried}
@@ -73,37 +71,70 @@ module _ (n p : ℕ) (s : Share) (g : ℕ) (columns columns′ : List ℕ) (x y 
       ∙ sym (ap₂ (placed (polynomials n p) s (near c g)) (entry-columns columns r c hr hc) (entry-columns columns r g hr (omega arith)))
       ∙ sym (rowAfter-is (polynomials n p) s (near c g) (entry (columnsMatrix columns) r)))
 
--- three stores
-pub three-stored : (columns : List ℕ) (x y z g : ℕ) → length columns ≡ 9 → g < 7
-    → let first = set columns g (bitXor (getD columns g 0) x) in
-    let second = set first (g + 1) y in
-    Spread x y z g columns (set second (g + 2) (bitXor (getD second (g + 2) 0) z))
-three-stored columns x y z g l h =
-    let first = set columns g (bitXor (getD columns g 0) x) in
-    let second = set first (g + 1) y in
-    let w = bitXor (getD second (g + 2) 0) z in
-    let size₁ : length first ≡ 9 = length-set columns g _ ∙ l in
-    let size₂ : length second ≡ 9 = length-set first (g + 1) y ∙ size₁ in
-    let past : (k : ℕ) → (k ≡ g + 2 → ⊥) → (k ≡ g + 1 → ⊥) → getD (set second (g + 2) w) k 0 ≡ getD first k 0 =
-    λ k a b. getD-set-other second (g + 2) k w 0 a ∙ getD-set-other first (g + 1) k y 0 b in
+-- what three stores at places a, b and c leave
+record Stored (a b c x y z : ℕ) (columns after : List ℕ) : Type 0 where
+  size : length after ≡ length columns
+  first : getD after a 0 ≡ bitXor (getD columns a 0) x
+  second : getD after b 0 ≡ y
+  third : getD after c 0 ≡ bitXor (getD columns c 0) z
+  elsewhere : (k : ℕ) → (k ≡ a → ⊥) → (k ≡ b → ⊥) → (k ≡ c → ⊥) → getD after k 0 ≡ getD columns k 0
+
+stored : (columns : List ℕ) (a b c x y z : ℕ) → a < length columns → b < length columns → c < length columns
+    → (a ≡ b → ⊥) → (a ≡ c → ⊥) → (b ≡ c → ⊥)
+    → let one = set columns a (bitXor (getD columns a 0) x) in
+    let two = set one b y in
+    Stored a b c x y z columns (set two c (bitXor (getD two c 0) z))
+stored columns a b c x y z ha hb hc ab ac bc =
+    let v = bitXor (getD columns a 0) x in
+    let one = set columns a v in
+    let two = set one b y in
+    let w = bitXor (getD two c 0) z in
+    let size₁ : length one ≡ length columns = length-set columns a v in
+    let size₂ : length two ≡ length columns = length-set one b y ∙ size₁ in
     record {
-      places = length-set second (g + 2) w ∙ size₂ ∙ sym l;
-      left = past g (omega arith) (omega arith) ∙ getD-set-same columns g (bitXor (getD columns g 0) x) 0 (omega arith);
-      own = getD-set-other second (g + 2) (g + 1) w 0 (omega arith) ∙ getD-set-same first (g + 1) y 0 (omega arith);
-      right = getD-set-same second (g + 2) w 0 (omega arith)
-          ∙ ap (λ (v : ℕ). bitXor v z)
-          (getD-set-other first (g + 1) (g + 2) y 0 (omega arith) ∙ getD-set-other columns g (g + 2) (bitXor (getD columns g 0) x) 0 (omega arith));
-      others = λ k far. past k (apart k far) (apart' k far) ∙ getD-set-other columns g k (bitXor (getD columns g 0) x) 0 (apart″ k far);
+      size = length-set two c w ∙ size₂;
+      first = getD-set-other two c a w 0 ac ∙ getD-set-other one b a y 0 ab ∙ getD-set-same columns a v 0 ha;
+      second = getD-set-other two c b w 0 bc ∙ getD-set-same one b y 0 (omega arith);
+      third = getD-set-same two c w 0 (omega arith)
+          ∙ ap (λ (u : ℕ). bitXor u z) (getD-set-other one b c y 0 (λ e. bc (sym e)) ∙ getD-set-other columns a c v 0 (λ e. ac (sym e)));
+      elsewhere = λ k na nb nc. getD-set-other two c k w 0 nc ∙ getD-set-other one b k y 0 nb ∙ getD-set-other columns a k v 0 na;
     }
-  where
-    apart : (k : ℕ) → (k < g) ⊎ (g + 2 < k) → k ≡ g + 2 → ⊥
-    apart k far e = ⊎-elim (λ (a : k < g). omega arith) (λ (a : g + 2 < k). omega arith) far
 
-    apart' : (k : ℕ) → (k < g) ⊎ (g + 2 < k) → k ≡ g + 1 → ⊥
-    apart' k far e = ⊎-elim (λ (a : k < g). omega arith) (λ (a : g + 2 < k). omega arith) far
+outside : (k g j : ℕ) → (k < g) ⊎ (g + 2 < k) → g ≤ j → j ≤ g + 2 → k ≡ j → ⊥
+outside k g j far l u e = ⊎-elim (λ (a : k < g). omega arith) (λ (a : g + 2 < k). omega arith) far
 
-    apart″ : (k : ℕ) → (k < g) ⊎ (g + 2 < k) → k ≡ g → ⊥
-    apart″ k far e = ⊎-elim (λ (a : k < g). omega arith) (λ (a : g + 2 < k). omega arith) far
+-- a letter's own column and its two neighbours: the one before first, or for an inverse letter the one after
+pub three-stored : (columns : List ℕ) (g x p : ℕ) → length columns ≡ 9 → g < 7 → (inverse : Bool) (by : ℕ) → by ≡ cond inverse 2 0
+    → let one = set columns (g + by) (bitXor (getD columns (g + by) 0) p) in
+    let two = set one (g + 1) p in
+    Spread (cond inverse x p) p (cond inverse p x) g columns (set two (g + 2 - by) (bitXor (getD two (g + 2 - by) 0) x))
+three-stored columns g x p l h true by e =
+    let last : g + 2 - by ≡ g = omega arith in
+    let s = stored columns (g + 2) (g + 1) g p p x (omega arith) (omega arith) (omega arith) (omega arith) (omega arith) (omega arith) in
+    rw (last, e)
+    (record {
+      places = s .size;
+      left = s .third;
+      own = s .second;
+      right = s .first;
+      others = λ k far.
+          s .elsewhere k (outside k g (g + 2) far (omega arith) (omega arith)) (outside k g (g + 1) far (omega arith) (omega arith))
+          (outside k g g far (omega arith) (omega arith));
+    })
+three-stored columns g x p l h false by e =
+    let last : g + 2 - by ≡ g + 2 = omega arith in
+    let start : g + by ≡ g = omega arith in
+    let s = stored columns g (g + 1) (g + 2) p p x (omega arith) (omega arith) (omega arith) (omega arith) (omega arith) (omega arith) in
+    rw (last, start)
+    (record {
+      places = s .size;
+      left = s .first;
+      own = s .second;
+      right = s .third;
+      others = λ k far.
+          s .elsewhere k (outside k g g far (omega arith) (omega arith)) (outside k g (g + 1) far (omega arith) (omega arith))
+          (outside k g (g + 2) far (omega arith) (omega arith));
+    })
 
 -- a letter by its sign: the product of its own column by what it takes, and who gains what
 module _ (n p : ℕ) (degree : Degree n p) (cs : List ℕ) (at t : ℕ) (constants : Multiples (polynomials n p) n cs at t) (columns columns′ : List ℕ)
@@ -197,20 +228,3 @@ one-more-carried {bits} {cs} codes i h a b = rw (add-one i, take-suc codes i 0 h
 pub all-carried : {bits : ℕ} {cs columns labels columns′ labels′ : List ℕ} (codes : List ℕ) (i : ℕ) → i ≡ length codes
     → Carried bits cs (take i codes) columns labels columns′ labels′ → Carried bits cs codes columns labels columns′ labels′
 all-carried codes i e a = rw (take-all i codes (omega arith)) at a
-
--- the letters from a place j on: one more, and all that there are before n
-pub rest-more-carried : {bits : ℕ} {cs columns labels columns′ labels′ columns″ labels″ : List ℕ} (codes : List ℕ) (j i c : ℕ) → j ≤ i → i < length codes
-    → c ≡ getD codes i 0 → Carried bits cs (take (i - j) (drop j codes)) columns labels columns′ labels′
-    → Carried bits cs (c ∷ []) columns′ labels′ columns″ labels″ → Carried bits cs (take (i + 1 - j) (drop j codes)) columns labels columns″ labels″
-rest-more-carried codes j i c h l e a b =
-    let k : i + 1 - j ≡ i - j + 1 = omega arith in
-    let at : j + (i - j) ≡ i = omega arith in
-    let there : c ≡ getD (drop j codes) (i - j) 0 = e ∙ sym (getD-drop j codes (i - j) 0 ∙ ap (λ (m : ℕ). getD codes m 0) at) in
-    rw k (one-more-carried (drop j codes) (i - j) (omega (arith, length-drop j codes)) a (rw there at b))
-
-pub rest-carried : {bits : ℕ} {cs columns labels columns′ labels′ columns″ labels″ : List ℕ} (codes : List ℕ) (j n : ℕ) → j ≤ n
-    → Carried bits cs (take j codes) columns labels columns′ labels′ → Carried bits cs (take (n - j) (drop j codes)) columns′ labels′ columns″ labels″
-    → Carried bits cs (take n codes) columns labels columns″ labels″
-rest-carried codes j n h a b =
-    let e : j + (n - j) ≡ n = omega arith in
-    rw (sym (take-add j (n - j) codes), e) at (both-carried a b)

@@ -15,7 +15,7 @@ use Rattle.field.specs.declared.Field.{Field}
 use Rattle.field.proofs.Fields.{binary}
 use Rattle.action.specs.declared.Pair.{Pair}
 use Rattle.braid.specs.Strands.{isOrder}
-use Rattle.action.specs.Multiplier.{elements, nonzero}
+use Rattle.operands.specs.Operands.{elements, nonzero}
 use Rattle.action.specs.Good.{TValues, GoodPair}
 
 -- the labels of a list of 0 to 7

@@ -1,27 +1,17 @@
 -- The multiplier used alone: its questions (17 for T-values and entries, then 4, 6, 12), and what it gives.
 use Prim.Native.Nat.{ℕ}
 use mathlib.Core.Path.{_≡_}
-use mathlib.Core.Bool.{Bool, not, _&&_}
+use mathlib.Core.Bool.{_&&_}
 use mathlib.Core.List.{List, [], _∷_}
-use lib.Dec.{eqb}
 use lib.ListN.{replicate}
 use Rattle.base.specs.Questions.{Question, _else_, firstNo, granted}
-use Rattle.base.specs.Lists.{every}
 use Rattle.field.specs.Fields.{operations}
-use Rattle.field.specs.Elements.{isElement}
 use Rattle.field.specs.declared.Field.{Field}
 use Rattle.braid.specs.Letters.{isLetter}
 use Rattle.action.specs.declared.Pair.{Pair}
 use Rattle.action.specs.Action.{pairOf, letterOn}
 use Rattle.braid.specs.Strands.{isOrder}
-
--- The tests that keys and cloaking ask too. Are T-values or entries elements of the field?
-abbrev pub elements : Field → List ℕ → Bool
-elements f xs = every (isElement f) xs
-
--- is no T-value zero?
-abbrev pub nonzero : List ℕ → Bool
-nonzero ts = every (λ t. not (eqb t 0)) ts
+use Rattle.operands.specs.Operands.{elements, nonzero}
 
 -- The multiplier alone: 17 for T-values and entries, then 4, 6, 12
 abbrev pub multiplierQuestions : Field → Pair → List ℕ → ℕ → List Question

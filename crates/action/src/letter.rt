@@ -10,13 +10,6 @@ ghost use Rattle.braid.specs.Letters.{isLetter};
 ghost use Rattle.braid.specs.Strands.{swapped};
 ghost use Rattle.action.specs.Columns.{Held, Spread, Crossed, Carried};
 
-// One of two numbers.
-fn pick(first: bool, x: u64, y: u64) -> u64
-    ensures { λ r. ⌜ r ≡ cond first x y ⌝ }
-{
-    if first { x } else { y }
-}
-
 // Where the constants begin of the number that a letter takes: those of the T-value of its own label, or for an inverse
 // letter those of the reciprocal of the next label's.
 fn constants_at(inverse: bool, own: usize, next: usize) -> usize
@@ -26,14 +19,27 @@ fn constants_at(inverse: bool, own: usize, next: usize) -> usize
     if inverse { 64 + 8 * next } else { 8 * own }
 }
 
-// Three columns after a letter whose own column is g, counted from 0: a spare one stands in front of the first.
-fn spread(columns: &mut [u64; 9], g: usize, before: u64, own: u64, after: u64)
-    requires { ⌜ (length (now columns) ≡ 9) × (g < 7) ⌝ }
-    ensures { λ _. ⌜ Spread before own after g (now (columns .entry)) (now (columns .exit)) ⌝ }
+// Which neighbour of a letter's own column gains the product: the one before it, or for an inverse letter the one
+// after, two further on.
+fn side(inverse: bool) -> usize
+    ensures { λ r. ⌜ (r ≡ cond inverse 2 0) × (r ≤ 2) ⌝ }
 {
-    columns[g] = columns[g] ^ before;
-    columns[g + 1] = own;
-    columns[g + 2] = columns[g + 2] ^ after;
+    if inverse { 2 } else { 0 }
+}
+
+// Three columns after a letter whose own column is g, counted from 0; a spare one stands in front of the first. The one
+// before gains the product and the one after the column as it was, or for an inverse letter the other way round.
+fn spread(columns: &mut [u64; 9], g: usize, inverse: bool, column: u64, product: u64)
+    requires { ⌜ (length (now columns) ≡ 9) × (g < 7) ⌝ }
+    ensures { λ _.
+        ⌜ Spread (cond inverse column product) product (cond inverse product column) g (now (columns .entry)) (now (columns .exit)) ⌝ }
+{
+    let by = side(inverse);
+    let first = g + by;
+    let second = g + 2 - by;
+    columns[first] = columns[first] ^ product;
+    columns[g + 1] = product;
+    columns[second] = columns[second] ^ column;
 }
 
 // The labels at two neighbouring places change places.
@@ -71,9 +77,7 @@ pub(crate) fn cross(
 {
     let column = columns[g + 1];
     let product = times(constants, at, bits, column);
-    let before = pick(inverse, column, product);
-    let after = pick(inverse, product, column);
-    spread(columns, g, before, product, after);
+    spread(columns, g, inverse, column, product);
     exchange(labels, g);
 }
 

@@ -6,13 +6,9 @@ ghost use Rattle.action.specs.Multiplier.{zeroPair};
 mod held; // held.rt: a pair as the loop over letters holds it
 mod letter; // letter.rt: one letter, in place
 mod multiplier; // multiplier.rt: the multiplier used alone
-mod operands; // operands.rt: tests on T-values, entries and labels
 mod word; // word.rt: whole words
 
 pub use multiplier::multiply;
-pub use operands::all_elements;
-pub use operands::all_nonzero;
-pub use operands::is_order;
 pub use word::carry;
 pub use word::carry_letters;
 

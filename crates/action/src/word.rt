@@ -9,7 +9,7 @@ use field::LARGE_MODULUS;
 use field::SMALL_BITS;
 use field::SMALL_MODULUS;
 ghost use mathlib.Core.Path.{_≡_};
-ghost use Prim.Native.Nat.{_*_, _≤_};
+ghost use Prim.Native.Nat.{_+_, _*_, _≤_, _<_};
 ghost use mathlib.Core.Bool.{true};
 ghost use lib.ListN.{length, take};
 ghost use Rattle.base.specs.Lists.{every};
@@ -18,7 +18,7 @@ ghost use Rattle.field.specs.Polynomial.{polynomials};
 ghost use Rattle.field.specs.Reciprocals.{LentField};
 ghost use Rattle.field.specs.Fields.{operations};
 ghost use Rattle.braid.specs.Letters.{isLetter};
-ghost use Rattle.action.specs.Action.{wordOn, codesOn, pairOf};
+ghost use Rattle.action.specs.Action.{wordOn, codesOn};
 ghost use Rattle.action.specs.Columns.{Held, Carried};
 
 // A row of letters, one code to a byte, first to last, on the pair of the columns and the labels.
@@ -40,7 +40,8 @@ fn run(
     }
 }
 
-// The letters of n words of eight packed bytes, sixteen at a time.
+// Of the first n packed letters, those of whole words of eight bytes: how many bytes these are. Under sixteen letters
+// are left.
 fn words(
     columns: &mut [u64; 9],
     labels: &mut [u8; 8],
@@ -48,26 +49,29 @@ fn words(
     bits: usize,
     part: &[u8],
     n: usize,
-)
+) -> usize
     requires { ⌜
         Held bits (now constants) (now columns) (now labels)
-        × (8 * n ≤ length (now part))
-        × (every isLetter (take (16 * n) (halves (now part))) ≡ true)
+        × (n ≤ 2 * length (now part))
+        × (every isLetter (take n (halves (now part))) ≡ true)
         ⌝ }
-    ensures { λ _.
+    ensures { λ r.
         ⌜
-        Carried bits (now (constants .entry)) (take (16 * n) (halves (now (part .entry)))) (now (columns .entry)) (now (labels .entry)) (now (columns .exit)) (now (labels .exit))
+        (2 * r ≤ n)
+        × (n < 2 * r + 16)
+        × Carried bits (now (constants .entry)) (halves (take r (now (part .entry)))) (now (columns .entry)) (now (labels .entry)) (now (columns .exit)) (now (labels .exit))
         ⌝ }
 {
     let mut k = 0;
-    while k < n {
-        let codes = braid::sixteen_at(part, 8 * k);
+    while k + 8 <= n / 2 {
+        let codes = braid::sixteen_at(part, k);
         run(columns, labels, constants, bits, &codes);
-        k += 1;
+        k += 8;
     }
+    k
 }
 
-// The first n packed letters: by the word, and the last, under sixteen, singly.
+// The first n packed letters, first to last.
 fn letters(
     columns: &mut [u64; 9],
     labels: &mut [u8; 8],
@@ -86,12 +90,12 @@ fn letters(
         Carried bits (now (constants .entry)) (take n (halves (now (part .entry)))) (now (columns .entry)) (now (labels .entry)) (now (columns .exit)) (now (labels .exit))
         ⌝ }
 {
-    words(columns, labels, constants, bits, part, n / 16);
-    let mut i = n / 16 * 16;
-    while i < n {
-        letter(columns, labels, constants, bits, braid::half(part, i));
-        i += 1;
-    }
+    let done = words(columns, labels, constants, bits, part, n);
+    let end = (n + 1) / 2;
+    let mut last = [0u8; 16];
+    braid::unpack(&part[done..end], &mut last);
+    let left = n - 2 * done;
+    run(columns, labels, constants, bits, &last[..left]);
 }
 
 // A row of letters, one code to a byte, multiplied into the pair, by what is lent of the field.

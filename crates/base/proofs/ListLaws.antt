@@ -8,11 +8,11 @@ use native.Mathlib.Nat.{not-suc-le-zero, le-of-suc-le-suc, zero-lt-suc, add-zero
 use native.Mathlib.Numerals.{add-one}
 use native.Mathlib.Omega.{arith}
 use native.Mathlib.Decide.{ℕ-discrete}
-use borrow.Author.Tests.{ltb-true, eqb-true, eq-eqb}
-use lib.Dec.{eqb, ltb}
+use borrow.Author.Tests.{eqb-true, eq-eqb}
+use lib.Dec.{eqb}
 use lib.ListN.{length, take, drop, getD, set, length-append, length-take, length-drop, take-append-drop}
 use lib.Seq.{take-suc, drop-cons, length-take-le, drop-nil, drop-drop, take-length, take-all, take-at, drop-at, set-at, append-snoc, take-append-seam, drop-append-seam, drop-append-le, ext-getD, getD-set-same, getD-set-other}
-use Rattle.base.specs.Lists.{every, count, valuesFrom, values, equal, overlaid, eachOnce}
+use Rattle.base.specs.Lists.{every, count, valuesFrom, values, equal, overlaid}
 
 -- ---- two tests at once
 
@@ -228,15 +228,6 @@ count-le a (x ∷ xs) = go (eqb x a) (count-le a xs)
     go : (b : Bool) → count a xs ≤ length xs → cond b (suc (count a xs)) (count a xs) ≤ suc (length xs)
     go true e = omega arith
     go false e = omega arith
-
--- ---- the numbers 0 to n - 1, each once
-
-pub once-below : (n : ℕ) (xs : List ℕ) → eachOnce n xs ≡ true → (k : ℕ) → k < length xs → getD xs k 0 < n
-unfolding eachOnce
-once-below n xs e k h =
-    ltb-true (getD xs k 0) n
-    (every-getD (λ x. ltb x n) xs
-    (and-left (every (λ x. ltb x n) xs) (every (λ a. eqb (count a xs) 1) (values (λ a. a) n)) e) k h)
 
 -- ---- what a writer leaves
 

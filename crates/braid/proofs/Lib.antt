@@ -5,9 +5,6 @@ pub mod RoundTrip
 pub mod LetterLaws
 pub mod ReductionLaws
 pub mod CancellationLaws
-pub mod StackLaws
-pub mod ReducerLaws
-pub mod ReducedWord
 pub mod WrongPrograms
 pub mod WordSlips
 pub mod StrandLaws

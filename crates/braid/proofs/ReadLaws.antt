@@ -1,6 +1,6 @@
 -- Laws of the word reader: the part of a file that holds the codes as the code takes it, what an accepted file tells,
 -- and what the reader gives.
-use Prim.Native.Nat.{ℕ, _-_, _≤_, _<_}
+use Prim.Native.Nat.{ℕ, _-_, _*_, _≤_, _<_}
 use mathlib.Core.Path.{_≡_, refl, sym, ap, ap₂, _∙_}
 use mathlib.Core.Bool.{true, false}
 use mathlib.Core.List.{List, []}
@@ -68,6 +68,17 @@ module _ (file : List ℕ) where
 
   pub count-stated : {n : ℕ} → wordAnswer file ≡ 0 → n ≡ length (letters file) → n ≡ stated file
   count-stated e s = s ∙ ap length (letters-accepted e) ∙ accepted-word e .count
+
+  -- the number of letters that the reader gives, and the part after the two length bytes as the code takes it
+  module _ (e : wordAnswer file ≡ 0) (n : ℕ) (s : n ≡ length (letters file)) where
+    pub count-few : n ≤ 10000
+    count-few = omega (arith, count-stated e s, accepted-word e .few)
+
+    pub part-enough : n ≤ 2 * length (take (length file - 2) (drop 2 file))
+    part-enough = omega (arith, count-stated e s, accepted-word e .size, ap length (part-is file), length-drop 2 file)
+
+    pub part-codes : take n (halves (take (length file - 2) (drop 2 file))) ≡ codes file
+    part-codes = codes-there file (count-stated e s)
 
   -- ---- what the reader gives
 

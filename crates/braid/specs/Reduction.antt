@@ -5,9 +5,7 @@ use mathlib.Core.Bool.{cond}
 use mathlib.Core.List.{List, [], _∷_}
 use lib.Dec.{eqb}
 use lib.ListN.{length, getD}
-use Rattle.base.specs.Questions.{Question}
 use Rattle.braid.specs.Letters.{inverse}
-use Rattle.braid.specs.Words.{codes, roomQuestion, wordQuestions, wordFile, Wrote}
 
 -- a letter before a reduced word: it cancels against a first letter that is its inverse
 unfoldable pub joined : ℕ → List ℕ → List ℕ
@@ -22,12 +20,3 @@ reduced (c ∷ w) = joined c (reduced w)
 -- no letter has its inverse right after it
 abbrev pub Irreducible : List ℕ → Type 0
 Irreducible w = (k : ℕ) → k + 1 < length w → getD w (k + 1) 0 ≡ inverse (getD w k 0) → ⊥
-
--- Free reduction: 15, then the word
-abbrev pub reducerQuestions : ℕ → List ℕ → List Question
-reducerQuestions room file = roomQuestion room ∷ wordQuestions file
-
--- what free reduction gives and leaves
-abbrev pub WroteReduced : List ℕ → List ℕ → List ℕ → ℕ → ℕ → Type 0
-WroteReduced word before after answer bytes =
-    Wrote (reducerQuestions (length before) word) (wordFile (reduced (codes word))) before after answer bytes

@@ -1,20 +1,16 @@
-// Braid words: reading and writing word files (signatures).
+// Braid words: reading word files (signatures).
 mod codes; // codes.rt: codes out of their bytes, sixteen at a time
 mod read; // read.rt: the word reader
-mod reduce; // reduce.rt: free reduction
-mod write; // write.rt: the writer of words from codes
 
 pub use codes::sixteen_at;
 pub use codes::unpack;
 pub use read::all_letters;
 pub use read::code_part;
 pub use read::half;
+pub use read::inverse;
 pub use read::is_letter;
 pub use read::letter_at;
 pub use read::read_word;
-pub use reduce::free_reduce;
-pub use reduce::inverse;
-pub use write::write_word;
 
 // A word has at most so many letters, and its file at most so many bytes.
 pub const MAX_LETTERS: usize = 10000;

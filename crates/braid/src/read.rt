@@ -10,7 +10,7 @@ ghost use lib.Dec.{eqb};
 ghost use lib.ListN.{length, take, drop, getD};
 ghost use Rattle.base.specs.Lists.{every};
 ghost use Rattle.base.specs.Digits.{halves};
-ghost use Rattle.braid.specs.Letters.{isLetter};
+ghost use Rattle.braid.specs.Letters.{isLetter, inverse};
 ghost use Rattle.braid.specs.Words.{stated, wordAnswer, codePart, Read, LetterAt};
 
 // The half byte at a place, the high half of a byte before the low one; 0 past the end.
@@ -32,6 +32,13 @@ pub fn is_letter(c: u8) -> bool
     ensures { λ r. ⌜ r ≡ isLetter c ⌝ }
 {
     c <= 6 || (8 <= c && c <= 14)
+}
+
+// The code of the same generator with the other sign.
+pub fn inverse(c: u8) -> u8
+    ensures { λ r. ⌜ r ≡ inverse c ⌝ }
+{
+    c ^ 8
 }
 
 // The number of letters that a file states in its first two bytes.

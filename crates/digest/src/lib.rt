@@ -100,5 +100,5 @@ pub fn encode(digest: &[u8], out: &mut [u8]) -> Written
     }
     let mut codes = [0u8; 2560];
     let n = encode_into(digest, &mut codes);
-    braid::write_word(&codes[..n], out)
+    writer::write_word(&codes[..n], out)
 }

@@ -63,7 +63,7 @@ fn left(answer: u8) -> usize {
 
 // A key whose matrices are the same.
 fn write_into(t_values: &[u8; 8], labels: &[u8; 8], matrix: &[u8; 57], out: &mut [u8]) {
-    let answer = key::write_key(t_values, labels, matrix, matrix, out, Field::Gf32);
+    let answer = key_writer::write_key(t_values, labels, matrix, matrix, out, Field::Gf32);
     print::answer(answer);
     print::output(out, left(answer), FILL);
 }

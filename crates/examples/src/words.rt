@@ -33,8 +33,8 @@ pub(crate) fn second(file: &[u8]) {
 // L: from codes. F: freely reduced. D: from a digest. R: rewritten.
 fn written(operation: u8, from: &[u8], moves: &[u8], out: &mut [u8]) -> Written {
     match operation {
-        b'L' => braid::write_word(from, out),
-        b'F' => braid::free_reduce(from, out),
+        b'L' => writer::write_word(from, out),
+        b'F' => reduction::free_reduce(from, out),
         b'D' => digest::encode(from, out),
         _ => moves::rewrite(from, moves, out),
     }

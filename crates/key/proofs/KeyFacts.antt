@@ -16,7 +16,7 @@ use Rattle.base.proofs.DigitLaws.{take-below, drop-below, append-below, length-
 use Rattle.braid.specs.Strands.{isOrder}
 use Rattle.field.specs.Fields.{bits, operations, keyBytes}
 use Rattle.field.specs.declared.Field.{Field}
-use Rattle.action.specs.Multiplier.{elements, nonzero}
+use Rattle.operands.specs.Operands.{elements, nonzero}
 use Rattle.action.specs.Good.{TValues, GoodPair}
 use Rattle.action.proofs.GoodLaws.{tested-values, order-below}
 use Rattle.matrix.specs.Layout.{Matrix}

@@ -16,7 +16,7 @@ use Rattle.field.specs.declared.Field.the-variants.{Gf32, Gf256}
 use Rattle.matrix.specs.Layout.{entry}
 use Rattle.matrix.specs.Elimination.{invertible}
 use Rattle.braid.specs.Strands.{isOrder}
-use Rattle.action.specs.Multiplier.{nonzero}
+use Rattle.operands.specs.Operands.{nonzero}
 use Rattle.key.specs.declared.Key.{Key}
 use Rattle.key.specs.Keys.{keyField, statedStrands, fieldSize, tValues, labels, entries, fillerBits, wholeMatrix, startsWithOnes, keyQuestionsOver, keyAnswer, keyHolding, keyParts, keyOf, packedMatrix, keyFile, keyWriterQuestions}
 
@@ -48,7 +48,7 @@ oldKeyQuestions file =
     ∷ (oldBothInvertible (oldMatrix (part 8 36 file)) (oldMatrix (part 47 36 file)) else 26)
     ∷ []
 
-or-false : (b : Bool) → b || false ≡ b
+pub or-false : (b : Bool) → b || false ≡ b
 or-false true = refl
 or-false false = refl
 

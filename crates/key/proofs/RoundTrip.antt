@@ -17,7 +17,7 @@ use Rattle.base.proofs.DigitLaws.{digits-value, value-digits-below}
 use Rattle.braid.specs.Strands.{isOrder}
 use Rattle.field.specs.Fields.{bits, keyBytes}
 use Rattle.field.specs.declared.Field.{Field}
-use Rattle.action.specs.Multiplier.{nonzero}
+use Rattle.operands.specs.Operands.{nonzero}
 use Rattle.key.specs.declared.Key.{Key}
 use Rattle.key.specs.Keys.{keyField, tValues, labels, entries, matrixBytes, listPlace, firstBytes, secondBytes, fillerBits, fieldSize, fileEntries, packedMatrix, wholeMatrix, startsWithOnes, bothInvertible, keyAnswer, keyHolding, keyParts, keyOf, zeroKey, ReadsKey, keyFile, keyWriterQuestions, WroteFile, WroteKey}
 use Rattle.key.specs.Parts.{Width, fileBytes, Parts, Sizes}

@@ -17,7 +17,8 @@ use Rattle.matrix.specs.Layout.{entry, matrixOf}
 use Rattle.matrix.specs.Elimination.{invertible}
 use Rattle.action.specs.Action.{pairOf}
 use Rattle.braid.specs.Strands.{isOrder}
-use Rattle.action.specs.Multiplier.{elements, nonzero, zeroPair}
+use Rattle.action.specs.Multiplier.{zeroPair}
+use Rattle.operands.specs.Operands.{elements, nonzero}
 use Rattle.key.specs.declared.Key.{Key}
 
 -- N in 1 byte and q in 2

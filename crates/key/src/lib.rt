@@ -1,16 +1,21 @@
-// Key files: N, q, eight T-values, the matrix of Pub(S), its list and the matrix of Pub(S'), read and written: 83 bytes
-// over GF(32), 128 over GF(256).
+// Key files: N, q, eight T-values, the matrix of Pub(S), its list and the matrix of Pub(S'), and their reader: 83 bytes over
+// GF(32), 128 over GF(256).
 use action::Pair;
 use field::Field;
 ghost use mathlib.Core.Path.{_≡_};
 ghost use lib.ListN.{length};
 ghost use Rattle.field.specs.Fields.{keyBytes};
-ghost use Rattle.key.specs.Keys.{keyField, fileEntries, keyParts, zeroKey, ReadsKey, WroteKey};
+ghost use Rattle.key.specs.Keys.{keyField, fileEntries, keyParts, zeroKey, ReadsKey};
 ghost use Rattle.key.specs.Parts.{Width, fileBytes};
 
 mod read; // read.rt: the parts of a key file, and its questions
 mod width; // width.rt: what differs between the two fields
-mod write; // write.rt: the bytes of a key file, and the writer's questions
+
+pub use read::starts_with_ones;
+pub use read::whole_matrix;
+pub use width::bits_of;
+pub use width::key_bytes;
+pub use width::power;
 
 // What a key file holds: its field, T-values, the pair Pub(S), the matrix of Pub(S').
 pub struct Key {
@@ -76,7 +81,7 @@ fn read_over(file: &[u8], f: Field) -> KeyRead
     let pair = key.pair;
     let first = pair.matrix;
     let second = key.second;
-    let inverses = read::both_invertible(first, second, f);
+    let inverses = matrix::both_invertible(first, second, f);
     if !inverses {
         let key = zero_key();
         return KeyRead { answer: 26, key };
@@ -96,28 +101,6 @@ pub fn read_key(file: &[u8]) -> KeyRead
     }
     let key = zero_key();
     KeyRead { answer: 1, key }
-}
-
-// Writes a key file over a field from fixed arrays: questions 16, 17, 4, 5, 6, 26. Bytes past the file do not change.
-pub fn write_key(
-    t_values: &[u8; 8],
-    labels: &[u8; 8],
-    first: &[u8; 57],
-    second: &[u8; 57],
-    out: &mut [u8],
-    f: Field,
-) -> u8
-    ensures { λ r. ⌜ WroteKey f (now («t_values» .entry)) (now (labels .entry)) (now (first .entry)) (now (second .entry)) (now (out .entry)) (now (out .exit)) r ⌝ }
-{
-    let answer = write::answer(out.len(), t_values, labels, first, second, f);
-    if answer != 0 {
-        return answer;
-    }
-    let bits = width::bits_of(f);
-    let size = width::key_bytes(f);
-    let file = write::file(t_values, labels, first, second, bits);
-    base::put(out, &file[..size]);
-    0
 }
 
 // The 57 entries that a key file has of a matrix, as the key writer takes them: rows 1 to 7 whole, then the last entry

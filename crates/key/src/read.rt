@@ -9,7 +9,7 @@ ghost use Prim.Native.Nat.{_^_, _≤_, _<_};
 ghost use lib.ListN.{length};
 ghost use Rattle.base.specs.Questions.{firstNo};
 ghost use Rattle.base.specs.Digits.{value, digits};
-ghost use Rattle.key.specs.Keys.{tValues, labels, entries, wholeMatrix, fillerBits, firstBytes, secondBytes, startsWithOnes, bothInvertible, matrixBytes, partQuestions};
+ghost use Rattle.key.specs.Keys.{tValues, labels, entries, wholeMatrix, fillerBits, firstBytes, secondBytes, startsWithOnes, matrixBytes, partQuestions};
 ghost use Rattle.key.specs.Parts.{Width, fileBytes};
 
 // One group of m bytes as eight digits.
@@ -56,7 +56,7 @@ fn entries(bytes: &[u8], bits: usize) -> [u8; 57]
 }
 
 // The matrix of the 57 entries that a file has of it: rows 1 to 7 whole, then the last entry of row 8.
-pub(crate) fn whole_matrix(all: &[u8]) -> [u8; 64]
+pub fn whole_matrix(all: &[u8]) -> [u8; 64]
     requires { ⌜ length (now all) ≡ 57 ⌝ }
     ensures { λ r. ⌜ r ≡ wholeMatrix (now (all .entry)) ⌝ }
 {
@@ -78,7 +78,7 @@ pub(crate) fn matrix(bytes: &[u8], bits: usize) -> [u8; 64]
 }
 
 // Are the first two T-values 1?
-pub(crate) fn starts_with_ones(ts: &[u8; 8]) -> bool
+pub fn starts_with_ones(ts: &[u8; 8]) -> bool
     ensures { λ r. ⌜ r ≡ startsWithOnes (now (ts .entry)) ⌝ }
 {
     ts[0] == 1 && ts[1] == 1
@@ -96,16 +96,6 @@ fn filler_is_zero(file: &[u8], bits: usize) -> bool
     first % fillers == 0 && second % fillers == 0
 }
 
-// Has each matrix an inverse?
-pub(crate) fn both_invertible(first: [u8; 64], second: [u8; 64], f: Field) -> bool
-    ensures { λ r. ⌜ r ≡ bothInvertible f first second ⌝ }
-{
-    if !matrix::is_invertible(first, f) {
-        return false;
-    }
-    matrix::is_invertible(second, f)
-}
-
 // The questions 2 to 7, in order: the number of the first one answered no, 0 if there is none.
 pub(crate) fn answer(file: &[u8], bits: usize) -> u8
     requires { ⌜ Width bits × (length (now file) ≡ fileBytes bits) ⌝ }
@@ -121,7 +111,7 @@ pub(crate) fn answer(file: &[u8], bits: usize) -> u8
         return 3;
     }
     let ts = t_values(file, bits);
-    let set = action::all_nonzero(&ts);
+    let set = operands::all_nonzero(&ts);
     if !set {
         return 4;
     }
@@ -130,7 +120,7 @@ pub(crate) fn answer(file: &[u8], bits: usize) -> u8
         return 5;
     }
     let list = order(file, bits);
-    let each = action::is_order(&list);
+    let each = operands::is_order(&list);
     if !each {
         return 6;
     }

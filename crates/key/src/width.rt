@@ -5,7 +5,7 @@ ghost use Prim.Native.Nat.{_^_, _≤_};
 ghost use Rattle.field.specs.Fields.{bits, keyBytes};
 
 // The bits of an element.
-pub(crate) fn bits_of(f: Field) -> usize
+pub fn bits_of(f: Field) -> usize
     ensures { λ r. ⌜ r ≡ bits f ⌝ }
 {
     match f {
@@ -15,7 +15,7 @@ pub(crate) fn bits_of(f: Field) -> usize
 }
 
 // The bytes of a key file.
-pub(crate) fn key_bytes(f: Field) -> usize
+pub fn key_bytes(f: Field) -> usize
     ensures { λ r. ⌜ r ≡ keyBytes f ⌝ }
 {
     match f {
@@ -25,7 +25,7 @@ pub(crate) fn key_bytes(f: Field) -> usize
 }
 
 // How many numbers n bits write.
-pub(crate) fn power(n: usize) -> u64
+pub fn power(n: usize) -> u64
     requires { ⌜ n ≤ 8 ⌝ }
     ensures { λ r. ⌜ r ≡ 2 ^ n ⌝ }
 {

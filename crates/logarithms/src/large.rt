@@ -2,7 +2,7 @@
 ghost use Rattle.field.specs.declared.Field.the-variants.{Gf256};
 ghost use Rattle.logarithms.specs.Logarithms.{ProductsBy};
 
-pub fn large_logarithms() -> [u16; 1280]
+pub fn large_logarithms() -> [u16; 1277]
     ensures { λ r. ⌜ ProductsBy Gf256 r ⌝ }
 {
     LARGE_LOGARITHMS
@@ -10,7 +10,7 @@ pub fn large_logarithms() -> [u16; 1280]
 
 // Entry a is the logarithm of the number a to base x, and entry 256 + i is x^i; 0 from i = 510 on, the logarithm of
 // zero.
-const LARGE_LOGARITHMS: [u16; 1280] = [
+const LARGE_LOGARITHMS: [u16; 1277] = [
     510,
     0,
     1,
@@ -777,9 +777,6 @@ const LARGE_LOGARITHMS: [u16; 1280] = [
     173,
     71,
     142,
-    0,
-    0,
-    0,
     0,
     0,
     0,

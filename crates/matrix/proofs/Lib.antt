@@ -5,6 +5,7 @@ pub mod ProductLaws
 pub mod EliminationLaws
 pub mod Invertible
 pub mod SweepLaws
+pub mod MultiplyLaws
 pub mod ChangeOfLayout
 pub mod WrongEliminations
 pub mod WrongLayouts

@@ -10,10 +10,12 @@ use native.Mathlib.Decide.{ℕ-discrete}
 use borrow.Author.Tests.{eq-eqb, ne-eqb}
 use lib.Dec.{eqb}
 use lib.ListN.{length, set, length-set}
-use Rattle.field.specs.Binary.{Operations}
+use Rattle.field.specs.Binary.{Operations, BinaryField}
+use Rattle.logarithms.specs.Logarithms.{LogarithmsOf}
+use Rattle.logarithms.proofs.PowerLaws.{same-number}
 use Rattle.matrix.specs.Layout.{place, entry}
 use Rattle.matrix.specs.Elimination.{pivot, without, cleared, invertible}
-use Rattle.matrix.specs.Sweeping.{Raised, RowSwept, Swept}
+use Rattle.matrix.specs.Sweeping.{Raised, RowGained, gain, Swept}
 use Rattle.matrix.proofs.StoreLaws.{store-same, store-other}
 use Rattle.matrix.proofs.EliminationLaws.{pivot-below, without-other, without-same, without-below}
 
@@ -59,51 +61,55 @@ invertible-same F (suc n) m m' same =
 
 -- ---- the pivot's row raised, column by column
 
-pub raised-start : (F : Operations) (q n p : ℕ) (m : List ℕ) → length m ≡ 64 → Raised F q n p 0 m m
-raised-start F q n p m l =
+pub raised-start : (n p : ℕ) (m : List ℕ) → length m ≡ 64 → Raised n p 0 m m
+raised-start n p m l =
     record { size = l; last = λ c h. absurd (omega arith); others = λ i c hi h. absurd (omega arith); rest = λ i c hi hc h. refl }
 
-module _ (F : Operations) (q n p j : ℕ) (m a : List ℕ) (hp : p ≤ n) (hn : n < 8) (hj : j ≤ n) (w : Raised F q n p j m a) where
+module _ (n p j : ℕ) (m a : List ℕ) (hp : p ≤ n) (hn : n < 8) (hj : j ≤ n) (w : Raised n p j m a) where
   abbrev a₁ : List ℕ
   a₁ = set a (place p j) (entry a n j)
 
   abbrev a₂ : List ℕ
-  a₂ = set a₁ (place n j) (F .mul q (entry a p j))
+  a₂ = set a₁ (place n j) (entry a p j)
 
   size₁ : length a₁ ≡ 64
   size₁ = length-set a (place p j) (entry a n j) ∙ w .size
 
   away : (i c : ℕ) → i < 8 → c < 8 → (c ≡ j → ⊥) → entry a₂ i c ≡ entry a i c
   away i c hi hc d =
-      store-other a₁ n j (F .mul q (entry a p j)) hn (omega arith) i c hi hc (λ _ e. d e)
+      store-other a₁ n j (entry a p j) hn (omega arith) i c hi hc (λ _ e. d e)
       ∙ store-other a p j (entry a n j) (omega arith) (omega arith) i c hi hc (λ _ e. d e)
 
-  last-here : entry a₂ n j ≡ F .mul q (entry m p j)
-  last-here = store-same a₁ n j (F .mul q (entry a p j)) hn (omega arith) size₁ ∙ ap (F .mul q) (w .rest p j (omega arith) (omega arith) (omega arith))
+  -- row p is as it was, from column j on
+  pub raised-own : entry a p j ≡ entry m p j
+  raised-own = w .rest p j (omega arith) (omega arith) (omega arith)
+
+  last-here : entry a₂ n j ≡ entry m p j
+  last-here = store-same a₁ n j (entry a p j) hn (omega arith) size₁ ∙ raised-own
 
   other-here : (i : ℕ) → i < n → Dec (i ≡ p) → entry a₂ i j ≡ entry m (without n p i) j
   other-here i hi (yes e) =
-      store-other a₁ n j (F .mul q (entry a p j)) hn (omega arith) i j (omega arith) (omega arith) (λ d _. omega arith)
+      store-other a₁ n j (entry a p j) hn (omega arith) i j (omega arith) (omega arith) (λ d _. omega arith)
       ∙ ap (λ (k : ℕ). entry a₁ k j) e
       ∙ store-same a p j (entry a n j) (omega arith) (omega arith) (w .size)
       ∙ w .rest n j hn (omega arith) (omega arith)
       ∙ ap (λ (k : ℕ). entry m k j) (sym (ap (without n p) e ∙ without-same n p))
   other-here i hi (no d) =
-      store-other a₁ n j (F .mul q (entry a p j)) hn (omega arith) i j (omega arith) (omega arith) (λ e _. omega arith)
+      store-other a₁ n j (entry a p j) hn (omega arith) i j (omega arith) (omega arith) (λ e _. omega arith)
       ∙ store-other a p j (entry a n j) (omega arith) (omega arith) i j (omega arith) (omega arith) (λ e _. d e)
       ∙ w .rest i j (omega arith) (omega arith) (omega arith)
       ∙ ap (λ (k : ℕ). entry m k j) (sym (without-other n p i d))
 
-  pub raised-next : Raised F q n p (j + 1) m a₂
+  pub raised-next : Raised n p (j + 1) m a₂
   raised-next =
       record {
-        size = length-set a₁ (place n j) (F .mul q (entry a p j)) ∙ size₁;
+        size = length-set a₁ (place n j) (entry a p j) ∙ size₁;
         last = λ c h. last c h (ℕ-discrete c j);
         others = λ i c hi h. other i c hi h (ℕ-discrete c j);
         rest = λ i c hi hc h. away i c hi hc (λ e. omega arith) ∙ w .rest i c hi hc (omega arith);
       }
     where
-      last : (c : ℕ) → c < j + 1 → Dec (c ≡ j) → entry a₂ n c ≡ F .mul q (entry m p c)
+      last : (c : ℕ) → c < j + 1 → Dec (c ≡ j) → entry a₂ n c ≡ entry m p c
       last c h (yes e) = rw e last-here
       last c h (no d) = away n c hn (omega arith) d ∙ w .last c (omega arith)
 
@@ -111,79 +117,88 @@ module _ (F : Operations) (q n p j : ℕ) (m a : List ℕ) (hp : p ≤ n) (hn : 
       other i c hi h (yes e) = rw e (other-here i hi (ℕ-discrete i p))
       other i c hi h (no d) = away i c (omega arith) (omega arith) d ∙ w .others i c hi (omega arith)
 
+-- the logarithms of row p are those of the row that has its place
+pub raised-logarithms : (n p : ℕ) (m a table logs : List ℕ) → Raised n p (n + 1) m a → LogarithmsOf table (entry m p) (n + 1) logs
+    → LogarithmsOf table (entry a n) n logs
+raised-logarithms n p m a table logs w l j h = same-number (sym (w .last j (omega arith))) (l j (omega arith))
+
 -- ---- a row swept, column by column
 
-pub row-start : (F : Operations) (n i : ℕ) (m : List ℕ) → length m ≡ 64 → RowSwept F n i 0 m m
-row-start F n i m l = record { size = l; done = λ c h. absurd (omega arith); rest = λ r c hr hc h. refl }
+module _ (F : Operations) (g : ℕ → ℕ) (i : ℕ) (m : List ℕ) where
+  pub row-start : length m ≡ 64 → RowGained F g i 0 m m
+  row-start l = record { size = l; done = λ c h. absurd (omega arith); rest = λ r c hr hc h. refl }
 
-module _ (F : Operations) (n i j : ℕ) (m a : List ℕ) (hi : i < n) (hn : n < 8) (hj : j < n) (w : RowSwept F n i j m a) where
-  abbrev gained : ℕ
-  gained = F .add (entry a i j) (F .mul (entry m i n) (entry a n j))
+  module _ (j : ℕ) (a : List ℕ) (hi : i < 8) (hj : j < 8) (w : RowGained F g i j m a) where
+    abbrev gained : ℕ
+    gained = F .add (entry a i j) (g j)
 
-  pub row-next : RowSwept F n i (j + 1) m (set a (place i j) gained)
-  row-next =
-      record {
-        size = length-set a (place i j) gained ∙ w .size;
-        done = λ c h. done c h (ℕ-discrete c j);
-        rest = λ r c hr hc h.
-            store-other a i j gained (omega arith) (omega arith) r c hr hc (λ e d. h e (omega arith)) ∙ w .rest r c hr hc (λ e d. h e (omega arith));
-      }
-    where
-      own : entry a i j ≡ entry m i j
-      own = w .rest i j (omega arith) (omega arith) (λ e d. omega arith)
+    pub row-next : RowGained F g i (j + 1) m (set a (place i j) gained)
+    row-next =
+        record {
+          size = length-set a (place i j) gained ∙ w .size;
+          done = λ c h. done c h (ℕ-discrete c j);
+          rest = λ r c hr hc h.
+              store-other a i j gained hi hj r c hr hc (λ e d. h e (omega arith)) ∙ w .rest r c hr hc (λ e d. h e (omega arith));
+        }
+      where
+        done : (c : ℕ) → c < j + 1 → Dec (c ≡ j) → entry (set a (place i j) gained) i c ≡ F .add (entry m i c) (g c)
+        done c h (yes e) =
+            rw e
+            (store-same a i j gained hi hj (w .size)
+            ∙ ap (λ (x : ℕ). F .add x (g j)) (w .rest i j hi hj (λ e d. omega arith)))
+        done c h (no d) =
+            store-other a i j gained hi hj i c hi (omega arith) (λ _ e. d e) ∙ w .done c (omega arith)
 
-      last : entry a n j ≡ entry m n j
-      last = w .rest n j hn (omega arith) (λ e d. omega arith)
-
-      done : (c : ℕ) → c < j + 1 → Dec (c ≡ j)
-          → entry (set a (place i j) gained) i c ≡ F .add (entry m i c) (F .mul (entry m i n) (entry m n c))
-      done c h (yes e) =
-          rw e
-          (store-same a i j gained (omega arith) (omega arith) (w .size)
-          ∙ ap₂ (λ (x y : ℕ). F .add x (F .mul (entry m i n) y)) own last)
-      done c h (no d) =
-          store-other a i j gained (omega arith) (omega arith) i c (omega arith) (omega arith) (λ _ e. d e) ∙ w .done c (omega arith)
+  pub row-same : (g' : ℕ → ℕ) (j : ℕ) (a : List ℕ) → ((c : ℕ) → c < j → g c ≡ g' c) → RowGained F g i j m a → RowGained F g' i j m a
+  row-same g' j a same w =
+      record { size = w .size; done = λ c h. w .done c h ∙ ap (F .add (entry m i c)) (same c h); rest = w .rest }
 
 -- ---- row after row
 
-pub swept-start : (F : Operations) (n : ℕ) (m : List ℕ) → length m ≡ 64 → Swept F n 0 m m
-swept-start F n m l = record { size = l; done = λ r c h hc. absurd (omega arith); rest = λ r c hr hc h. refl }
+pub swept-start : (F : Operations) (q n : ℕ) (m : List ℕ) → length m ≡ 64 → Swept F q n 0 m m
+swept-start F q n m l = record { size = l; done = λ r c h hc. absurd (omega arith); rest = λ r c hr hc h. refl }
 
-pub swept-next : (F : Operations) (n i : ℕ) (m a b : List ℕ) → i < n → n < 8 → Swept F n i m a → RowSwept F n i n a b → Swept F n (i + 1) m b
-swept-next F n i m a b hi hn w v =
+pub swept-next : (F : Operations) (q n i : ℕ) (m a b : List ℕ) → i < n → n < 8 → Swept F q n i m a → RowGained F (gain F q n a i) i n a b
+    → Swept F q n (i + 1) m b
+swept-next F q n i m a b hi hn w v =
     record {
       size = v .size;
       done = λ r c h hc. done r c h hc (ℕ-discrete r i);
       rest = λ r c hr hc h. v .rest r c hr hc (λ e d. omega arith) ∙ w .rest r c hr hc (omega arith);
     }
   where
-    own : (c : ℕ) → c < n → entry b i c ≡ F .add (entry m i c) (F .mul (entry m i n) (entry m n c))
+    own : (c : ℕ) → c < n → entry b i c ≡ F .add (entry m i c) (gain F q n m i c)
     own c hc =
         let x = w .rest i c (omega arith) (omega arith) (omega arith) in
         let y = w .rest i n (omega arith) hn (omega arith) in
         let z = w .rest n c hn (omega arith) (omega arith) in
-        v .done c hc ∙ (λ k. F .add (x k) (F .mul (y k) (z k)))
+        v .done c hc ∙ (λ k. F .add (x k) (F .mul (F .mul q (y k)) (z k)))
 
-    done : (r c : ℕ) → r < i + 1 → c < n → Dec (r ≡ i) → entry b r c ≡ F .add (entry m r c) (F .mul (entry m r n) (entry m n c))
+    done : (r c : ℕ) → r < i + 1 → c < n → Dec (r ≡ i) → entry b r c ≡ F .add (entry m r c) (gain F q n m r c)
     done r c h hc (yes e) = rw e (own c hc)
     done r c h hc (no d) = v .rest r c (omega arith) (omega arith) (λ e _. d e) ∙ w .done r c (omega arith) hc
 
 -- ---- a column cleared in place
 
-module _ (F : Operations) (n : ℕ) (m : List ℕ) (p : ℕ) (at : p ≡ pivot (λ i. entry m i n) n) where
+module _ {F : Operations} (L : BinaryField F) (n : ℕ) (m : List ℕ) (p : ℕ) (at : p ≡ pivot (λ i. entry m i n) n) where
   pub clear-none : (b : Bool) → entry m p n ≡ 0 → invertible F (n + 1) (entry m) ≡ false && b
   unfolding invertible
   clear-none b z = rw (add-one n, ← at, eq-eqb (entry m p n) 0 z)
 
-  pub clear-some : (q : ℕ) (a b : List ℕ) → (entry m p n ≡ 0 → ⊥) → q ≡ F .inv (entry m p n) → Raised F q n p (n + 1) m a → Swept F n n a b
+  -- the factor may be divided by the pivot in the row's place
+  divided : (q x y : ℕ) → F .mul (F .mul q x) y ≡ F .mul x (F .mul q y)
+  divided q x y = ap (λ (z : ℕ). F .mul z y) (L .mul-comm q x) ∙ L .mul-assoc x q y
+
+  pub clear-some : (q : ℕ) (a b : List ℕ) → (entry m p n ≡ 0 → ⊥) → q ≡ F .inv (entry m p n) → Raised n p (n + 1) m a → Swept F q n n a b
       → n < 8 → invertible F (n + 1) (entry m) ≡ true && invertible F n (entry b)
   unfolding invertible cleared
   clear-some q a b d e w v hn =
-      rw (add-one n, ← at, ne-eqb (entry m p n) 0 d) (invertible-same F n (cleared F n p (entry m)) (entry b) (λ i c hi hc. sym (swept i c hi hc)))
+      rw (add-one n, ← at, ne-eqb (entry m p n) 0 d) (invertible-same F n (cleared F n p (entry m)) (entry b) (λ i c hi hc. sym (same i c hi hc)))
     where
-      swept : (i c : ℕ) → i < n → c < n → entry b i c ≡ cleared F n p (entry m) i c
-      swept i c hi hc =
+      same : (i c : ℕ) → i < n → c < n → entry b i c ≡ cleared F n p (entry m) i c
+      same i c hi hc =
           let x = w .others i c hi (omega arith) in
           let y = w .others i n hi (omega arith) in
-          let z = w .last c (omega arith) ∙ ap (λ (k : ℕ). F .mul k (entry m p c)) e in
-          v .done i c hi hc ∙ (λ k. F .add (x k) (F .mul (y k) (z k)))
+          let z = w .last c (omega arith) in
+          v .done i c hi hc ∙ (λ k. F .add (x k) (F .mul (F .mul (e k) (y k)) (z k)))
+          ∙ ap (F .add (entry m (without n p i) c)) (divided (F .inv (entry m p n)) (entry m (without n p i) n) (entry m p c))

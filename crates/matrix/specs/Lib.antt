@@ -3,3 +3,4 @@ pub mod Product
 pub mod Elimination
 pub mod ByRows
 pub mod Sweeping
+pub mod Multiplying

@@ -3,6 +3,8 @@ use crate::SIZE;
 use crate::place;
 use field::Field;
 use field::inverse;
+use logarithms::logarithm;
+use logarithms::product_of;
 use logarithms::times;
 ghost use mathlib.Core.Path.{_≡_};
 ghost use mathlib.Core.Bool.{_&&_};
@@ -10,10 +12,10 @@ ghost use Prim.Native.Nat.{_+_, _<_, _≤_};
 ghost use lib.ListN.{length};
 ghost use Rattle.field.specs.Fields.{bits, modulus, operations};
 ghost use Rattle.field.specs.Reciprocals.{reciprocals};
-ghost use Rattle.logarithms.specs.Logarithms.{ProductsBy};
+ghost use Rattle.logarithms.specs.Logarithms.{ProductsBy, LogarithmsOf};
 ghost use Rattle.matrix.specs.Layout.{entry};
 ghost use Rattle.matrix.specs.Elimination.{pivot, invertible};
-ghost use Rattle.matrix.specs.Sweeping.{Raised, RowSwept, Swept};
+ghost use Rattle.matrix.specs.Sweeping.{Raised, RowGained, gain, Swept};
 
 // The last of the rows 0 to n whose entry in column n is not zero; 0 if there is none.
 fn pivot_row(m: &[u8; 64], n: usize) -> usize
@@ -31,51 +33,72 @@ fn pivot_row(m: &[u8; 64], n: usize) -> usize
     p
 }
 
-// Row n comes to stand in the place of row p, and row p times q in that of row n.
-fn raise(m: &mut [u8; 64], table: &[u16; 1280], p: usize, n: usize, q: u8, f: Field)
+// Rows p and n change places. Gives the logarithms of the row that was row p.
+fn raise(m: &mut [u8; 64], table: &[u16], p: usize, n: usize, f: Field) -> [usize; 8]
     requires { ⌜ (length (now m) ≡ 64) × ProductsBy f (now table) × (p ≤ n) × (n < 8) ⌝ }
-    ensures { λ _. ⌜ Raised (operations f) q n p (n + 1) (now (m .entry)) (now (m .exit)) ⌝ }
+    ensures { λ r.
+        ⌜
+        Raised n p (n + 1) (now (m .entry)) (now (m .exit))
+        × (length r ≡ 8)
+        × LogarithmsOf (now (table .entry)) (entry (now (m .entry)) p) (n + 1) r
+        ⌝ }
 {
+    let mut logs = [0usize; 8];
     let mut j = 0;
     while j <= n {
         let own = place(p, j);
         let last = place(n, j);
         let x = m[own];
+        logs[j] = logarithm(x, table, f);
         m[own] = m[last];
-        m[last] = times(q, x, table, f);
+        m[last] = x;
         j += 1;
     }
+    logs
 }
 
-// Row i gains its entry of column n times row n, in the columns before n.
-fn sweep_row(m: &mut [u8; 64], table: &[u16; 1280], i: usize, n: usize, f: Field)
-    requires { ⌜ (length (now m) ≡ 64) × ProductsBy f (now table) × (i < n) × (n < 8) ⌝ }
-    ensures { λ _. ⌜ RowSwept (operations f) n i n (now (m .entry)) (now (m .exit)) ⌝ }
+// Row i gains q times its entry of column n times row n, whose logarithms are lent, in the columns before n.
+fn sweep_row(m: &mut [u8; 64], table: &[u16], row: &[usize; 8], q: u8, i: usize, n: usize, f: Field)
+    requires { ⌜
+        (length (now m) ≡ 64)
+        × ProductsBy f (now table)
+        × LogarithmsOf (now table) (entry (now m) n) n (now row)
+        × (i < n)
+        × (n < 8)
+        ⌝ }
+    ensures { λ _. ⌜ RowGained (operations f) (gain (operations f) q n (now (m .entry)) i) i n (now (m .entry)) (now (m .exit)) ⌝ }
 {
     let x = m[place(i, n)];
+    let factor = times(q, x, table, f);
+    let k = logarithm(factor, table, f);
     let mut j = 0;
     while j < n {
         let at = place(i, j);
-        let y = m[place(n, j)];
-        m[at] = m[at] ^ times(x, y, table, f);
+        let y = row[j];
+        m[at] = m[at] ^ product_of(k, y, table, f);
         j += 1;
     }
 }
 
 // So do all rows before row n.
-fn sweep(m: &mut [u8; 64], table: &[u16; 1280], n: usize, f: Field)
-    requires { ⌜ (length (now m) ≡ 64) × ProductsBy f (now table) × (n < 8) ⌝ }
-    ensures { λ _. ⌜ Swept (operations f) n n (now (m .entry)) (now (m .exit)) ⌝ }
+fn sweep(m: &mut [u8; 64], table: &[u16], row: &[usize; 8], q: u8, n: usize, f: Field)
+    requires { ⌜
+        (length (now m) ≡ 64)
+        × ProductsBy f (now table)
+        × LogarithmsOf (now table) (entry (now m) n) n (now row)
+        × (n < 8)
+        ⌝ }
+    ensures { λ _. ⌜ Swept (operations f) q n n (now (m .entry)) (now (m .exit)) ⌝ }
 {
     let mut i = 0;
     while i < n {
-        sweep_row(m, table, i, n, f);
+        sweep_row(m, table, row, q, i, n, f);
         i += 1;
     }
 }
 
 // Column n cleared by its pivot's row, which goes; false where it has no pivot.
-fn clear(m: &mut [u8; 64], table: &[u16; 1280], inverses: &[u8], n: usize, f: Field) -> bool
+fn clear(m: &mut [u8; 64], table: &[u16], inverses: &[u8], n: usize, f: Field) -> bool
     requires { ⌜
         (length (now m) ≡ 64)
         × ProductsBy f (now table)
@@ -94,13 +117,13 @@ fn clear(m: &mut [u8; 64], table: &[u16; 1280], inverses: &[u8], n: usize, f: Fi
         return false;
     }
     let q = inverse(x, inverses);
-    raise(m, table, p, n, q, f);
-    sweep(m, table, n, f);
+    let row = raise(m, table, p, n, f);
+    sweep(m, table, &row, q, n, f);
     true
 }
 
 // Has the matrix an inverse? By the lent tables of the field.
-fn eliminated(m: [u8; 64], table: &[u16; 1280], inverses: &[u8], f: Field) -> bool
+fn eliminated(m: [u8; 64], table: &[u16], inverses: &[u8], f: Field) -> bool
     requires { ⌜ ProductsBy f (now table) × (now inverses ≡ reciprocals (bits f) (modulus f)) ⌝ }
     ensures { λ r. ⌜ r ≡ invertible (operations f) 8 (entry m) ⌝ }
 {
@@ -116,21 +139,38 @@ fn eliminated(m: [u8; 64], table: &[u16; 1280], inverses: &[u8], f: Field) -> bo
     true
 }
 
-// Has the matrix an inverse? Of a number past the field's size products and reciprocals read the low bits, sums and the
-// test for zero all.
-pub fn is_invertible(m: [u8; 64], f: Field) -> bool
-    ensures { λ r. ⌜ r ≡ invertible (operations f) 8 (entry m) ⌝ }
+// Has each of two matrices an inverse?
+fn both_eliminated(
+    first: [u8; 64],
+    second: [u8; 64],
+    table: &[u16],
+    inverses: &[u8],
+    f: Field,
+) -> bool
+    requires { ⌜ ProductsBy f (now table) × (now inverses ≡ reciprocals (bits f) (modulus f)) ⌝ }
+    ensures { λ r. ⌜ r ≡ (invertible (operations f) 8 (entry first) && invertible (operations f) 8 (entry second)) ⌝ }
+{
+    if !eliminated(first, table, inverses, f) {
+        return false;
+    }
+    eliminated(second, table, inverses, f)
+}
+
+// Has each of two matrices an inverse? The tables are copied once for both. Of a number past the field's size products
+// and reciprocals read the low bits, sums and the test for zero all.
+pub fn both_invertible(first: [u8; 64], second: [u8; 64], f: Field) -> bool
+    ensures { λ r. ⌜ r ≡ (invertible (operations f) 8 (entry first) && invertible (operations f) 8 (entry second)) ⌝ }
 {
     match f {
         Field::Gf32 => {
             let table = logarithms::small_logarithms();
             let inverses = field::small_reciprocals();
-            eliminated(m, &table, &inverses, f)
+            both_eliminated(first, second, &table, &inverses, f)
         }
         Field::Gf256 => {
             let table = logarithms::large_logarithms();
             let inverses = field::large_reciprocals();
-            eliminated(m, &table, &inverses, f)
+            both_eliminated(first, second, &table, &inverses, f)
         }
     }
 }

@@ -1,12 +1,12 @@
 // 8 by 8 matrices over either field, each in one array of 64 numbers.
 ghost use mathlib.Core.Path.{_≡_};
 ghost use Prim.Native.Nat.{_%_, _<_};
-ghost use Rattle.matrix.specs.Layout.{place, rowOf, columnOf, entry};
+ghost use Rattle.matrix.specs.Layout.{place, entry};
 
 mod elimination; // elimination.rt: has a matrix an inverse?
 mod product; // product.rt: the product of two matrices
 
-pub use elimination::is_invertible;
+pub use elimination::both_invertible;
 pub use product::matrix_product;
 
 // The rows, and the columns.
@@ -19,21 +19,6 @@ pub fn place(row: usize, column: usize) -> usize
     ensures { λ r. ⌜ (r ≡ place row column) × (r < 64) ⌝ }
 {
     8 * column + row
-}
-
-// The row and the column of the entry at a place.
-pub(crate) fn row_of(at: usize) -> usize
-    requires { ⌜ at < 64 ⌝ }
-    ensures { λ r. ⌜ (r ≡ rowOf at) × (r < 8) ⌝ }
-{
-    at % 8
-}
-
-pub(crate) fn column_of(at: usize) -> usize
-    requires { ⌜ at < 64 ⌝ }
-    ensures { λ r. ⌜ (r ≡ columnOf at) × (r < 8) ⌝ }
-{
-    at / 8
 }
 
 // The entry in a row and a column, each counted by its remainder by 8, so that any two numbers name an entry.

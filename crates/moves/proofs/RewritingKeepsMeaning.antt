@@ -15,7 +15,7 @@ use Rattle.braid.proofs.RoundTrip.{wordFile-accepted, codes-wordFile, wrote-fil
 use Rattle.action.specs.declared.Pair.{Pair}
 use Rattle.action.specs.Action.{pairOf, wordOn}
 use Rattle.braid.specs.Strands.{isOrder}
-use Rattle.action.specs.Multiplier.{elements, nonzero}
+use Rattle.operands.specs.Operands.{elements, nonzero}
 use Rattle.action.specs.Good.{TValues, GoodPair}
 use Rattle.action.proofs.GoodLaws.{tested-pair, tested-values}
 use Rattle.key.specs.Keys.{keyField, keyAnswer, keyOf}

@@ -36,5 +36,5 @@ pub fn rewrite(word: &[u8], moves: &[u8], out: &mut [u8]) -> Written
         };
     }
     let n = last.letters;
-    braid::write_word(&codes[..n], out)
+    writer::write_word(&codes[..n], out)
 }

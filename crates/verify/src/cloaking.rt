@@ -25,7 +25,7 @@ fn is_list(labels: &[u8]) -> bool
     if labels.len() != Pair::STRANDS {
         return false;
     }
-    action::is_order(labels)
+    operands::is_order(labels)
 }
 
 // Eight labels as an array.

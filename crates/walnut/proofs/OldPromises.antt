@@ -3,7 +3,7 @@
 -- cloaking and the desk: OldKeys in key, OldSlips in verify, old-input in desk_line.
 use Prim.Native.Nat.{ℕ}
 use mathlib.Core.Path.{_≡_, refl, ap, _∙_}
-use mathlib.Core.Bool.{Bool, true, false, not, _&&_, _||_}
+use mathlib.Core.Bool.{Bool, not, _&&_, _||_}
 use mathlib.Core.List.{List, [], _∷_}
 use borrow.Author.Tests.{ne-eqb}
 use lib.Dec.{ltb, eqb}
@@ -19,6 +19,7 @@ use Rattle.braid.specs.Strands.{isOrder}
 use Rattle.braid.specs.Words.{roomQuestion}
 use Rattle.action.specs.declared.Pair.{Pair}
 use Rattle.action.specs.Multiplier.{multiplierQuestions}
+use Rattle.key.proofs.OldKeys.{or-false}
 use Rattle.digest.specs.Digest.{encoderQuestions}
 
 pub old-field : operations Gf32 ≡ polynomials 5 0b100101
@@ -38,10 +39,6 @@ pub old-multiplier : (p : Pair) (ts : List ℕ) (c : ℕ)
     ∷ (isLetter c else 12)
     ∷ []
 old-multiplier p ts c = refl
-
-or-false : (b : Bool) → b || false ≡ b
-or-false true = refl
-or-false false = refl
 
 pub old-encoder : (room : ℕ) (digest : List ℕ) → (length digest ≡ 64 → ⊥)
     → firstNo (encoderQuestions room digest) ≡ firstNo (roomQuestion room ∷ (eqb (length digest) 32 else 8) ∷ [])

@@ -12,7 +12,7 @@ ghost use Rattle.verify.specs.Verdict.{verdict};
 ghost use Rattle.verify.specs.Cloaking.{Cloaks};
 ghost use Rattle.moves.specs.Meaning.{Rewrote};
 ghost use Rattle.walnut.specs.Exported.{keyFrom};
-ghost use Rattle.braid.specs.Reduction.{WroteReduced};
+ghost use Rattle.reduction.specs.Reducer.{WroteReduced};
 ghost use Rattle.digest.specs.Digest.{WroteEncoded};
 use action::Pair;
 use braid::Word;
@@ -110,7 +110,7 @@ pub extern "C" fn walnut_write_key(
     ensures { λ r. ⌜ WroteKey (fieldOf large) (now («t_values» .entry)) (now (labels .entry)) (now (first .entry)) (now (second .entry)) (now (out .entry)) (now (out .exit)) r ⌝ }
 {
     let f = field::field_of(large);
-    key::write_key(t_values, labels, first, second, out, f)
+    key_writer::write_key(t_values, labels, first, second, out, f)
 }
 
 #[no_mangle]
@@ -124,7 +124,7 @@ pub extern "C" fn walnut_read_word(file: &[u8]) -> Word
 pub extern "C" fn walnut_write_word(codes: &[u8], out: &mut [u8]) -> Written
     ensures { λ r. ⌜ WroteWord (now (codes .entry)) (now (out .entry)) (now (out .exit)) (r .answer) (r .bytes) ⌝ }
 {
-    braid::write_word(codes, out)
+    writer::write_word(codes, out)
 }
 
 #[no_mangle]
@@ -138,7 +138,7 @@ pub extern "C" fn walnut_encode_digest(digest: &[u8], out: &mut [u8]) -> Written
 pub extern "C" fn walnut_free_reduce(word: &[u8], out: &mut [u8]) -> Written
     ensures { λ r. ⌜ WroteReduced (now (word .entry)) (now (out .entry)) (now (out .exit)) (r .answer) (r .bytes) ⌝ }
 {
-    braid::free_reduce(word, out)
+    reduction::free_reduce(word, out)
 }
 
 #[no_mangle]

@@ -19,7 +19,9 @@ cast-next c = let s = c .before .before in omega (arith, s .pre .0 .below (s .ar
 constants-at-requires : tie.Need-constants-at-requires
 constants-at-requires c κs =
     let s = c .before .before in
-    (s .pre .0 .below (s .args .code % 8), s .pre .0 .below (s .args .code % 8 + 1))
+    let g = s .args .code % 8 in
+    let below = s .pre .0 .below in
+    (omega (arith, below g, below (g + 1)), omega (arith, below g, below (g + 1)))
 
 cross-requires : tie.Need-cross-requires
 cross-requires c κs =

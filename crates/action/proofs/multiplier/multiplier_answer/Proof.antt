@@ -9,7 +9,8 @@ use lib.ListN.{drop}
 use Rattle.base.specs.Questions.{Question, firstNo}
 use Rattle.base.proofs.QuestionLaws.{passes, fails}
 use Rattle.base.proofs.ListLaws.{and-both}
-use Rattle.action.specs.Multiplier.{elements, multiplierQuestions}
+use Rattle.action.specs.Multiplier.{multiplierQuestions}
+use Rattle.operands.specs.Operands.{elements}
 use Rattle.action.proofs.multiplier.multiplier_answer.Statement.{statement}
 use Rattle.action.proofs.multiplier.multiplier_answer.Tie as tie
 

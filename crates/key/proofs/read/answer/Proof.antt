@@ -12,7 +12,7 @@ use Rattle.base.specs.Digits.{part}
 use Rattle.base.proofs.QuestionLaws.{passes, fails}
 use Rattle.base.proofs.PackLaws.{below-part, length-part}
 use Rattle.braid.specs.Strands.{isOrder}
-use Rattle.action.specs.Multiplier.{nonzero}
+use Rattle.operands.specs.Operands.{nonzero}
 use Rattle.key.specs.Keys.{tValues, labels, fieldSize, startsWithOnes, partQuestions}
 use Rattle.key.proofs.read.answer.Statement.{statement}
 use Rattle.key.proofs.read.answer.Tie as tie

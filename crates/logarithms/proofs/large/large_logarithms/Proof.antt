@@ -9,7 +9,7 @@ use Rattle.logarithms.proofs.large.large_logarithms.Tie as tie
 
 returns : tie.Need-returns
 unfolding every valuesFrom timesX
-returns c = products-by Gf256 _ (refl, refl, refl, refl, refl)
+returns c = products-by Gf256 255 _ (refl, refl, refl, refl, refl)
 
 pub large-logarithms-spec : {M : Type 1} → statement M
 large-logarithms-spec = tie.close (tie.spec returns)

@@ -9,7 +9,7 @@ use Rattle.logarithms.proofs.small.small_logarithms.Tie as tie
 
 returns : tie.Need-returns
 unfolding every valuesFrom timesX
-returns c = products-by Gf32 _ (refl, refl, refl, refl, refl)
+returns c = products-by Gf32 31 _ (refl, refl, refl, refl, refl)
 
 pub small-logarithms-spec : {M : Type 1} → statement M
 small-logarithms-spec = tie.close (tie.spec returns)

@@ -1,23 +1,29 @@
--- `matrix::elimination::raise` meets its contract. The loop's invariant: the columns before j are raised.
-use Prim.Native.Nat.{_+_, _-_, _≤_}
-use mathlib.Core.Path.{_≡_}
+-- `matrix::elimination::raise` meets its contract. The loop's invariant: the columns before j are raised, and their
+-- logarithms taken.
+use Prim.Native.Nat.{ℕ, _+_, _-_, _≤_}
+use mathlib.Core.Path.{_≡_, refl, ap, _∙_}
 use native.Mathlib.Omega.{arith}
 use borrow.Author.Needs.{needs}
-use Rattle.field.specs.Fields.{operations}
+use lib.ListN.{length, getD, length-set}
+use Rattle.logarithms.specs.Logarithms.{LogarithmsOf}
+use Rattle.logarithms.proofs.PowerLaws.{same-number, logarithms-next}
 use Rattle.matrix.specs.Layout.{entry}
 use Rattle.matrix.specs.Sweeping.{Raised}
-use Rattle.matrix.proofs.SweepLaws.{raised-start, raised-next}
+use Rattle.matrix.proofs.SweepLaws.{raised-start, raised-own, raised-next}
 use Rattle.matrix.proofs.elimination.raise.Statement.{statement}
 use Rattle.matrix.proofs.elimination.raise.Tie as tie
 
 abbrev Inv-loop : tie.InvT-loop
-Inv-loop m₀ table p n q f j₀ m j = (j ≤ n + 1) × Raised (operations f) q n p j m₀ m
+Inv-loop m₀ table p n f logs₀ j₀ m logs j =
+    (j ≤ n + 1) × Raised n p j m₀ m × (length logs ≡ 8) × LogarithmsOf table (entry m₀ p) j logs
 
 abbrev μ-loop : tie.MeasureT-loop
-μ-loop m₀ table p n q f j₀ m j = n + 1 - j
+μ-loop m₀ table p n f logs₀ j₀ m logs j = n + 1 - j
 
 loop-holds : tie.Need-loop-holds Inv-loop μ-loop
-loop-holds c = let a = c .args in (omega arith, raised-start (operations (a .f)) (a .q) (a .n) (a .p) (a .m .now) (c .pre .0))
+loop-holds c =
+    let a = c .before .args in
+    (omega arith, raised-start (a .n) (a .p) (a .m .now) (c .before .pre .0), refl, λ j h. absurd (omega arith))
 
 place-requires : tie.Need-place-requires Inv-loop μ-loop
 place-requires c κs = (omega arith, omega arith)
@@ -28,14 +34,20 @@ place-requires-2 c κs = (omega arith, omega arith)
 element-copy-out-x : tie.Need-element-copy-out-x Inv-loop μ-loop
 element-copy-out-x c = omega arith
 
+logarithm-requires : tie.Need-logarithm-requires Inv-loop μ-loop
+logarithm-requires c κs = search needs
+
+mul-logs : tie.Need-mul-logs Inv-loop μ-loop
+mul-logs c = omega arith
+
+array-write-logs : tie.Need-array-write-logs Inv-loop μ-loop
+array-write-logs c = omega arith
+
 element-copy-out-m : tie.Need-element-copy-out-m Inv-loop μ-loop
 element-copy-out-m c = omega arith
 
 element-write-m : tie.Need-element-write-m Inv-loop μ-loop
 element-write-m c = omega arith
-
-times-requires : tie.Need-times-requires Inv-loop μ-loop
-times-requires c κs = search needs
 
 element-write-m-2 : tie.Need-element-write-m-2 Inv-loop μ-loop
 element-write-m-2 c = omega arith
@@ -49,19 +61,24 @@ loop-less c = omega arith
 loop-again : tie.Need-loop-again Inv-loop μ-loop
 unfolding entry
 loop-again c =
-    let b = c .before .before .before in
+    let s = c .before in
+    let b = s .before .before in
     let l = b .before .before .before .loop in
-    let a = b .before .before .before .before .args in (
+    let a = b .before .before .before .before .before .args in
+    let own = ap (λ (k : ℕ). getD (l .m) k 0) (b .before .place .ensures .0) in (
       omega arith,
-      rw (c .times .ensures, b .before .place .ensures .0, b .place2 .ensures .0)
-          (raised-next (operations (a .f)) (a .q) (a .n) (a .p) (l .j) (a .m .now) (l .m) (omega arith) (omega arith) (omega arith) (l .inv .1)),
+      rw (b .before .place .ensures .0, b .place2 .ensures .0)
+          (raised-next (a .n) (a .p) (l .j) (a .m .now) (l .m) (omega arith) (omega arith) (omega arith) (l .inv .1)),
+      length-set (l .logs) (l .j) _ ∙ l .inv .2,
+      logarithms-next (a .table .now) (entry (a .m .now) (a .p)) (l .j) (l .logs) _ (omega (arith, l .inv .2)) (l .inv .3)
+          (same-number (own ∙ raised-own (a .n) (a .p) (l .j) (a .m .now) (l .m) (omega arith) (omega arith) (omega arith) (l .inv .1)) (s .logarithm .ensures)),
     )
 
 returns : tie.Need-returns Inv-loop μ-loop
 returns c =
     let l = c .before .loop in
-    let e : l .j ≡ c .before .before .args .n + 1 = omega arith in
-    rw e at (l .inv .1)
+    let e : l .j ≡ c .before .before .before .args .n + 1 = omega arith in
+    (rw e at (l .inv .1), l .inv .2, λ k h. l .inv .3 k (omega arith))
 
 pub raise-spec : {M : Type 1} → statement M
 raise-spec =
@@ -73,9 +90,11 @@ raise-spec =
     place-requires
     place-requires-2
     element-copy-out-x
+    logarithm-requires
+    mul-logs
+    array-write-logs
     element-copy-out-m
     element-write-m
-    times-requires
     element-write-m-2
     add-j
     loop-less

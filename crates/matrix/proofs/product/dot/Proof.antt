@@ -1,12 +1,10 @@
 -- `matrix::product::dot` meets its contract. The loop's invariant: the sum of the first k products.
-use Prim.Native.Nat.{ℕ, _-_, _≤_}
+use Prim.Native.Nat.{ℕ, _+_, _-_, _≤_}
 use mathlib.Core.Path.{_≡_, refl, sym, ap, ap₂, _∙_}
 use mathlib.Core.List.{List}
 use native.Mathlib.Omega.{arith}
-use borrow.Author.Needs.{needs}
 use lib.ListN.{getD}
 use Rattle.field.specs.Fields.{operations}
-use Rattle.field.specs.declared.Field.{Field}
 use Rattle.matrix.specs.Layout.{entry}
 use Rattle.matrix.specs.Product.{sum}
 use Rattle.matrix.proofs.SumLaws.{sum-next}
@@ -14,15 +12,14 @@ use Rattle.matrix.proofs.product.dot.Statement.{statement}
 use Rattle.matrix.proofs.product.dot.Tie as tie
 
 -- the products of a row and a column
-abbrev terms : Field → List ℕ → List ℕ → ℕ → ℕ → ℕ → ℕ
-terms f a b row column = λ j. operations f .mul (entry a row j) (entry b j column)
+abbrev terms : List ℕ → List ℕ → List ℕ → ℕ → ℕ → ℕ
+terms table a b row = λ k. getD table (256 + (entry a row k + getD b k 0)) 0
 
 abbrev Inv-loop : tie.InvT-loop
-Inv-loop table a b row column f total₀ k₀ total k =
-    (k ≤ 8) × (total ≡ sum (operations f) (terms f a b row column) k)
+Inv-loop table a b row f total₀ k₀ total k = (k ≤ 8) × (total ≡ sum (operations f) (terms table a b row) k)
 
 abbrev μ-loop : tie.MeasureT-loop
-μ-loop table a b row column f total₀ k₀ total k = 8 - k
+μ-loop table a b row f total₀ k₀ total k = 8 - k
 
 loop-holds : tie.Need-loop-holds Inv-loop μ-loop
 unfolding sum
@@ -31,17 +28,24 @@ loop-holds c = (omega arith, refl)
 place-requires : tie.Need-place-requires Inv-loop μ-loop
 place-requires c κs = (omega arith, omega arith)
 
+mul-x : tie.Need-mul-x Inv-loop μ-loop
+mul-x c = omega arith
+
 element-copy-out-x : tie.Need-element-copy-out-x Inv-loop μ-loop
 element-copy-out-x c = omega arith
 
-place-requires-2 : tie.Need-place-requires-2 Inv-loop μ-loop
-place-requires-2 c κs = (omega arith, omega arith)
+mul-y : tie.Need-mul-y Inv-loop μ-loop
+mul-y c = omega arith
 
 element-copy-out-y : tie.Need-element-copy-out-y Inv-loop μ-loop
 element-copy-out-y c = omega arith
 
-times-requires : tie.Need-times-requires Inv-loop μ-loop
-times-requires c κs = search needs
+product-of-requires : tie.Need-product-of-requires Inv-loop μ-loop
+product-of-requires c κs =
+    let p = c .before .before in
+    let l = p .before .before .loop in
+    let pre = p .before .before .before .before .pre in
+    (pre .0, omega (arith, pre .1 (p .place .result) (p .place .ensures .1), pre .2 (l .k) (omega arith)))
 
 add-k : tie.Need-add-k Inv-loop μ-loop
 add-k c = omega arith
@@ -52,22 +56,22 @@ loop-less c = omega arith
 loop-again : tie.Need-loop-again Inv-loop μ-loop
 unfolding entry
 loop-again c =
-    let l = c .before .before .before .before .before .before .loop in
-    let a = c .before .before .before .before .before .before .before .args in (
+    let p = c .before .before .before in
+    let l = p .before .before .loop in
+    let a = p .before .before .before .before .args in (
       omega arith,
       ap₂ (operations (a .f) .add) (l .inv .1)
-          (c .times .ensures
-          ∙ ap₂ (λ (p q : ℕ). operations (a .f) .mul (getD (a .a .now) p 0) (getD (a .b .now) q 0)) (c .before .before .before .before .place .ensures .0)
-          (c .before .before .place2 .ensures .0))
-          ∙ sym (sum-next (operations (a .f)) (terms (a .f) (a .a .now) (a .b .now) (a .row) (a .column)) (l .k)),
+          (c .product-of .ensures
+          ∙ ap (λ (i : ℕ). getD (a .table .now) (256 + (getD (a .a .now) i 0 + getD (a .b .now) (l .k) 0)) 0) (p .place .ensures .0))
+          ∙ sym (sum-next (operations (a .f)) (terms (a .table .now) (a .a .now) (a .b .now) (a .row)) (l .k)),
     )
 
 returns : tie.Need-returns Inv-loop μ-loop
 returns c =
     let l = c .before .loop in
-    let a = c .before .before .args in
+    let a = c .before .before .before .args in
     let e : l .k ≡ 8 = omega arith in
-    l .inv .1 ∙ ap (sum (operations (a .f)) (terms (a .f) (a .a .now) (a .b .now) (a .row) (a .column))) e
+    l .inv .1 ∙ ap (sum (operations (a .f)) (terms (a .table .now) (a .a .now) (a .b .now) (a .row))) e
 
 pub dot-spec : {M : Type 1} → statement M
 dot-spec =
@@ -77,10 +81,11 @@ dot-spec =
     μ-loop
     loop-holds
     place-requires
+    mul-x
     element-copy-out-x
-    place-requires-2
+    mul-y
     element-copy-out-y
-    times-requires
+    product-of-requires
     add-k
     loop-less
     loop-again

@@ -19,9 +19,11 @@ matrix-product-spec =
     (tie.spec
     (λ c. search needs)
     (λ c κs. search needs)
+    (λ c. search needs)
     multiplied-requires
     (λ c. search needs)
     (λ c κs. search needs)
+    (λ c. search needs)
     multiplied-requires-2
     (λ c. search needs)
     (λ c. search needs))

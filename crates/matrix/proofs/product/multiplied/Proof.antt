@@ -1,68 +1,72 @@
--- `matrix::product::multiplied` meets its contract. The loop's invariant: the places before i hold the product.
+-- `matrix::product::multiplied` meets its contract. The loop's invariant: the columns before c hold the product.
 use Prim.Native.Nat.{ℕ, _-_, _≤_, _<_}
-use mathlib.Core.Path.{_≡_, refl, ap₂, _∙_}
-use mathlib.Core.List.{List}
+use mathlib.Core.Path.{_≡_, refl}
 use native.Mathlib.Omega.{arith}
 use borrow.Author.Needs.{needs}
-use lib.ListN.{length, getD, length-set}
-use Rattle.base.proofs.ListLaws.{values-of, one-more}
+use lib.ListN.{length, getD}
 use Rattle.field.specs.Fields.{operations}
-use Rattle.field.specs.declared.Field.{Field}
-use Rattle.matrix.specs.Layout.{rowOf, columnOf, entry, matrixOf}
+use Rattle.matrix.specs.Layout.{entry}
 use Rattle.matrix.specs.Product.{rowBy, matrixProduct}
+use Rattle.matrix.proofs.LayoutLaws.{by-entries}
+use Rattle.matrix.proofs.MultiplyLaws.{all-near, columns-next}
 use Rattle.matrix.proofs.product.multiplied.Statement.{statement}
 use Rattle.matrix.proofs.product.multiplied.Tie as tie
 
--- what stands in a row and a column of the product, and at a place
-abbrev product : Field → List ℕ → List ℕ → ℕ → ℕ → ℕ
-product f a b r = rowBy (operations f) 8 (entry a r) (entry b)
-
-abbrev there : Field → List ℕ → List ℕ → ℕ → ℕ
-there f a b k = product f a b (rowOf k) (columnOf k)
-
 abbrev Inv-loop : tie.InvT-loop
-Inv-loop table a b f m₀ i₀ m i = (i ≤ 64) × (length m ≡ 64) × ((k : ℕ) → k < i → getD m k 0 ≡ there f a b k)
+Inv-loop table a b f rows m₀ c₀ m c =
+    (c ≤ 8)
+    × (length m ≡ 64)
+    × ((r k : ℕ) → r < 8 → k < c → entry m r k ≡ rowBy (operations f) 8 (entry a r) (entry b) k)
 
 abbrev μ-loop : tie.MeasureT-loop
-μ-loop table a b f m₀ i₀ m i = 64 - i
+μ-loop table a b f rows m₀ c₀ m c = 8 - c
+
+logarithms-of-requires : tie.Need-logarithms-of-requires Inv-loop μ-loop
+logarithms-of-requires c κs = search needs
 
 loop-holds : tie.Need-loop-holds Inv-loop μ-loop
-loop-holds c = (omega arith, refl, λ k h. absurd (omega arith))
+loop-holds c = (omega arith, refl, λ r k hr hk. absurd (omega arith))
 
-row-of-requires : tie.Need-row-of-requires Inv-loop μ-loop
-row-of-requires c κs = omega arith
+column-logarithms-requires : tie.Need-column-logarithms-requires Inv-loop μ-loop
+column-logarithms-requires c κs = let l = c .before in (l .before .before .before .pre, omega arith)
 
-column-of-requires : tie.Need-column-of-requires Inv-loop μ-loop
-column-of-requires c κs = omega arith
+fill-column-requires : tie.Need-fill-column-requires Inv-loop μ-loop
+fill-column-requires c κs =
+    let k = c .before .before .before in
+    let l = k .before .before in
+    let s = l .before .before .before in (
+      l .loop .inv .1,
+      s .pre,
+      all-near (s .pre) (λ k. getD (s .args .a .now) k 0) 64 (l .before .logarithms-of .result) (l .before .logarithms-of .ensures .1),
+      all-near (s .pre) (λ j. entry (s .args .b .now) j (l .loop .c)) 8 (k .column-logarithms .result) (k .column-logarithms .ensures .1),
+      omega arith,
+    )
 
-dot-requires : tie.Need-dot-requires Inv-loop μ-loop
-dot-requires c κs = (c .before .before .before .before .pre, omega arith, omega arith)
-
-array-write-m : tie.Need-array-write-m Inv-loop μ-loop
-array-write-m c = omega arith
-
-add-i : tie.Need-add-i Inv-loop μ-loop
-add-i c = omega arith
+add-c : tie.Need-add-c Inv-loop μ-loop
+add-c c = omega arith
 
 loop-less : tie.Need-loop-less Inv-loop μ-loop
 loop-less c = omega arith
 
 loop-again : tie.Need-loop-again Inv-loop μ-loop
 loop-again c =
-    let l = c .before .before .before .before .loop in
-    let a = c .before .before .before .before .before .args in (
+    let k = c .before .before .before .before in
+    let l = k .before .before in
+    let s = l .before .before .before in (
       omega arith,
-      length-set (l .m) (l .i) _ ∙ l .inv .1,
-      one-more (there (a .f) (a .a .now) (a .b .now)) (l .m) (l .i) _ (omega arith) (l .inv .2)
-          (c .dot .ensures ∙ ap₂ (product (a .f) (a .a .now) (a .b .now)) (c .before .before .row-of .ensures .0) (c .before .column-of .ensures .0)),
+      c .fill-column .ensures .size,
+      columns-next (s .pre) (s .args .a .now) (l .before .logarithms-of .result) (s .args .b .now) (l .before .logarithms-of .ensures .1) (l .loop .c) (l .loop .m) _
+          (k .column-logarithms .result) (omega arith) (k .column-logarithms .ensures .1) (c .fill-column .ensures) (l .loop .inv .2),
     )
 
 returns : tie.Need-returns Inv-loop μ-loop
-unfolding matrixProduct matrixOf
+unfolding matrixProduct
 returns c =
-    let l = c .before .loop in
-    let a = c .before .before .args in
-    values-of (there (a .f) (a .a .now) (a .b .now)) 64 (l .m) (l .inv .1) (λ k h. l .inv .2 k (omega arith))
+    let l = c .before in
+    let s = l .before .before .before in
+    let a = s .args .a .now in
+    by-entries (l .loop .m) (λ r. rowBy (operations (s .args .f)) 8 (entry a r) (entry (s .args .b .now))) (l .loop .inv .1)
+    (λ r k hr hk. l .loop .inv .2 r k hr (omega arith))
 
 pub multiplied-spec : {M : Type 1} → statement M
 multiplied-spec =
@@ -70,12 +74,11 @@ multiplied-spec =
     (tie.spec
     Inv-loop
     μ-loop
+    logarithms-of-requires
     loop-holds
-    row-of-requires
-    column-of-requires
-    dot-requires
-    array-write-m
-    add-i
+    column-logarithms-requires
+    fill-column-requires
+    add-c
     loop-less
     loop-again
     returns)

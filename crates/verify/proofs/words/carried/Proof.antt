@@ -5,8 +5,7 @@ use mathlib.Core.Path.{ap, _∙_}
 use mathlib.Core.List.{List}
 use Rattle.field.specs.Fields.{operations}
 use Rattle.braid.specs.Words.{codes}
-use Rattle.braid.proofs.ReadLaws.{accepted-word}
-use Rattle.braid.proofs.ReducerLaws.{part-codes}
+use Rattle.braid.proofs.ReadLaws.{accepted-word, part-codes}
 use Rattle.action.specs.Action.{codesOn}
 use Rattle.action.proofs.CarryLaws.{codes-word}
 use borrow.Author.Needs.{needs}

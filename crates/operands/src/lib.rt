@@ -1,0 +1,80 @@
+// Tests on T-values, entries and labels, for the questions of the multiplier and of keys.
+use field::Field;
+ghost use mathlib.Core.Path.{_≡_};
+ghost use lib.Dec.{eqb, ltb};
+ghost use Rattle.base.specs.Lists.{every, count, values};
+ghost use Rattle.braid.specs.Strands.{isOrder};
+ghost use Rattle.operands.specs.Operands.{elements, nonzero};
+
+fn all_below(xs: &[u8], limit: u8) -> bool
+    ensures { λ r. ⌜ r ≡ every (λ x. ltb x limit) (now (xs .entry)) ⌝ }
+{
+    let mut i = 0;
+    while i < xs.len() {
+        let x = xs[i];
+        if limit <= x {
+            return false;
+        }
+        i += 1;
+    }
+    true
+}
+
+// Is every number an element of the field?
+pub fn all_elements(xs: &[u8], f: Field) -> bool
+    ensures { λ r. ⌜ r ≡ elements f (now (xs .entry)) ⌝ }
+{
+    match f {
+        Field::Gf32 => all_below(xs, 32),
+        Field::Gf256 => true, // every byte
+    }
+}
+
+// How often a number occurs.
+fn count(a: u8, xs: &[u8]) -> usize
+    ensures { λ r. ⌜ r ≡ count a (now (xs .entry)) ⌝ }
+{
+    let mut n = 0;
+    let mut i = 0;
+    while i < xs.len() {
+        let x = xs[i];
+        if x == a {
+            n += 1;
+        }
+        i += 1;
+    }
+    n
+}
+
+// Is no number zero?
+pub fn all_nonzero(xs: &[u8]) -> bool
+    ensures { λ r. ⌜ r ≡ nonzero (now (xs .entry)) ⌝ }
+{
+    count(0, xs) == 0
+}
+
+// Does each of 0 to 7 occur once?
+fn once_each(xs: &[u8]) -> bool
+    ensures { λ r. ⌜ r ≡ every (λ a. eqb (count a (now (xs .entry))) 1) (values (λ a. a) 8) ⌝ }
+{
+    let mut a: u8 = 0;
+    while a < 8 {
+        let n = count(a, xs);
+        if n != 1 {
+            return false;
+        }
+        a += 1;
+    }
+    true
+}
+
+// Is the list 0 to 7, each once?
+pub fn is_order(labels: &[u8]) -> bool
+    ensures { λ r. ⌜ r ≡ isOrder (now (labels .entry)) ⌝ }
+{
+    let below = all_below(labels, 8);
+    if !below {
+        return false;
+    }
+    once_each(labels)
+}
