@@ -1,5 +1,5 @@
-/* The key reader, the verdict, cloaking, the lent multiplier, the rewriter and free reduction in plain C, as one would
-   write them by hand: for the library's times to stand beside. */
+/* The key reader, the verdict, cloaking, the lent multiplier, the rewriter, free reduction and crossings in plain C, as
+   one would write them by hand: for the library's times to stand beside. */
 #include <stdbool.h>
 #include <stddef.h>
 #include <stdint.h>
@@ -470,4 +470,22 @@ size_t plain_reduce(const uint8_t *word, size_t wn, uint8_t *out, size_t len)
             codes[n++] = code;
     }
     return write_codes(codes, n, out);
+}
+
+/* How often the labels a and b cross: one walk counts all pairs, by the label at a letter's place and the next. 0 on a refusal. */
+int32_t plain_crossings(const uint8_t *word, size_t wn, uint8_t a, uint8_t b)
+{
+    int32_t numbers[8][8] = {{0}};
+    uint8_t labels[8] = {0, 1, 2, 3, 4, 5, 6, 7};
+    size_t n;
+    if (read_word(word, wn, &n) || a > 7 || b > 7 || a == b)
+        return 0;
+    for (size_t k = 0; k < n; k++) {
+        unsigned code = code_at(word + 2, k), g = code & 7;
+        uint8_t label = labels[g], next = labels[g + 1];
+        numbers[label][next] += code & 8 ? -1 : 1;
+        labels[g] = next;
+        labels[g + 1] = label;
+    }
+    return numbers[a][b] + numbers[b][a];
 }

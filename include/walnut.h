@@ -34,6 +34,7 @@
  *   24  an insertion would leave more than 10,000 letters
  *   25  the list handed in is not 8 bytes, 0 to 7 each once
  *   26  a matrix of the key has no inverse
+ *   27  a label is over 7, or the two labels are equal
  * (answers.txt: end)
  */
 #ifndef WALNUT_H
@@ -74,6 +75,9 @@ typedef struct { uint8_t answer; size_t bytes; } walnut_written;
 
 /* Does the word cloak? No on a refusal. */
 typedef struct { uint8_t answer; bool yes; } walnut_cloak;
+
+/* The signed number of crossings of two strands; 0 on a refusal. */
+typedef struct { uint8_t answer; int32_t crossings; } walnut_crossing;
 
 /* Where the entry in a row and a column of a matrix stands, both counted from 1: every matrix lies column by column, the first one first. */
 #define WALNUT_PLACE(row, column) (8 * ((column) - 1) + ((row) - 1))
@@ -134,6 +138,10 @@ uint8_t walnut_verify(const uint8_t *key, size_t kn, const uint8_t *digest, size
 /* Does the word cloak for the list under the key's T-values: does it bring the identity matrix with that list back unchanged, over the
    key's field? Answers: 1 to 7, 26, 25, 9, 10, 11, 12, 13, 0. Changes nothing. */
 walnut_cloak walnut_cloaks(const uint8_t *key, size_t kn, const uint8_t *labels, size_t ln, const uint8_t *word, size_t wn);
+
+/* How often the strands with labels a and b cross in a word, from the list 0 to 7: its generators that swap just these two, less its
+   inverse letters that do. Answers: 9, 10, 11, 12, 13, 27, 0. Changes nothing. */
+walnut_crossing walnut_crossings(const uint8_t *word, size_t n, uint8_t a, uint8_t b);
 
 #ifdef __cplusplus
 }

@@ -1,5 +1,5 @@
-//! The key reader, the verdict, cloaking, the lent multiplier, the rewriter and free reduction in plain Rust, as one
-//! would write them by hand: for the library's times to stand beside.
+//! The key reader, the verdict, cloaking, the lent multiplier, the rewriter, free reduction and crossings in plain Rust,
+//! as one would write them by hand: for the library's times to stand beside.
 
 use std::hint::black_box;
 
@@ -397,4 +397,21 @@ pub fn free_reduce(word: &[u8], out: &mut [u8]) -> Result<usize, u8> {
         }
     }
     Ok(write_codes(&codes, out))
+}
+
+/// How often two labels cross: one walk counts all pairs, by the label at a letter's place and the next.
+pub fn crossings(word: &[u8], a: u8, b: u8) -> Result<i32, u8> {
+    let letters = read_word(word)?;
+    let (a, b) = (usize::from(a), usize::from(b));
+    if a > 7 || b > 7 || a == b {
+        return Err(27);
+    }
+    let (mut labels, mut numbers) = (ORDER, [[0; 8]; 8]);
+    for code in letters {
+        let g = usize::from(code & 7);
+        let (label, next) = (labels[g], labels[g + 1]);
+        numbers[usize::from(label)][usize::from(next)] += if code & 8 == 0 { 1 } else { -1 };
+        labels.swap(g, g + 1);
+    }
+    Ok(numbers[a][b] + numbers[b][a])
 }

@@ -30,6 +30,7 @@ extern "C" {
         len: usize,
     ) -> usize;
     fn plain_reduce(word: *const u8, wn: usize, out: *mut u8, len: usize) -> usize;
+    fn plain_crossings(word: *const u8, wn: usize, a: u8, b: u8) -> i32;
 }
 
 // The pointers come from slices that live through the call, each with its own length; the tables are filled
@@ -72,4 +73,9 @@ pub fn rewrite(word: &[u8], moves: &[u8], out: &mut [u8]) -> usize {
 pub fn free_reduce(word: &[u8], out: &mut [u8]) -> usize {
     // SAFETY: see above.
     unsafe { plain_reduce(word.as_ptr(), word.len(), out.as_mut_ptr(), out.len()) }
+}
+
+pub fn crossings(word: &[u8], a: u8, b: u8) -> i32 {
+    // SAFETY: see above.
+    unsafe { plain_crossings(word.as_ptr(), word.len(), a, b) }
 }

@@ -62,6 +62,9 @@ pub enum Work {
         word: Vec<u8>,
     },
     Keys(Vec<Vec<u8>>),
+    Crossings {
+        word: Vec<u8>,
+    },
 }
 
 /// What came of it: an answer or a number, and the bytes written.
@@ -114,6 +117,15 @@ fn lay_out(bytes: &[u8], out: &mut [u8]) -> usize {
 
 const ORDER: [u8; 8] = [0, 1, 2, 3, 4, 5, 6, 7];
 
+/// How often two labels cross in an accepted word, by a walk that counts all pairs.
+fn crossings(who: Who, word: &[u8], a: u8, b: u8) -> i32 {
+    match who {
+        Who::Library => walnut::crossings(word, a, b).unwrap_or(0),
+        Who::Rust => plain::crossings(word, a, b).unwrap_or(0),
+        Who::C => plain_c::crossings(word, a, b),
+    }
+}
+
 impl Work {
     /// Does the work once into an output of 5,002 bytes: its number, and how many bytes it wrote.
     pub fn run(&self, who: Who, out: &mut [u8]) -> (u32, usize) {
@@ -164,14 +176,19 @@ impl Work {
             (Work::Reduction { word }, Who::Rust) => (0, plain::free_reduce(word, out).unwrap_or(0)),
             (Work::Reduction { word }, Who::C) => (0, plain_c::free_reduce(word, out)),
             (Work::Keys(files), who) => (files.iter().map(|file| key_answer(file, who)).sum(), 0),
+            (Work::Crossings { word }, _) => (crossings(who, word, 0, 1) as u32, 0),
         }
     }
 
-    /// What comes of it.
+    /// What comes of it; of crossings the numbers of all 28 pairs.
     pub fn outcome(&self, who: Who) -> Outcome {
         let mut out = vec![0; WORD_BYTES];
         let (number, bytes) = self.run(who, &mut out);
         out.truncate(bytes);
+        if let Work::Crossings { word } = self {
+            let pairs = (0..8).flat_map(|a| (a + 1..8).map(move |b| (a, b)));
+            out = pairs.flat_map(|(a, b)| crossings(who, word, a, b).to_be_bytes()).collect();
+        }
         Outcome { number, written: out }
     }
 }
@@ -248,7 +265,7 @@ fn reduction(random: &mut Random, letters: usize) -> Work {
 }
 
 /// How many cases there are.
-pub const CASES: usize = 16;
+pub const CASES: usize = 17;
 
 /// The case of a number, the same in every run.
 pub fn case(number: usize) -> Case {
@@ -272,7 +289,8 @@ pub fn case(number: usize) -> Case {
         12 => ("a key read", KEYS, keys(random, small)),
         13 => ("a key of zeros refused", KEYS, zero_keys(random)),
         14 => ("256: a key read", KEYS, keys(random, large)),
-        _ => ("lent multiplier, a letter", typical(small), multiplying(random, typical(small))),
+        15 => ("lent multiplier, a letter", typical(small), multiplying(random, typical(small))),
+        _ => ("28 crossings, 10,000 letters", 1, Work::Crossings { word: word_file(&random.word(LONGEST)) }),
     };
     Case { name, parts, work }
 }

@@ -1,4 +1,4 @@
-/* Worked slips: fields, words, pairs, keys, moves, cloaking and the verdict, at both strengths. */
+/* Worked slips: fields, words, pairs, keys, moves, crossings, cloaking and the verdict, at both strengths. */
 #include <stdio.h>
 #include <string.h>
 
@@ -150,6 +150,11 @@ int main(void)
     if (walnut_encode_digest(sixes, sizeof sixes, out, sizeof out).bytes != 2 + 64 * 6)
         return 1;
     print_hex("half byte 6 gives", out + 2, 6);
+
+    const uint8_t first[3] = {0x00, 0x02, 0x01}, back_twice[3] = {0x00, 0x02, 0x88}, empty[2] = {0x00, 0x00};
+    printf("strands 0 and 2 cross in b1 b2: %d\n", walnut_crossings(first, sizeof first, 0, 2).crossings);
+    printf("strands 1 and 0 cross in b1' b1': %d\n", walnut_crossings(back_twice, sizeof back_twice, 1, 0).crossings);
+    printf("strands 0 and 8: answer %u\n", walnut_crossings(empty, sizeof empty, 0, 8).answer);
 
     const uint8_t ones[3] = {0x00, 0x02, 0x00}, threes[3] = {0x00, 0x02, 0x22};
     print_cloak("b1 b1", key, ones, sizeof ones);

@@ -1,4 +1,4 @@
-"""Worked slips: fields, words, pairs, keys, moves, cloaking and the verdict, at both strengths."""
+"""Worked slips: fields, words, pairs, keys, moves, crossings, cloaking and the verdict, at both strengths."""
 
 import walnut
 from walnut import GF32, GF256
@@ -70,6 +70,10 @@ moved = walnut.rewrite(bytes.fromhex("00 03 01 00"), bytes.fromhex("00 01 00 00 
 print("00 03 01 00 with kind 3 at place 0 gives", text(moved))
 print("00 02 08 freely reduced is", text(walnut.free_reduce(bytes.fromhex("00 02 08"))))
 print("half byte 6 gives", text(walnut.encode_digest([0x66] * 32)[2:8]))
+
+print("strands 0 and 2 cross in b1 b2:", walnut.crossings(bytes.fromhex("00 02 01"), 0, 2))
+print("strands 1 and 0 cross in b1' b1':", walnut.crossings(bytes.fromhex("00 02 88"), 1, 0))
+print("strands 0 and 8: answer", answer_of(walnut.crossings, bytes(2), 0, 8))
 
 print("b1 b1 cloaks:", yes_or_no(walnut.cloaks(key, ORDER, bytes.fromhex("00 02 00"))))
 print("b3 b3 cloaks:", yes_or_no(walnut.cloaks(key, ORDER, bytes.fromhex("00 02 22"))))

@@ -8,7 +8,7 @@ The shared library libwalnut.so is looked for in the folder that the environment
 import ctypes
 import enum
 import os
-from ctypes import POINTER, Structure, c_bool, c_char_p, c_size_t, c_uint8
+from ctypes import POINTER, Structure, c_bool, c_char_p, c_int32, c_size_t, c_uint8
 
 WORD_BYTES = 5002
 
@@ -57,6 +57,7 @@ TEXTS = {
     24: "an insertion would leave more than 10,000 letters",
     25: "the list handed in is not 8 bytes, 0 to 7 each once",
     26: "a matrix of the key has no inverse",
+    27: "a label is over 7, or the two labels are equal",
     # answers.txt: end
 }
 
@@ -86,6 +87,10 @@ class _Number(Structure):
 
 class _Cloak(Structure):
     _fields_ = [("answer", c_uint8), ("yes", c_bool)]
+
+
+class _Crossing(Structure):
+    _fields_ = [("answer", c_uint8), ("crossings", c_int32)]
 
 
 class _Pair(Structure):
@@ -129,6 +134,7 @@ _free_reduce = _exported("free_reduce", _Number, _BYTES, _OUT)
 _rewrite = _exported("rewrite", _Number, _BYTES, _BYTES, _OUT)
 _verify = _exported("verify", c_uint8, _BYTES, _BYTES, _BYTES)
 _cloaks = _exported("cloaks", _Cloak, _BYTES, _BYTES, _BYTES)
+_crossings = _exported("crossings", _Crossing, _BYTES, c_uint8, c_uint8)
 
 
 def _granted(answer, value=None):
@@ -155,6 +161,11 @@ def _byte(number, name):
     if not 0 <= number <= 255:
         raise ValueError(f"{name}: {number} is no byte")
     return number
+
+
+def _label(number, name):
+    """A label as the library takes it: one over 255 is too large, as 255 is, and the library says so in its turn."""
+    return _byte(min(number, 255), name)
 
 
 def _large(field):
@@ -296,3 +307,9 @@ def cloaks(key, labels, word):
     """Does the word cloak for the list under the key's T-values, over the key's field?"""
     cloak = _cloaks(*_slices(key, labels, word))
     return _granted(cloak.answer, cloak.yes)
+
+
+def crossings(word, a, b):
+    """How often the strands with labels a and b cross in the word, from the list 0 to 7: generators less inverse letters that swap them."""
+    crossing = _crossings(*_slices(word), _label(a, "a"), _label(b, "b"))
+    return _granted(crossing.answer, crossing.crossings)

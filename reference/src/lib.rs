@@ -1,5 +1,5 @@
 //! A second, independent road to the operations of document 01 ("Loan-slip signatures: braid words, keys and
-//! moves") and of document 02's sections 1 and 7, to run beside another implementation.
+//! moves") and of document 02's sections 1, 2 and 7, to run beside another implementation.
 //!
 //! It is written for plainness, not speed, and takes another way wherever there is one:
 //!
@@ -14,6 +14,7 @@
 //! - free reduction removes the first cancelling neighbours, again and again ([`reduce`]);
 //! - a move splices other letters into a run of letters, and the next one starts from what it left
 //!   ([`rewrite`](mod@rewrite));
+//! - how often two strands cross is found by following these two alone, without a list of labels ([`crossing`]);
 //! - the questions stand in lists, in the paper's order, and the answer is the number of the first one
 //!   answered no ([`questions`]).
 //!
@@ -27,6 +28,7 @@
 
 pub mod bits;
 pub mod cloak;
+pub mod crossing;
 pub mod desk;
 pub mod digest;
 pub mod field;
@@ -42,6 +44,7 @@ pub mod verdict;
 pub mod word;
 
 pub use cloak::{cloaks, Cloak};
+pub use crossing::{crossings, Crossing};
 pub use digest::encode_digest;
 pub use field::{product, reciprocal, Element, Field};
 pub use key::{file_entries, read_key, write_key, Key};

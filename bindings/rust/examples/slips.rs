@@ -1,4 +1,4 @@
-//! Worked slips: fields, words, pairs, keys, moves, cloaking and the verdict, at both strengths.
+//! Worked slips: fields, words, pairs, keys, moves, crossings, cloaking and the verdict, at both strengths.
 
 use walnut::Field::{self, Gf256, Gf32};
 use walnut::{Pair, Refusal, WORD_BYTES};
@@ -85,6 +85,10 @@ fn main() -> Result<(), Refusal> {
     println!("00 03 01 00 with kind 3 at place 0 gives {}", hex(moved));
     println!("00 02 08 freely reduced is {}", hex(walnut::free_reduce(&[0, 2, 8], &mut out)?));
     println!("half byte 6 gives {}", hex(&walnut::encode_digest(&[0x66; 32], &mut out)?[2..8]));
+
+    println!("strands 0 and 2 cross in b1 b2: {}", walnut::crossings(&[0, 2, 0x01], 0, 2)?);
+    println!("strands 1 and 0 cross in b1' b1': {}", walnut::crossings(&[0, 2, 0x88], 1, 0)?);
+    println!("strands 0 and 8: answer {}", answer(walnut::crossings(&[0, 0], 0, 8)));
 
     println!("b1 b1 cloaks: {}", yes_or_no(walnut::cloaks(&key, &ORDER, &[0, 2, 0x00])?));
     println!("b3 b3 cloaks: {}", yes_or_no(walnut::cloaks(&key, &ORDER, &[0, 2, 0x22])?));

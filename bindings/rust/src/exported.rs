@@ -22,6 +22,12 @@ pub struct Cloak {
 }
 
 #[repr(C)]
+pub struct Crossing {
+    pub answer: u8,
+    pub crossings: i32,
+}
+
+#[repr(C)]
 pub struct Key {
     pub answer: u8,
     pub large: bool,
@@ -74,4 +80,5 @@ extern "C" {
         word: *const u8,
         wn: usize,
     ) -> Cloak;
+    pub fn walnut_crossings(word: *const u8, n: usize, a: u8, b: u8) -> Crossing;
 }

@@ -206,3 +206,11 @@ pub fn cloaks(key: &[u8], labels: &[u8], word: &[u8]) -> Result<bool, Refusal> {
         unsafe { walnut_cloaks(file, bytes, labels.as_ptr(), labels.len(), word.as_ptr(), word.len()) };
     granted(cloak.answer, cloak.yes)
 }
+
+/// How often the strands with labels a and b cross in the word, from the list 0 to 7: its generators that swap just these
+/// two, less its inverse letters that do.
+pub fn crossings(word: &[u8], a: u8, b: u8) -> Result<i32, Refusal> {
+    // SAFETY: see above.
+    let crossing = unsafe { walnut_crossings(word.as_ptr(), word.len(), a, b) };
+    granted(crossing.answer, crossing.crossings)
+}

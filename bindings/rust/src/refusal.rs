@@ -33,6 +33,7 @@ fn text(number: u8) -> &'static str {
         24 => "an insertion would leave more than 10,000 letters",
         25 => "the list handed in is not 8 bytes, 0 to 7 each once",
         26 => "a matrix of the key has no inverse",
+        27 => "a label is over 7, or the two labels are equal",
         // answers.txt: end
         _ => "an answer that this binding does not know",
     }

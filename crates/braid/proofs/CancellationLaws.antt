@@ -34,7 +34,7 @@ module _ (place : ℕ) (w : List ℕ) where
   accepted-inverse a = eqb-true (getD w (place + 1) 0) (inverse (getD w place 0)) (answers-passed (removal place w .questions) tt a .1 .0)
 
   -- the word about the two letters
-  around : Accepted → take place w ++ (getD w place 0 ∷ getD w (place + 1) 0 ∷ drop (place + 2) w) ≡ w
+  pub around : Accepted → take place w ++ (getD w place 0 ∷ getD w (place + 1) 0 ∷ drop (place + 2) w) ≡ w
   around a =
       let l = accepted-fits a in
       let one = drop-cons w place 0 (omega arith) in

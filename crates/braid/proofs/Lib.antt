@@ -1,6 +1,7 @@
 pub mod WordLaws
 pub mod ReadLaws
 pub mod WriteLaws
+pub mod UnpackedWord
 pub mod RoundTrip
 pub mod LetterLaws
 pub mod ReductionLaws

@@ -1,13 +1,18 @@
 -- Laws of the labels: what stands where after two neighbouring labels changed places, and the braid relations of such
--- exchanges: twice is nothing, far ones commute, three in a row of neighbours go either way round.
+-- exchanges: twice is nothing, far ones commute, three in a row of neighbours go either way round. How often each label
+-- stands in the list stays the same.
 use Prim.Native.Nat.{ℕ, zero, suc, _+_, _<_, _≤_}
-use mathlib.Core.Path.{_≡_, refl, ap, _∙_}
+use mathlib.Core.Path.{_≡_, refl, sym, ap, _∙_}
+use mathlib.Core.Bool.{Bool, true, false, cond}
 use mathlib.Core.List.{List, [], _∷_}
 use native.Mathlib.Omega.{arith}
 use native.Mathlib.Numerals.{add-one}
 use native.Mathlib.Decide.{ℕ-discrete}
+use borrow.Author.Tests.{eq-eqb}
+use lib.Dec.{eqb}
 use lib.ListN.{length, getD, set, length-set}
 use lib.Seq.{getD-set-same, getD-set-other}
+use Rattle.base.specs.Lists.{count}
 use Rattle.braid.specs.Strands.{swapped}
 
 pub length-swapped : (g : ℕ) (l : List ℕ) → length (swapped g l) ≡ length l
@@ -83,3 +88,38 @@ swapped-braid g l h = simp add-one (go g l h)
     go zero (a ∷ b ∷ []) h = absurd (omega arith)
     go zero (a ∷ b ∷ c ∷ l) h = simp (swapped-one, swapped-zero)
     go (suc g) (a ∷ l) h = simp swapped-suc (ap (λ (t : List ℕ). a ∷ t) (go g l (omega arith)))
+
+-- ---- how often a label stands in the list
+
+-- as often after an exchange as before
+pub count-swapped : (a g : ℕ) (l : List ℕ) → g + 1 < length l → count a (swapped g l) ≡ count a l
+unfolding count
+count-swapped a g [] h = absurd (omega arith)
+count-swapped a zero (x ∷ []) h = absurd (omega arith)
+count-swapped a zero (x ∷ y ∷ l) h = ap (count a) (swapped-zero x y l) ∙ go (eqb x a) (eqb y a) (count a l)
+  where
+    go : (s t : Bool) (n : ℕ) → cond t (suc (cond s (suc n) n)) (cond s (suc n) n) ≡ cond s (suc (cond t (suc n) n)) (cond t (suc n) n)
+    go true true n = refl
+    go true false n = refl
+    go false t n = refl
+count-swapped a (suc g) (x ∷ l) h =
+    ap (count a) (swapped-suc g x l) ∙ ap (λ (n : ℕ). cond (eqb x a) (suc n) n) (count-swapped a g l (omega arith))
+
+-- labels below n of which none stands twice: two neighbouring ones differ
+pub neighbours-differ : (n g : ℕ) (l : List ℕ) → g + 1 < length l → getD l g 0 < n → ((a : ℕ) → a < n → count a l ≤ 1)
+    → getD l g 0 ≡ getD l (g + 1) 0 → ⊥
+unfolding count
+neighbours-differ n g [] h b once e = absurd (omega arith)
+neighbours-differ n zero (x ∷ []) h b once e = absurd (omega arith)
+neighbours-differ n zero (x ∷ y ∷ l) h b once e =
+    let twice : count x (x ∷ y ∷ l) ≡ suc (suc (count x l)) = rw (eq-eqb x x refl, eq-eqb y x (sym e)) in
+    omega (arith, once x b)
+neighbours-differ n (suc g) (x ∷ l) h b once e =
+    neighbours-differ n g l (omega arith) b (λ a i. go (eqb x a) (once a i)) (e ∙ ap (λ (k : ℕ). getD (x ∷ l) k 0) next)
+  where
+    next : suc g + 1 ≡ suc (g + 1)
+    next = omega arith
+
+    go : {m : ℕ} (t : Bool) → cond t (suc m) m ≤ 1 → m ≤ 1
+    go true h = omega arith
+    go false h = h

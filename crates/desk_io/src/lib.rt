@@ -1,19 +1,25 @@
-// The desk's reading and writing: bytes come in, and what `desk_line` makes of them goes out.
+// The desk's reading and writing: bytes come in, and what `desk_line` and `crossing_lines` make of them goes out.
+use crossing_lines::Text;
 use desk_line::Got;
 use desk_line::Line;
 use libc::STDIN_FILENO;
 use libc::STDOUT_FILENO;
 ghost use Rattle.io.specs.Counts.{Counts};
 
-// Writes a line to standard output, or says that it cannot.
+// Writes bytes to standard output, or says that it cannot.
+fn say(bytes: &[u8]) {
+    if !io::write_all(STDOUT_FILENO, bytes) {
+        os::fail(b"standard output");
+    }
+}
+
+// Writes a line.
 fn tell(line: Line)
     requires { ⌜ Counts (line .bytes) (line .text) ⌝ }
 {
     let text = line.text;
     let n = line.bytes;
-    if !io::write_all(STDOUT_FILENO, &text[..n]) {
-        os::fail(b"standard output");
-    }
+    say(&text[..n]);
 }
 
 // The desk program: a slip on standard input, key, digest and signature end to end.
@@ -75,4 +81,20 @@ pub fn desk_files() {
     let d = file(2, &mut digest);
     let w = file(3, &mut word);
     tell(desk_line::files_line(&key, &digest, &word, k, d, w));
+}
+
+// Writes a text of several lines.
+fn tell_text(t: Text)
+    requires { ⌜ Counts (t .bytes) (t .text) ⌝ }
+{
+    let text = t.text;
+    let n = t.bytes;
+    say(&text[..n]);
+}
+
+// The program that lists how often every two strands cross, of the word on standard input.
+pub fn crossings() {
+    let mut input = [0u8; crossing_lines::WORD_ROOM];
+    let n = io::read_full(STDIN_FILENO, &mut input);
+    tell_text(crossing_lines::word_text(&input, n));
 }

@@ -1,17 +1,19 @@
--- A part of an input that may end before it, and the line of an answer with one, two or three digits.
-use Prim.Native.Nat.{ℕ, _+_, _*_, _-_, _/_, _%_, _≤_, _<_, min}
+-- A part of an input that may end before it, the line of an answer with one, two or three digits, and that decimal text
+-- reads back as its number.
+use Prim.Native.Nat.{ℕ, _+_, _*_, _-_, _/_, _%_, _≤_, _<_, _^_, min}
 use native.Mathlib.Nat.{min-eq-left, min-eq-right, div-one}
 use native.Mathlib.Decide.{decLe}
 use native.Mathlib.Omega.{arith}
-use mathlib.Core.Path.{_≡_, refl, sym, ap, subst, _∙_}
+use mathlib.Core.Path.{_≡_, refl, sym, ap, ap₂, subst, _∙_}
 use mathlib.Core.Bool.{Bool, true, false, cond, _&&_}
-use mathlib.Core.List.{List, [], _∷_, _++_}
-use borrow.Author.Tests.{lt-ltb, le-ltb, ne-eqb}
-use lib.Dec.{eqb}
+use mathlib.Core.List.{List, [], _∷_, _++_, map}
+use borrow.Author.Tests.{lt-ltb, le-ltb, ne-eqb, ltb-true, ltb-false}
+use lib.Dec.{eqb, ltb}
 use lib.ListN.{length, getD, take, drop, replicate, length-append, length-take, length-drop, drop-of-length-le}
 use lib.Seq.{take-all, take-length, drop-length}
 use Rattle.base.specs.Digits.{value, digits, part}
 use Rattle.base.specs.Lists.{overlaid}
+use Rattle.base.proofs.DigitLaws.{value-digits-below}
 use Rattle.field.specs.Fields.{keyBytes, digestBytes}
 use Rattle.field.specs.declared.Field.{Field}
 use Rattle.field.specs.declared.Field.the-variants.{Gf32, Gf256}
@@ -111,7 +113,43 @@ pub two-digits : (n : ℕ) → 10 ≤ n → n < 100
 unfolding answerLine decimal places digits
 two-digits n h l = simp (le-ltb n 10 h, lt-ltb n 100 l, div-one)
 
-pub three-digits : (n : ℕ) → 100 ≤ n
+pub three-digits : (n : ℕ) → 100 ≤ n → n < 1000
     → answerLine n ≡ answerWord ++ ((48 + n / 100 % 10) ∷ (48 + n / 10 % 10) ∷ (48 + n % 10) ∷ 10 ∷ [])
 unfolding answerLine decimal places digits
-three-digits n h = let g : 10 ≤ n = omega arith in simp (le-ltb n 10 g, le-ltb n 100 h, div-one)
+three-digits n h l = let g : 10 ≤ n = omega arith in simp (le-ltb n 10 g, le-ltb n 100 h, lt-ltb n 1000 l, div-one)
+
+-- ---- decimal text
+
+module _ (n : ℕ) where
+  -- as many places as a number below 100,000 needs
+  pub places-enough : n < 100000 → n < 10 ^ places n
+  unfolding places
+  places-enough h = go (ltb n 10) (ltb n 100) (ltb n 1000) (ltb n 10000) refl refl refl refl
+    where
+      go : (a b c d : Bool) → ltb n 10 ≡ a → ltb n 100 ≡ b → ltb n 1000 ≡ c → ltb n 10000 ≡ d → n < 10 ^ cond a 1 (cond b 2 (cond c 3 (cond d 4 5)))
+      go true b c d e f g i = ltb-true n 10 e
+      go false true c d e f g i = ltb-true n 100 f
+      go false false true d e f g i = ltb-true n 1000 g
+      go false false false true e f g i = ltb-true n 10000 i
+      go false false false false e f g i = h
+
+  -- and no more: no zero stands in front of other digits
+  pub places-needed : 10 ≤ n → 10 ^ (places n - 1) ≤ n
+  unfolding places
+  places-needed h = go (ltb n 10) (ltb n 100) (ltb n 1000) (ltb n 10000) refl refl refl refl
+    where
+      go : (a b c d : Bool) → ltb n 10 ≡ a → ltb n 100 ≡ b → ltb n 1000 ≡ c → ltb n 10000 ≡ d → 10 ^ (cond a 1 (cond b 2 (cond c 3 (cond d 4 5))) - 1) ≤ n
+      go true b c d e f g i = absurd (omega (arith, ltb-true n 10 e))
+      go false true c d e f g i = h
+      go false false true d e f g i = ltb-false n 100 f
+      go false false false true e f g i = ltb-false n 1000 g
+      go false false false false e f g i = ltb-false n 10000 i
+
+  -- the text of a number below 100,000 reads back as the number
+  pub decimal-reads : n < 100000 → value 10 (map (λ x. x - 48) (decimal n)) ≡ n
+  unfolding decimal
+  decimal-reads h = ap (value 10) (shown (digits 10 (places n) n)) ∙ value-digits-below 10 (places n) n (omega arith) (places-enough h)
+    where
+      shown : (ds : List ℕ) → map (λ x. x - 48) (map (λ d. 48 + d) ds) ≡ ds
+      shown [] = refl
+      shown (d ∷ ds) = let e : 48 + d - 48 ≡ d = omega arith in ap₂ (λ (x : ℕ) (l : List ℕ). x ∷ l) e (shown ds)

@@ -27,7 +27,7 @@ use Rattle.desk_line.specs.Desk.{deskField, cutVerdict, deskVerdict, Eno
 -- ---- three files
 
 -- a list cut to n elements: it is the list itself, or n elements of a longer one
-cut-alike : (n : ℕ) (f : List ℕ → ℕ) (xs : List ℕ) → (length (take n xs) ≡ n → n < length xs → f (take n xs) ≡ f xs) → f (take n xs) ≡ f xs
+pub cut-alike : {A : Type 0} (n : ℕ) (f : List ℕ → A) (xs : List ℕ) → (length (take n xs) ≡ n → n < length xs → f (take n xs) ≡ f xs) → f (take n xs) ≡ f xs
 cut-alike n f xs longer = go (decLe (length xs) n)
   where
     go : Dec (length xs ≤ n) → f (take n xs) ≡ f xs
@@ -84,7 +84,7 @@ long-word word h = passes 9 _ (le-leb 2 (length word) (omega arith)) ∙ go (dec
         let t = lt-leb (stated word) maxLetters (omega arith) in
         fails 10 _ t ∙ sym (ap (λ (b : Bool). cond b 11 10) t)
 
-long-refused : (word : List ℕ) → 5002 < length word → wordAnswer word ≡ 0 → ⊥
+pub long-refused : (word : List ℕ) → 5002 < length word → wordAnswer word ≡ 0 → ⊥
 long-refused word h e = go (leb (stated word) maxLetters) (sym (long-word word h) ∙ e)
   where
     go : (b : Bool) → _≡_ {A = ℕ} (cond b 11 10) 0 → ⊥
@@ -92,7 +92,7 @@ long-refused word h e = go (leb (stated word) maxLetters) (sym (long-word word h
     go false z = omega arith
 
 -- which of them is said by its first two bytes
-long-alike : (n : ℕ) (word : List ℕ) → 5002 < n → length (take n word) ≡ n → n < length word → wordAnswer (take n word) ≡ wordAnswer word
+pub long-alike : (n : ℕ) (word : List ℕ) → 5002 < n → length (take n word) ≡ n → n < length word → wordAnswer (take n word) ≡ wordAnswer word
 long-alike n word b e l =
     long-word (take n word) (omega arith)
     ∙ ap (λ (xs : List ℕ). cond (leb (value 256 xs) maxLetters) 11 10) (take-take 2 n word (omega arith))

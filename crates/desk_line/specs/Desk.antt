@@ -27,11 +27,11 @@ cutVerdict k d input = verdict (part 0 k input) (part k d input) (part (k + d) 5
 unfoldable pub deskVerdict : List ℕ → ℕ
 deskVerdict input = cutVerdict (keyBytes (deskField input)) (digestBytes (deskField input)) input
 
--- how many decimal digits a number below 1,000 has
+-- how many decimal digits a number below 100,000 has
 unfoldable pub places : ℕ → ℕ
-places n = cond (ltb n 10) 1 (cond (ltb n 100) 2 3)
+places n = cond (ltb n 10) 1 (cond (ltb n 100) 2 (cond (ltb n 1000) 3 (cond (ltb n 10000) 4 5)))
 
--- a number below 1,000 as text, in decimal: '0' is 48
+-- a number below 100,000 as text, in decimal: '0' is 48
 unfoldable pub decimal : ℕ → List ℕ
 decimal n = map (λ d. 48 + d) (digits 10 (places n) n)
 
@@ -51,10 +51,14 @@ filesLine k d w key digest word =
     (answerLine (verdict (take (k .bytes) key) (take (d .bytes) digest) (take (w .bytes) word)))
     []
 
--- the first bytes of a text of 11 are what is to be written, and zeros follow
-pub record Tells (written : List ℕ) (bytes : ℕ) (text : List ℕ) : Type 0 where
+-- the first bytes of a text of some size are what is to be written, and zeros follow
+pub record TellsIn (size : ℕ) (written : List ℕ) (bytes : ℕ) (text : List ℕ) : Type 0 where
   pub bytes-are : bytes ≡ length written
-  pub text-is : text ≡ overlaid written (replicate 11 0)
+  pub text-is : text ≡ overlaid written (replicate size 0)
+
+-- the same of a text of 11, which a line fits
+abbrev pub Tells : List ℕ → ℕ → List ℕ → Type 0
+Tells = TellsIn 11
 
 -- n bytes are enough to read of an input of any length: they are judged as all of it is
 abbrev pub EnoughOfInput : ℕ → Type 0

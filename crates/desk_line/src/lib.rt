@@ -37,7 +37,7 @@ fn least(a: usize, b: usize) -> usize
 }
 
 // Up to `most` bytes from a place on: fewer, or none, where the input ends before.
-fn part(input: &[u8], at: usize, most: usize) -> &[u8]
+pub fn part(input: &[u8], at: usize, most: usize) -> &[u8]
     ensures { λ r. ⌜ now r ≡ partOf at most (now (input .entry)) ⌝ }
 {
     let start = least(at, input.len());
@@ -95,7 +95,7 @@ fn spelled(a: u8, b: u8, c: u8, d: u8, bytes: usize) -> Line
 }
 
 // "answer ", the decimal number, a line end.
-fn answer_line(answer: u8) -> Line
+pub fn answer_line(answer: u8) -> Line
     ensures { λ r. ⌜ Tells (answerLine answer) (r .bytes) (r .text) ⌝ }
 {
     let ones = 48 + answer % 10;

@@ -1,11 +1,12 @@
 -- Demand 3, from bytes to bytes: where the rewriter, whatever the kinds and the number of the moves, answers 0, the
 -- file in the output's first bytes, as many as it reports, means what the word handed in means.
 use Prim.Native.Nat.{ℕ}
-use mathlib.Core.Path.{_≡_, sym, ap, _∙_}
+use mathlib.Core.Path.{_≡_, refl, sym, ap, _∙_}
 use mathlib.Core.Bool.{true}
 use mathlib.Core.List.{List}
 use lib.ListN.{length, take}
 use Rattle.base.specs.Questions.{firstNo}
+use Rattle.base.specs.Lists.{valuesFrom}
 use Rattle.field.specs.Binary.{Operations, BinaryField}
 use Rattle.field.specs.Fields.{operations}
 use Rattle.field.specs.declared.Field.{Field}
@@ -23,6 +24,7 @@ use Rattle.key.specs.declared.Key.{Key}
 use Rattle.verify.specs.Verdict.{signed, signedOver}
 use Rattle.key.proofs.KeyFacts.{key-values, key-pair, key-field}
 use Rattle.verify.proofs.VerdictIff.{same-verdict, zero-or-14}
+use Rattle.crossing.specs.Crossings.{inOrder, crossings}
 use Rattle.rewriting.specs.Rewriting.{rewritten, rewriterQuestions}
 use Rattle.moves.specs.Meaning.{SameMeaning, Rewrote}
 use Rattle.rewriting.proofs.Kept.{Kept, Carried}
@@ -57,6 +59,7 @@ meaning-kept word v a k =
           same-verdict key digest word (wordFile v) ka d a new (same-signed key (codes (wordFile v)) (codes word) carried ka);
       zero-or-14 = λ key digest ka d. zero-or-14 key digest word ka d a;
       exponent = rw back (k .exponent);
+      crossed = rw back (k .crossed);
     }
   where
     new : wordAnswer (wordFile v) ≡ 0
@@ -93,3 +96,9 @@ pub carried-alike : {word new : List ℕ} → SameMeaning word new → (f : Fiel
 carried-alike s f ts m order l e n lm em lo o =
     s .carried (operations f) (binary f) ts (tested-values f ts l e n) (pairOf m order)
     (tested-pair f (pairOf m order) lm lo em o)
+
+-- the signed number of crossings of every two labels is the same in the new word as in the old one, from the starting
+-- list
+pub crossings-alike : {word new : List ℕ} → SameMeaning word new → (a b : ℕ) → crossings a b (codes new) ≡ crossings a b (codes word)
+unfolding crossings valuesFrom
+crossings-alike s a b = s .crossed inOrder refl a b

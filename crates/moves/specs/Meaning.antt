@@ -15,6 +15,7 @@ use Rattle.key.specs.Keys.{keyField, keyAnswer}
 use Rattle.verify.specs.Verdict.{verdict}
 use Rattle.rewriting.specs.Rewriting.{rewritten, rewriterQuestions}
 use Rattle.braid.specs.Exponent.{exponentSum}
+use Rattle.crossing.specs.Crossings.{crossingsFrom}
 
 pub record SameMeaning (word new : List ℕ) : Type 0 where
   -- both are accepted words
@@ -32,6 +33,10 @@ pub record SameMeaning (word new : List ℕ) : Type 0 where
       → (verdict key digest word ≡ 0) ⊎ (verdict key digest word ≡ 14)
   -- positive letters less inverse ones is the same integer in both
   pub exponent : exponentSum (codes new) ≡ exponentSum (codes word)
+  -- the signed number of crossings of every two labels is the same in both, from any list of eight labels (document
+  -- 02, §2)
+  pub crossed : (labels : List ℕ) → length labels ≡ 8 → (a b : ℕ)
+      → crossingsFrom labels a b (codes new) ≡ crossingsFrom labels a b (codes word)
 
 -- what the rewriter gives and leaves
 pub record Rewrote (word moves before after : List ℕ) (answer bytes : ℕ) : Type 0 where

@@ -1,6 +1,6 @@
 -- What a move keeps of a word, stated once for every kind: the new word is of at most 10,000 letters, carries each good
--- pair to the same pair, and has the same exponent sum. It is kept where a part of the word gives way to a part that
--- does the same, and move after move.
+-- pair to the same pair, has the same exponent sum, and the signed number of crossings of every two labels is the same
+-- in both. It is kept where a part of the word gives way to a part that does the same, and move after move.
 use Prim.Native.Nat.{ℕ, _+_, _≤_}
 use mathlib.Core.Path.{_≡_, refl, _∙_}
 use mathlib.Core.List.{List, _++_}
@@ -14,6 +14,7 @@ use Rattle.action.specs.Good.{TValues}
 use Rattle.action.proofs.WordLaws.{SameOn, same-inside}
 use Rattle.braid.specs.Exponent.{tally, exponentSum}
 use Rattle.braid.proofs.ExponentLaws.{differences, tally-append}
+use Rattle.crossing.proofs.PartLaws.{Alike, SameCrossings, crossings-inside}
 
 -- over every binary field, with T-values other than zero, v carries each good pair to where w carries it
 abbrev pub Carried : List ℕ → List ℕ → Type 0
@@ -25,10 +26,11 @@ pub record Kept (w v : List ℕ) : Type 0 where
   pub short : length v ≤ 10000
   pub carried : Carried w v
   pub exponent : exponentSum v ≡ exponentSum w
+  pub crossed : SameCrossings w v
 
 -- no move
 pub kept-none : (w : List ℕ) → Lettered w → length w ≤ 10000 → Kept w w
-kept-none w e s = record { lettered = e; short = s; carried = λ F L ts tv p good. refl; exponent = refl }
+kept-none w e s = record { lettered = e; short = s; carried = λ F L ts tv p good. refl; exponent = refl; crossed = λ labels l a b. refl }
 
 -- one after another
 pub kept-then : {w v u : List ℕ} → Kept w v → Kept v u → Kept w u
@@ -38,6 +40,7 @@ kept-then a b =
       short = b .short;
       carried = λ F L ts tv p good. b .carried F L ts tv p good ∙ a .carried F L ts tv p good;
       exponent = b .exponent ∙ a .exponent;
+      crossed = λ labels l x y. b .crossed labels l x y ∙ a .crossed labels l x y;
     }
 
 -- a part y that may stand for the part x
@@ -45,6 +48,7 @@ pub record StandsFor (x y : List ℕ) : Type 0 where
   pub lettered : Lettered y
   pub carried : Carried x y
   pub exponent : tally isPositive y + tally isInverse x ≡ tally isPositive x + tally isInverse y
+  pub crossed : Alike x y
 
 -- u x v becomes u y v
 module _ (u x y v : List ℕ) where
@@ -68,4 +72,5 @@ module _ (u x y v : List ℕ) where
         short = simp length-append (let h = simp length-append at few in omega arith);
         carried = λ F L ts tv. same-inside L ts u y x v eu (s .carried F L ts tv);
         exponent = exponent-inside (s .exponent);
+        crossed = crossings-inside (s .crossed) u v;
       }

@@ -7,3 +7,4 @@ pub mod RewriterAnswer
 pub mod CodeRows
 pub mod CodeKinds
 pub mod CodeList
+pub mod SameLists

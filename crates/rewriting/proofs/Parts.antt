@@ -11,6 +11,7 @@ use Rattle.braid.proofs.LetterLaws.{Lettered, cons-lettered, inverse-letter, Ap
 use Rattle.action.proofs.WordLaws.{same-cancelled, same-far, same-braid}
 use Rattle.braid.specs.Exponent.{tally}
 use Rattle.braid.proofs.ExponentLaws.{positive-not-inverse, tally-exchanged, tally-braided, tally-cancelled}
+use Rattle.crossing.proofs.PartLaws.{alike-cancelled, alike-inserted, alike-exchanged, alike-braided}
 use Rattle.rewriting.proofs.Kept.{StandsFor}
 
 no-letters : Lettered []
@@ -26,6 +27,7 @@ module _ (c : ℕ) (e : isLetter c ≡ true) where
         lettered = no-letters;
         carried = λ F L ts tv p good. sym (same-cancelled L ts c tv e p good);
         exponent = omega (arith, tally-cancelled c e);
+        crossed = alike-cancelled c e;
       }
 
   -- kinds 16 + c
@@ -36,6 +38,7 @@ module _ (c : ℕ) (e : isLetter c ≡ true) where
         lettered = cons-lettered c (inverse c ∷ []) e (cons-lettered (inverse c) [] (inverse-letter c e) no-letters);
         carried = λ F L ts tv. same-cancelled L ts c tv e;
         exponent = omega (arith, tally-cancelled c e);
+        crossed = alike-inserted c e;
       }
 
 module _ (c d : ℕ) (e : isLetter c ≡ true) (e' : isLetter d ≡ true) where
@@ -46,6 +49,7 @@ module _ (c d : ℕ) (e : isLetter c ≡ true) (e' : isLetter d ≡ true) where
         lettered = cons-lettered d (c ∷ []) e' (cons-lettered c [] e no-letters);
         carried = λ F L ts tv p good. sym (same-far L ts c d e e' f p good);
         exponent = omega (arith, tally-exchanged isPositive c d, tally-exchanged isInverse c d);
+        crossed = alike-exchanged c d e e' f;
       }
 
   -- kind 3, with c for j and d for k
@@ -55,6 +59,7 @@ module _ (c d : ℕ) (e : isLetter c ≡ true) (e' : isLetter d ≡ true) where
         lettered = cons-lettered d (c ∷ d ∷ []) e' (cons-lettered c (d ∷ []) e (cons-lettered d [] e' no-letters));
         carried = λ F L ts tv p good. sym (same-braid L ts c d e e' s f p good);
         exponent = omega (arith, tally-braided isPositive c d positive, tally-braided isInverse c d s);
+        crossed = alike-braided c d e e' s f;
       }
     where
       positive : isPositive c ≡ isPositive d

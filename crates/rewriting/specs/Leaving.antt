@@ -1,5 +1,6 @@
--- What the rewriter's private functions leave in its working memory: a row of codes, of which the first ones are the
--- word's. They stop at the first move that is refused and leave the word as it was then.
+-- What functions that are no operation of the papers, `all_moves` among them, leave in the rewriter's working memory: a
+-- row of codes, of which the first ones are the word's. They stop at the first move that is refused and leave the word
+-- as it was then.
 use Prim.Native.Nat.{ℕ, _≤_}
 use mathlib.Core.Path.{_≡_}
 use mathlib.Core.List.{List, [], _∷_, _++_}

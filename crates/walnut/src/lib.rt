@@ -14,9 +14,11 @@ ghost use Rattle.moves.specs.Meaning.{Rewrote};
 ghost use Rattle.walnut.specs.Exported.{keyFrom};
 ghost use Rattle.reduction.specs.Reducer.{WroteReduced};
 ghost use Rattle.digest.specs.Digest.{WroteEncoded};
+ghost use Rattle.crossing.specs.Crossings.{Crosses};
 use action::Pair;
 use braid::Word;
 use braid::Written;
+use crossing::Crossing;
 use field::Element;
 use verify::Cloak;
 
@@ -160,4 +162,11 @@ pub extern "C" fn walnut_cloaks(key: &[u8], labels: &[u8], word: &[u8]) -> Cloak
     ensures { λ r. ⌜ Cloaks (now (key .entry)) (now (labels .entry)) (now (word .entry)) (r .answer) (r .yes) ⌝ }
 {
     verify::cloaks(key, labels, word)
+}
+
+#[no_mangle]
+pub extern "C" fn walnut_crossings(word: &[u8], a: u8, b: u8) -> Crossing
+    ensures { λ r. ⌜ Crosses (now (word .entry)) a b (r .answer) (r .crossings) ⌝ }
+{
+    crossing::crossings(word, a, b)
 }

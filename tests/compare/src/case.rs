@@ -2,7 +2,7 @@
 
 use reference::key::Entries;
 use reference::pair::{Labels, TValues};
-use reference::{desk, Cloak, Element, Field, Key, Matrix, Pair, Word, Written};
+use reference::{desk, Cloak, Crossing, Element, Field, Key, Matrix, Pair, Word, Written};
 
 use crate::ffi;
 use crate::paper::Operation;
@@ -32,6 +32,7 @@ pub struct Interface {
     rewrite: fn(&[u8], &[u8], &mut [u8]) -> Written,
     verify: fn(&[u8], &[u8], &[u8]) -> u8,
     cloaks: fn(&[u8], &[u8], &[u8]) -> Cloak,
+    crossings: fn(&[u8], u8, u8) -> Crossing,
 }
 
 pub const REFERENCE: Interface = Interface {
@@ -49,6 +50,7 @@ pub const REFERENCE: Interface = Interface {
     rewrite: reference::rewrite,
     verify: reference::verify,
     cloaks: reference::cloaks,
+    crossings: reference::crossings,
 };
 
 pub const LIBRARY: Interface = Interface {
@@ -66,6 +68,7 @@ pub const LIBRARY: Interface = Interface {
     rewrite: ffi::rewrite,
     verify: ffi::verify,
     cloaks: ffi::cloaks,
+    crossings: ffi::crossings,
 };
 
 /// An operation with what it takes.
@@ -96,7 +99,8 @@ pub struct Outcome {
     /// The element, the letters, the bytes written, 1 for yes, or 1 for a key over the larger field; 0 where there is
     /// none.
     pub number: usize,
-    /// The returned key or pair, the lent pair, or the output between its guards, after the call.
+    /// The returned key or pair, the four bytes of a number that may be below zero, the lent pair, or the output between
+    /// its guards, after the call.
     pub bytes: Vec<u8>,
 }
 
@@ -122,6 +126,12 @@ impl From<Key> for Outcome {
     fn from(key: Key) -> Outcome {
         let bytes = [&key.t_values[..], &pair_bytes(&key.pair), &key.second].concat();
         Outcome { answer: key.answer, number: (key.field == Field::Gf256).into(), bytes }
+    }
+}
+
+impl From<Crossing> for Outcome {
+    fn from(crossing: Crossing) -> Outcome {
+        Outcome { answer: crossing.answer, number: 0, bytes: crossing.crossings.to_be_bytes().to_vec() }
     }
 }
 
@@ -216,6 +226,7 @@ impl Input {
                 Outcome { answer, number: 0, bytes: Vec::new() }
             }
             Operation::Cloaks => (functions.cloaks)(part(0), part(1), part(2)).into(),
+            Operation::Crossings => (functions.crossings)(part(0), part(1)[0], part(1)[1]).into(),
         }
     }
 }

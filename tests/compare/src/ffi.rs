@@ -5,7 +5,7 @@
 use reference::key::Entries;
 use reference::matrix::at;
 use reference::pair::{Labels, TValues};
-use reference::{Cloak, Element, Field, Key, Matrix, Pair, Word, Written};
+use reference::{Cloak, Crossing, Element, Field, Key, Matrix, Pair, Word, Written};
 use walnut::exported::*;
 
 /// Each row and column, counted from 1.
@@ -134,6 +134,12 @@ pub fn cloaks(key: &[u8], labels: &[u8], word: &[u8]) -> Cloak {
     let cloak =
         unsafe { walnut_cloaks(file, bytes, labels.as_ptr(), labels.len(), word.as_ptr(), word.len()) };
     Cloak { answer: cloak.answer, yes: cloak.yes }
+}
+
+pub fn crossings(word: &[u8], a: u8, b: u8) -> Crossing {
+    // SAFETY: see above.
+    let crossing = unsafe { walnut_crossings(word.as_ptr(), word.len(), a, b) };
+    Crossing { answer: crossing.answer, crossings: crossing.crossings }
 }
 
 #[cfg(test)]

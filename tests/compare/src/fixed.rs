@@ -1,5 +1,6 @@
 //! Fixed cases: inputs with a name, and all that must come of them typed, for library and reference alike.
 
+mod crossings;
 mod inverses;
 pub mod larger;
 pub mod orders;
@@ -65,6 +66,11 @@ impl Fixed {
         Fixed::new(name, input(operation, parts), Outcome { answer: 0, number: 0, bytes })
     }
 
+    /// This number comes back, which may be below zero.
+    pub fn signed(name: &str, operation: Operation, parts: &[&[u8]], number: i32) -> Fixed {
+        Fixed::bytes(name, operation, parts, number.to_be_bytes().to_vec())
+    }
+
     /// This word file is written, and its length reported.
     pub fn word(name: &str, operation: Operation, parts: &[&[u8]], file: &[u8]) -> Fixed {
         let mut case = Fixed::key(name, operation, parts, file);
@@ -105,6 +111,7 @@ impl Fixed {
         let bytes = match input.operation {
             Operation::Multiply => input.parts[..2].concat(),
             Operation::ReadKey => vec![0; 8 + 64 + 8 + 64],
+            Operation::Crossings => vec![0; 4],
             operation if operation.least_room(input.named).is_some() => input.lent(),
             _ => Vec::new(),
         };
@@ -166,7 +173,8 @@ pub fn entries(matrix: &[u8]) -> Vec<u8> {
 
 /// All fixed cases.
 fn cases() -> Vec<Fixed> {
-    [orders::cases(), slips::cases(), larger::cases(), inverses::cases()].into_iter().flatten().collect()
+    let all = [orders::cases(), slips::cases(), larger::cases(), inverses::cases(), crossings::cases()];
+    all.into_iter().flatten().collect()
 }
 
 /// Holds library and reference to all fixed cases: how many there are, or what is wrong with the first that fails. Each

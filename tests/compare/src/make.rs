@@ -124,6 +124,9 @@ impl Maker {
             Operation::Rewrite => self.rewriter_parts(faults, size),
             Operation::Verify => self.verdict_parts(field, faults, size),
             Operation::Cloaks => self.cloak_parts(field, faults, size),
+            Operation::Crossings => {
+                vec![self.word_with(faults, size), files::two_labels(&mut self.random, faults)]
+            }
         };
         let mut input = self.input(operation, field, parts);
         if faults.contains(&15) || faults.contains(&16) {

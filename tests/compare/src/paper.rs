@@ -21,6 +21,7 @@ pub enum Operation {
     Rewrite,
     Verify,
     Cloaks,
+    Crossings,
 }
 
 /// What an operation takes: a name, and what the bytes are.
@@ -56,10 +57,11 @@ const DIGEST: Part = part("digest", Form::Bytes);
 const LIST: Part = part("list", Form::Bytes);
 const CODES: Part = part("codes", Form::Bytes);
 const WORD: Part = part("word", Form::Word);
+const TWO_LABELS: Part = part("two labels", Form::Fixed(2));
 const MOVES: Part = part("moves", Form::Moves);
 
 impl Operation {
-    pub const ALL: [Operation; 14] = [
+    pub const ALL: [Operation; 15] = [
         Operation::Product,
         Operation::Reciprocal,
         Operation::Start,
@@ -74,6 +76,7 @@ impl Operation {
         Operation::Rewrite,
         Operation::Verify,
         Operation::Cloaks,
+        Operation::Crossings,
     ];
 
     /// The name of the function, without the prefix that all of them have.
@@ -93,6 +96,7 @@ impl Operation {
             Operation::Rewrite => "rewrite",
             Operation::Verify => "verify",
             Operation::Cloaks => "cloaks",
+            Operation::Crossings => "crossings",
         }
     }
 
@@ -112,6 +116,7 @@ impl Operation {
             Operation::Rewrite => &[15, 9, 10, 11, 12, 13, 18, 19, 20, 21, 22, 23, 24],
             Operation::Verify => &[1, 2, 3, 4, 5, 6, 7, 26, 8, 9, 10, 11, 12, 13, 14],
             Operation::Cloaks => &[1, 2, 3, 4, 5, 6, 7, 26, 25, 9, 10, 11, 12, 13],
+            Operation::Crossings => &[9, 10, 11, 12, 13, 27],
         }
     }
 
@@ -158,6 +163,7 @@ impl Operation {
             Operation::Rewrite => &[WORD, MOVES],
             Operation::Verify => &[KEY, DIGEST, WORD],
             Operation::Cloaks => &[KEY, LIST, WORD],
+            Operation::Crossings => &[WORD, TWO_LABELS],
         }
     }
 
@@ -192,13 +198,13 @@ impl Operation {
 mod tests {
     use super::*;
 
-    /// The papers have the numbers 0 to 26 so far, and each is some operation's.
+    /// The papers have the numbers 0 to 27 so far, and each is some operation's.
     #[test]
     fn every_number_is_given() {
         let given =
             |number: u8| Operation::ALL.iter().any(|operation| operation.questions().contains(&number));
-        assert!((1..=26).all(given));
-        assert!(!given(0) && !given(27));
+        assert!((1..=27).all(given));
+        assert!(!given(0) && !given(28));
     }
 
     /// 7 and 17 cannot be given over the larger field, and all others can.
@@ -226,6 +232,7 @@ mod tests {
         assert_eq!(Operation::ReadKey.answer_to(&[26, 7]), 7);
         assert_eq!(Operation::WriteKey.answer_to(&[26, 6]), 6);
         assert_eq!(Operation::Multiply.answer_to(&[12, 4, 17]), 17);
+        assert_eq!(Operation::Crossings.answer_to(&[27, 13]), 13);
         assert_eq!(Operation::Verify.answer_to(&[]), 0);
     }
 }

@@ -83,6 +83,7 @@ impl Run {
         self.every_kind()?;
         self.every_three_letters()?;
         self.every_number_of_letters()?;
+        self.every_two_labels()?;
         self.faults_in_pairs()?;
         self.moves_refused_twice()?;
         self.moves_on_full_words()?;
@@ -302,7 +303,8 @@ impl Run {
             37..=48 => Operation::ReadWord,
             49..=58 => Operation::WriteWord,
             59..=63 => Operation::EncodeDigest,
-            64..=74 => Operation::FreeReduce,
+            64..=70 => Operation::FreeReduce,
+            71..=74 => Operation::Crossings,
             75..=90 => Operation::Rewrite,
             91..=94 => Operation::Verify,
             _ => Operation::Cloaks,

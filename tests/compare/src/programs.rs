@@ -1,6 +1,7 @@
 //! The programs beside the reference: each is started on an input, and what it writes is held to what the reference
 //! makes of the same bytes.
 
+mod crossings;
 mod desk;
 mod letters;
 
@@ -74,5 +75,6 @@ impl Counts {
 pub fn check(folder: &Path, maker: &mut Maker) -> Checked<Vec<String>> {
     let mut lines = desk::check(folder, maker)?;
     lines.push(letters::check(&folder.join("letters"), maker)?);
+    lines.push(crossings::check(&folder.join("crossings"), maker)?);
     Ok(lines)
 }

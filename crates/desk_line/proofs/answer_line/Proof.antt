@@ -1,4 +1,5 @@
 -- `desk_line::answer_line` meets its contract: a number of one, two or three digits.
+use native.Mathlib.Omega.{arith}
 use Rattle.base.specs.Lists.{overlaid}
 use Rattle.desk_line.proofs.DeskLaws.{told, one-digit, two-digits, three-digits}
 use borrow.Author.Needs.{needs}
@@ -15,7 +16,9 @@ returns-2 c = told _ (two-digits _ (c .before .before .if1 .left) (c .before .if
 
 returns-3 : tie.Need-returns-3
 unfolding overlaid
-returns-3 c = told _ (three-digits _ (c .before .if2 .left)) (c .spelled3 .ensures .0) (c .spelled3 .ensures .1)
+returns-3 c =
+    let s = c .before .before .before in
+    told _ (three-digits (s .args .answer) (c .before .if2 .left) (omega (arith, s .fits .answer .fits))) (c .spelled3 .ensures .0) (c .spelled3 .ensures .1)
 
 pub answer-line-spec : {M : Type 1} → statement M
 answer-line-spec =

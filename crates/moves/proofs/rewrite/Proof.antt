@@ -10,14 +10,15 @@ use lib.Seq.{length-take-le}
 use Rattle.base.specs.Questions.{firstNo}
 use Rattle.base.proofs.QuestionLaws.{fails, refused-there}
 use Rattle.braid.specs.Words.{codes, wordQuestions, wordAnswer}
-use Rattle.braid.proofs.ReadLaws.{accepted-word}
+use Rattle.braid.proofs.ReadLaws.{accepted-word, count-few}
+use Rattle.braid.proofs.UnpackedWord.{bytes-fit, unpacked}
 use Rattle.braid.proofs.WriteLaws.{wrote-refused}
 use Rattle.rewriting.specs.Rewriting.{steps, moveQuestions, listQuestions, rewriterQuestions}
 use Rattle.rewriting.specs.Leaving.{moved, Leaves}
 use Rattle.rewriting.proofs.CodeList.{listed, leaves-as}
 use Rattle.rewriting.proofs.RewriterAnswer.{afterWord, past-room, past-word}
 use Rattle.moves.specs.Meaning.{Rewrote}
-use Rattle.moves.proofs.CodeRewrite.{rewriter-answer, letters-few, bytes-fit, unpacked, rewrote}
+use Rattle.moves.proofs.CodeRewrite.{rewriter-answer, rewrote}
 use Rattle.moves.proofs.RewritingKeepsMeaning.{rewrote-whole}
 use borrow.Author.Needs.{needs}
 use Rattle.moves.proofs.rewrite.Statement.{statement}
@@ -81,7 +82,7 @@ made c =
     let u = c .before .before .before .unpack in
     leaves-as
     (ap (moved (steps (moves s)))
-    (unpacked (word s) (t .before .before .read-word .ensures) (word-accepted t) _ (u .last .1 .0) (u .ensures)))
+    (unpacked (word s) (t .before .before .read-word .ensures .count-is) (word-accepted t) _ (u .last .1 .0) (u .ensures)))
     (c .all-moves .ensures)
 
 -- the row has room for 10,000
@@ -122,14 +123,14 @@ long-enough c = accepted-word (word (at-3 c)) (word-accepted (c .before .before)
 unpack-requires : tie.Need-unpack-requires
 unpack-requires c κs =
     let t = c .before .before .before .before in
-    bytes-fit (word (at-2 t)) (t .before .before .read-word .ensures) (word-accepted t)
+    bytes-fit (word (at-2 t)) (t .before .before .read-word .ensures .count-is) (word-accepted t)
 
 all-moves-requires : tie.Need-all-moves-requires
 all-moves-requires c κs =
     let e = c .before .before .before .before .before in
     let t = e .before .before in
     let s = at-2 t in (
-      record { short = letters-few (word s) (t .before .before .read-word .ensures) (word-accepted t); room = c .before .before .unpack .kept .1 .0 },
+      record { short = count-few (word s) (word-accepted t) _ (t .before .before .read-word .ensures .count-is); room = c .before .before .unpack .kept .1 .0 },
       listed (moves s) (list-accepted e),
     )
 

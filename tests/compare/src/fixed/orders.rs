@@ -2,8 +2,8 @@
 //! another: no two of the same type hold the same, so that an exchange of two shows. They come before all others, so
 //! that what is reported first names the function.
 //!
-//! The product's factors alone may be exchanged unseen: it is commutative, and its question is put to both. What the
-//! larger field gives is by the rules written in `larger.rs`.
+//! The product's factors and the two labels of crossings alone may be exchanged unseen: both operations are symmetric,
+//! and their questions are put to both. What the larger field gives is by the rules written in `larger.rs`.
 
 use reference::Field;
 
@@ -107,6 +107,11 @@ fn judged() -> Vec<Fixed> {
     ]
 }
 
+/// In b1 b2 b2 the labels 0 and 2 cross twice, and no other label crosses 2.
+fn crossed() -> Fixed {
+    Fixed::signed("b1 b2 b2, labels 2 and 0", Operation::Crossings, &[&hex("00 03 01 10"), &[2, 0]], 2)
+}
+
 pub fn cases() -> Vec<Fixed> {
     let start = [super::identity(), LIST.to_vec()].concat();
     let mut cases = vec![
@@ -122,5 +127,6 @@ pub fn cases() -> Vec<Fixed> {
     cases.extend(large_keys());
     cases.extend(words());
     cases.extend(judged());
+    cases.push(crossed());
     cases
 }

@@ -89,6 +89,18 @@ fn spoil_t_values(random: &mut Random, t_values: &mut [u8; 8], zero: bool, high:
     }
 }
 
+/// Two labels. Fault: 27, by a label over 7 or by one twice.
+pub fn two_labels(random: &mut Random, faults: &[u8]) -> Vec<u8> {
+    let (first, second) = two_places(random);
+    let mut labels = [first as u8, second as u8];
+    if faults.contains(&27) {
+        let place = random.below(2);
+        let any = random.within(8, 255) as u8;
+        labels[place] = random.pick(&[labels[1 - place], 8, any]);
+    }
+    labels.to_vec()
+}
+
 /// Matrix, labels, T-values and letter. Faults: 17, 4, 6, 12.
 pub fn multiplier_parts(random: &mut Random, field: Field, faults: &[u8]) -> Vec<Vec<u8>> {
     let mut matrix = random.elements::<64>(field);

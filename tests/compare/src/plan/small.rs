@@ -282,4 +282,19 @@ impl Run {
         }
         Ok(())
     }
+
+    /// Labels up to 8, each with each, on every word of two letters.
+    pub(super) fn every_two_labels(&mut self) -> Checked {
+        let codes: Vec<u8> = (0..16).filter(|code| Letter::from_code(*code).is_some()).collect();
+        for first in &codes {
+            for second in &codes {
+                for labels in (0..81).map(|number| vec![number / 9, number % 9]) {
+                    let expected = if labels.contains(&8) || labels[0] == labels[1] { 27 } else { 0 };
+                    let parts = vec![word_file(&[*first, *second]), labels];
+                    self.check_parts(Operation::Crossings, parts, Some(expected))?;
+                }
+            }
+        }
+        Ok(())
+    }
 }

@@ -1,0 +1,9 @@
+pub mod SignedLaws
+pub mod CrossingLaws
+pub mod PartLaws
+pub mod CountLaws
+pub mod CrossingAnswer
+pub mod Reduction
+pub mod AllPairs
+pub mod WrongPrograms
+pub mod PaperWord

@@ -1,0 +1,10 @@
+-- `crossing::refusal` meets its contract.
+use mathlib.Core.Path.{refl}
+use Rattle.crossing.proofs.refusal.Statement.{statement}
+use Rattle.crossing.proofs.refusal.Tie as tie
+
+returns : tie.Need-returns
+returns c = (refl, refl)
+
+pub refusal-spec : {M : Type 1} → statement M
+refusal-spec = tie.close (tie.spec returns)

@@ -1,0 +1,43 @@
+-- How all pairs are counted in one walk, for the contracts of functions that are no operation of the papers, `counted`
+-- and `crossed` among them: a table that counts, for each sign, each label at a letter's own place and each label at
+-- the next, the letters that find these two there.
+use Prim.Native.Nat.{ℕ, _+_, _*_, _/_, _≤_, _<_}
+use mathlib.Core.Path.{_≡_}
+use mathlib.Core.List.{List, [], _∷_}
+use lib.ListN.{length, getD}
+use Rattle.base.specs.Lists.{count}
+use Rattle.braid.specs.Letters.{generator}
+use Rattle.braid.specs.Strands.{swapped}
+
+-- where letters with a sign, 0 for a generator and 1 for an inverse, are counted that find the labels p and q
+abbrev pub slot : ℕ → ℕ → ℕ → ℕ
+slot sign p q = sign * 64 + p * 8 + q
+
+-- where a letter is counted
+abbrev pub slotOf : List ℕ → ℕ → ℕ
+slotOf labels c = slot (c / 8) (getD labels (generator c) 0) (getD labels (generator c + 1) 0)
+
+-- where the letters of a word are counted, each on the list that the last one left
+unfoldable pub slots : List ℕ → List ℕ → List ℕ
+slots labels [] = []
+slots labels (c ∷ w) = slotOf labels c ∷ slots (swapped (generator c) labels) w
+
+-- eight labels below 8. (Past the end of a list stands 0)
+pub record Labelled (labels : List ℕ) : Type 0 where
+  pub strands : length labels ≡ 8
+  pub below : (k : ℕ) → getD labels k 0 < 8
+
+-- a table of counts, at most 10,000 each
+pub record Table (counts : List ℕ) : Type 0 where
+  pub size : length counts ≡ 128
+  pub few : (k : ℕ) → getD counts k 0 ≤ 10000
+
+-- the table of a word's letters from a list on
+pub record Counts (labels w counts : List ℕ) : Type 0 where
+  pub table : Table counts
+  pub counted : (k : ℕ) → getD counts k 0 ≡ count k (slots labels w)
+
+-- how often a table counts two labels, either way round, for each sign
+pub record Found (counts : List ℕ) (a b generators inverses : ℕ) : Type 0 where
+  pub generators-are : generators ≡ getD counts (slot 0 a b) 0 + getD counts (slot 0 b a) 0
+  pub inverses-are : inverses ≡ getD counts (slot 1 a b) 0 + getD counts (slot 1 b a) 0

@@ -1,0 +1,79 @@
+// All pairs of labels counted in one walk over a word. The table has a place for each sign and each two labels in
+// order, so that a letter adds 1 at one place, with nothing to decide.
+use crate::Signs;
+ghost use Prim.Native.Nat.{_+_, _≤_, _<_};
+ghost use mathlib.Core.Path.{_≡_};
+ghost use mathlib.Core.Bool.{true};
+ghost use lib.ListN.{length, getD, set};
+ghost use Rattle.base.specs.Lists.{every};
+ghost use Rattle.braid.specs.Letters.{generator, isLetter};
+ghost use Rattle.braid.specs.Strands.{swapped};
+ghost use Rattle.braid.specs.Words.{codes, letters, wordAnswer};
+ghost use Rattle.crossing.specs.Crossings.{inOrder};
+ghost use Rattle.crossing.specs.Counting.{slot, slotOf, Labelled, Table, Counts, Found};
+
+// The place of a sign, 0 for a generator and 1 for an inverse, and two labels.
+fn slot(sign: u8, p: u8, q: u8) -> usize
+    requires { ⌜ (sign < 2) × (p < 8) × (q < 8) ⌝ }
+    ensures { λ r. ⌜ r ≡ slot sign p q ⌝ }
+{
+    (sign as usize) * 64 + (p as usize) * 8 + (q as usize)
+}
+
+// One letter: it is counted by its sign and the labels that it finds, and these change places.
+fn letter(labels: &mut [u8; 8], counts: &mut [u32; 128], code: u8)
+    requires { ⌜ Labelled (now labels) × Table (now counts) × (isLetter code ≡ true) ⌝ }
+    ensures { λ _.
+        ⌜
+        (now (labels .exit) ≡ swapped (generator code) (now (labels .entry)))
+        × (now (counts .exit) ≡ set (now (counts .entry)) (slotOf (now (labels .entry)) code) (getD (now (counts .entry)) (slotOf (now (labels .entry)) code) 0 + 1))
+        ⌝ }
+{
+    let at = (code % 8) as usize;
+    let own = labels[at];
+    let after = labels[at + 1];
+    let k = slot(code / 8, own, after);
+    counts[k] = counts[k] + 1;
+    labels[at] = after;
+    labels[at + 1] = own;
+}
+
+// The letters of a row, first to last, from the starting list on.
+fn walk(codes: &[u8]) -> [u32; 128]
+    requires { ⌜ (length (now codes) ≤ 10000) × (every isLetter (now codes) ≡ true) ⌝ }
+    ensures { λ r. ⌜ Counts inOrder (now (codes .entry)) r ⌝ }
+{
+    let mut labels: [u8; 8] = [0, 1, 2, 3, 4, 5, 6, 7];
+    let mut counts = [0u32; 128];
+    let mut i = 0;
+    while i < codes.len() {
+        let code = codes[i];
+        letter(&mut labels, &mut counts, code);
+        i += 1;
+    }
+    counts
+}
+
+// The table of an accepted word of n letters.
+pub fn counted(word: &[u8], n: usize) -> [u32; 128]
+    requires { ⌜ (wordAnswer (now word) ≡ 0) × (n ≡ length (letters (now word))) ⌝ }
+    ensures { λ r. ⌜ Counts inOrder (codes (now (word .entry))) r ⌝ }
+{
+    let mut row = [0u8; braid::MAX_LETTERS];
+    braid::unpack(&word[2..], &mut row);
+    walk(&row[..n])
+}
+
+// How often letters of either sign swap two labels: those that find the first before the second, and those that find
+// them the other way round.
+pub fn crossed(counts: &[u32; 128], a: u8, b: u8) -> Signs
+    requires { ⌜ Table (now counts) × (a < 8) × (b < 8) ⌝ }
+    ensures { λ r. ⌜ Found (now (counts .entry)) a b (r .generators) (r .inverses) ⌝ }
+{
+    let generators = counts[slot(0, a, b)] + counts[slot(0, b, a)];
+    let inverses = counts[slot(1, a, b)] + counts[slot(1, b, a)];
+    Signs {
+        generators,
+        inverses,
+    }
+}

@@ -1,0 +1,4 @@
+// The program on empty input: the word has fewer than 2 bytes.
+fn main() {
+    desk_io::crossings();
+}
