@@ -6,6 +6,7 @@
 
 static const uint8_t t_values[8] = {1, 1, 2, 3, 4, 5, 6, 7};
 static const uint8_t order[8] = {0, 1, 2, 3, 4, 5, 6, 7};
+static uint8_t out[WALNUT_WORD_BYTES];
 
 static void print_hex(const char *text, const uint8_t *bytes, size_t n)
 {
@@ -31,8 +32,20 @@ static void print_row(const char *text, const uint8_t matrix[64], int row)
     print_decimal(text, entries, 8);
 }
 
+/* A word file's letters as text. */
+static void print_letters(const char *text, const uint8_t *word, size_t letters)
+{
+    printf("%s", text);
+    for (size_t k = 0; k < letters; k++) {
+        int code = k % 2 == 0 ? word[2 + k / 2] >> 4 : word[2 + k / 2] & 15;
+        printf(" b%d%s", code % 8 + 1, code >= 8 ? "^-1" : "");
+    }
+    printf("\n");
+}
+
 /* Writes the key file over a field of T-values, the pair Pub(S) and the matrix of Pub(S'). */
-static uint8_t write_key(bool large, const uint8_t t[8], const walnut_pair *pair, const uint8_t matrix[64], uint8_t *key, size_t n)
+static uint8_t write_key(bool large, const uint8_t t[8], const walnut_pair *pair, const uint8_t matrix[64],
+                         uint8_t *key, size_t n)
 {
     uint8_t first[57], second[57];
     walnut_file_entries(pair->matrix, first);
@@ -94,35 +107,37 @@ static int larger_field(void)
     return 0;
 }
 
-int main(void)
+/* Fields and words. */
+static void words(void)
 {
     printf("16 x 2 = %u\n", walnut_product(WALNUT_GF32, 16, 2).value);
     printf("31 x 31 = %u\n", walnut_product(WALNUT_GF32, 31, 31).value);
     printf("the reciprocal of 3 is %u\n", walnut_reciprocal(WALNUT_GF32, 3).value);
 
-    static uint8_t out[WALNUT_WORD_BYTES];
     const uint8_t codes[7] = {0, 9, 2, 3, 12, 5, 14};
     walnut_written written = walnut_write_word(codes, sizeof codes, out, sizeof out);
-    print_hex("b1 b2' b3 b4 b5' b6 b7' is", out, written.bytes);
-    printf("its letters: %zu\n", walnut_read_word(out, written.bytes).letters);
+    print_hex("b1 b2^-1 b3 b4 b5^-1 b6 b7^-1 is", out, written.bytes);
+    walnut_word word = walnut_read_word(out, written.bytes);
+    printf("its letters: %zu\n", word.letters);
+    print_letters("read back:", out, word.letters);
+}
 
-    walnut_pair start = walnut_start(), pair = start;
-    if (walnut_multiply(&pair, WALNUT_GF32, t_values, 2) != 0)
+/* Pairs and keys: gives the plain key, both of whose matrices are the identity. */
+static int keys(uint8_t key[WALNUT_KEY_BYTES])
+{
+    walnut_pair start = walnut_start(), pair = start, inverse = start, blank = start;
+    if (walnut_multiply(&pair, WALNUT_GF32, t_values, 2) != 0 ||
+        walnut_multiply(&inverse, WALNUT_GF32, t_values, 10) != 0 ||
+        write_key(WALNUT_GF32, t_values, &start, start.matrix, key, WALNUT_KEY_BYTES) != 0)
         return 1;
     print_row("row 3 after b3:", pair.matrix, 3);
     print_decimal("column 4 after b3:", pair.matrix + 24, 8);
-
-    uint8_t key[WALNUT_KEY_BYTES];
-    if (write_key(WALNUT_GF32, t_values, &start, start.matrix, key, sizeof key) != 0)
-        return 1;
     print_hex("plain T-values pack to", key + 3, 5);
     print_hex("the list 0 to 7 packs to", key + 44, 3);
 
     /* Pub(S) is the starting pair times b3, and Pub(S') has the matrix of b3's inverse */
-    walnut_pair inverse = start;
     uint8_t file[WALNUT_KEY_BYTES], back[WALNUT_KEY_BYTES];
-    if (walnut_multiply(&inverse, WALNUT_GF32, t_values, 10) != 0 ||
-        write_key(WALNUT_GF32, t_values, &pair, inverse.matrix, file, sizeof file) != 0)
+    if (write_key(WALNUT_GF32, t_values, &pair, inverse.matrix, file, sizeof file) != 0)
         return 1;
     print_hex("row 3 after b3 packs to", file + 18, 5);
     walnut_key held = walnut_read_key(file, sizeof file);
@@ -134,28 +149,48 @@ int main(void)
     if (held.answer != 0 || write_key(held.large, held.t_values, &held.pair, held.second, back, sizeof back) != 0)
         return 1;
     printf("that key, read and written back, is the same: %s\n", memcmp(back, file, sizeof file) == 0 ? "yes" : "no");
-    walnut_pair blank = start;
     memset(blank.matrix, 0, sizeof blank.matrix);
     printf("a key with both matrices zero: answer %u\n",
            write_key(WALNUT_GF32, t_values, &blank, blank.matrix, back, sizeof back));
+    return 0;
+}
 
+/* Moves, free reduction and digests. */
+static int moves(void)
+{
     const uint8_t three[4] = {0x00, 0x03, 0x01, 0x00}, turn[5] = {0, 1, 0, 0, 3};
-    written = walnut_rewrite(three, sizeof three, turn, sizeof turn, out, sizeof out);
+    walnut_written written = walnut_rewrite(three, sizeof three, turn, sizeof turn, out, sizeof out);
     print_hex("00 03 01 00 with kind 3 at place 0 gives", out, written.bytes);
+    /* the number of moves, then all places, then all kinds */
+    const uint8_t five[5] = {0x00, 0x05, 0x01, 0x03, 0xB0}, two[8] = {0, 2, 0, 0, 0, 3, 3, 1};
+    print_hex("kind 3 at place 0 and then kind 1 at place 3 is", two, sizeof two);
+    written = walnut_rewrite(five, sizeof five, two, sizeof two, out, sizeof out);
+    print_hex("on 00 05 01 03 B0 it gives", out, written.bytes);
+
     const uint8_t both[3] = {0x00, 0x02, 0x08};
     written = walnut_free_reduce(both, sizeof both, out, sizeof out);
     print_hex("00 02 08 freely reduced is", out, written.bytes);
-    uint8_t sixes[32];
+    uint8_t sixes[WALNUT_DIGEST_BYTES];
     memset(sixes, 0x66, sizeof sixes);
     if (walnut_encode_digest(sixes, sizeof sixes, out, sizeof out).bytes != 2 + 64 * 6)
         return 1;
     print_hex("half byte 6 gives", out + 2, 6);
+    return 0;
+}
 
-    const uint8_t first[3] = {0x00, 0x02, 0x01}, back_twice[3] = {0x00, 0x02, 0x88}, empty[2] = {0x00, 0x00};
-    printf("strands 0 and 2 cross in b1 b2: %d\n", walnut_crossings(first, sizeof first, 0, 2).crossings);
-    printf("strands 1 and 0 cross in b1' b1': %d\n", walnut_crossings(back_twice, sizeof back_twice, 1, 0).crossings);
-    printf("strands 0 and 8: answer %u\n", walnut_crossings(empty, sizeof empty, 0, 8).answer);
+/* How often strands cross. */
+static void crossings(void)
+{
+    const uint8_t two[3] = {0x00, 0x02, 0x01}, inverses[3] = {0x00, 0x02, 0x88}, none[2] = {0x00, 0x00};
+    printf("strands 0 and 2 cross in b1 b2: %d\n", walnut_crossings(two, sizeof two, 0, 2).crossings);
+    printf("strands 1 and 0 cross in b1^-1 b1^-1: %d\n",
+           walnut_crossings(inverses, sizeof inverses, 1, 0).crossings);
+    printf("strands 0 and 8: answer %u\n", walnut_crossings(none, sizeof none, 0, 8).answer);
+}
 
+/* Cloaking, a refused move and verdicts, under the plain key. */
+static void verdicts(const uint8_t key[WALNUT_KEY_BYTES])
+{
     const uint8_t ones[3] = {0x00, 0x02, 0x00}, threes[3] = {0x00, 0x02, 0x22};
     print_cloak("b1 b1", key, ones, sizeof ones);
     print_cloak("b3 b3", key, threes, sizeof threes);
@@ -163,12 +198,22 @@ int main(void)
     printf("00 00 with kind 16 at place 1: answer %u\n",
            walnut_rewrite(none, sizeof none, insert, sizeof insert, out, sizeof out).answer);
 
-    const uint8_t digest[32] = {0};
+    const uint8_t digest[WALNUT_DIGEST_BYTES] = {0};
     uint8_t signature[66] = {0x00, 0x80};
     memset(signature + 2, 0x66, 64);
     printf("plain key, zero digest, 00 80 and 64 bytes of 66: answer %u\n",
-           walnut_verify(key, sizeof key, digest, sizeof digest, signature, sizeof signature));
+           walnut_verify(key, WALNUT_KEY_BYTES, digest, sizeof digest, signature, sizeof signature));
     printf("plain key, zero digest, 00 00: answer %u\n",
-           walnut_verify(key, sizeof key, digest, sizeof digest, none, sizeof none));
+           walnut_verify(key, WALNUT_KEY_BYTES, digest, sizeof digest, none, sizeof none));
+}
+
+int main(void)
+{
+    uint8_t key[WALNUT_KEY_BYTES];
+    words();
+    if (keys(key) != 0 || moves() != 0)
+        return 1;
+    crossings();
+    verdicts(key);
     return larger_field();
 }

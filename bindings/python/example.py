@@ -36,9 +36,10 @@ print("16 x 2 =", walnut.product(GF32, 16, 2))
 print("31 x 31 =", walnut.product(GF32, 31, 31))
 print("the reciprocal of 3 is", walnut.reciprocal(GF32, 3))
 
-word = walnut.write_word([0, 9, 2, 3, 12, 5, 14])
-print("b1 b2' b3 b4 b5' b6 b7' is", text(word))
+word = walnut.write_word("b1 b2^-1 b3 b4 b5^-1 b6 b7^-1")
+print("b1 b2^-1 b3 b4 b5^-1 b6 b7^-1 is", text(word))
 print("its letters:", walnut.read_word(word))
+print("read back:", walnut.spelled(word))
 
 pair = walnut.Pair.start()
 pair.multiply(GF32, T_VALUES, 2)
@@ -52,7 +53,7 @@ print("the list 0 to 7 packs to", text(key[44:47]))
 
 # Pub(S) is the starting pair times b3, and Pub(S') has the matrix of b3's inverse
 inverse = walnut.Pair.start()
-inverse.multiply(GF32, T_VALUES, 10)
+inverse.multiply(GF32, T_VALUES, "b3^-1")
 file = write_key(GF32, T_VALUES, pair, inverse.matrix)
 print("row 3 after b3 packs to", text(file[18:23]))
 held = walnut.read_key(file)
@@ -61,28 +62,32 @@ print("T-values", *held.t_values)
 print("row 3 of Pub(S):", *row(held.pair.matrix, 3))
 print("list of Pub(S):", *held.pair.labels)
 print("row 3 of Pub(S'):", *row(held.second, 3))
-print("that key, read and written back, is the same:", yes_or_no(write_key(held.field, held.t_values, held.pair, held.second) == file))
+back = write_key(held.field, held.t_values, held.pair, held.second)
+print("that key, read and written back, is the same:", yes_or_no(back == file))
 blank = walnut.Pair.start()
 blank.matrix = bytes(64)
 print("a key with both matrices zero: answer", answer_of(write_key, GF32, T_VALUES, blank, blank.matrix))
 
 moved = walnut.rewrite(bytes.fromhex("00 03 01 00"), bytes.fromhex("00 01 00 00 03"))
 print("00 03 01 00 with kind 3 at place 0 gives", text(moved))
+moves = [(0, walnut.TURN), (3, walnut.REMOVE)]
+print("kind 3 at place 0 and then kind 1 at place 3 is", text(walnut.write_moves(moves)))
+print("on 00 05 01 03 B0 it gives", text(walnut.rewrite(bytes.fromhex("00 05 01 03 B0"), moves)))
 print("00 02 08 freely reduced is", text(walnut.free_reduce(bytes.fromhex("00 02 08"))))
 print("half byte 6 gives", text(walnut.encode_digest([0x66] * 32)[2:8]))
 
-print("strands 0 and 2 cross in b1 b2:", walnut.crossings(bytes.fromhex("00 02 01"), 0, 2))
-print("strands 1 and 0 cross in b1' b1':", walnut.crossings(bytes.fromhex("00 02 88"), 1, 0))
+print("strands 0 and 2 cross in b1 b2:", walnut.crossings(walnut.write_word("b1 b2"), 0, 2))
+print("strands 1 and 0 cross in b1^-1 b1^-1:", walnut.crossings(walnut.write_word("b1^-1 b1^-1"), 1, 0))
 print("strands 0 and 8: answer", answer_of(walnut.crossings, bytes(2), 0, 8))
 
 print("b1 b1 cloaks:", yes_or_no(walnut.cloaks(key, ORDER, bytes.fromhex("00 02 00"))))
 print("b3 b3 cloaks:", yes_or_no(walnut.cloaks(key, ORDER, bytes.fromhex("00 02 22"))))
-insertion = bytes([0, 1, 0, 1, 16])
+insertion = [(1, walnut.insert("b1"))]
 print("00 00 with kind 16 at place 1: answer", answer_of(walnut.rewrite, bytes(2), insertion))
 
 signature = bytes.fromhex("00 80") + bytes([0x66]) * 64
-print("plain key, zero digest, 00 80 and 64 bytes of 66: answer", walnut.verify(key, bytes(32), signature))
-print("plain key, zero digest, 00 00: answer", walnut.verify(key, bytes(32), bytes(2)))
+print("plain key, zero digest, 00 80 and 64 bytes of 66: answer", answer_of(walnut.verify, key, bytes(32), signature))
+print("plain key, zero digest, 00 00: answer", walnut.verdict(key, bytes(32), bytes(2)))
 
 # the same over the field with 256 elements
 print("over 256 elements 128 x 2 =", walnut.product(GF256, 128, 2))
@@ -98,10 +103,11 @@ file = write_key(GF256, T_VALUES, inverse, start.matrix)
 print("row 3 after b3' packs to", text(file[27:35]))
 held = walnut.read_key(file)
 print("row 3 of Pub(S):", *row(held.pair.matrix, 3))
-print("that key, read and written back, is the same:", yes_or_no(write_key(held.field, held.t_values, held.pair, held.second) == file))
+back = write_key(held.field, held.t_values, held.pair, held.second)
+print("that key, read and written back, is the same:", yes_or_no(back == file))
 print("128 bytes with q = 32: answer", answer_of(walnut.read_key, key[:1] + bytes([0, 32]) + key[3:]))
 
 signature = bytes.fromhex("01 00") + bytes([0x66]) * 128
-print("plain key, 64 zero bytes, 01 00 and 128 bytes of 66: answer", walnut.verify(key, bytes(64), signature))
-print("plain key, 64 zero bytes, 00 00: answer", walnut.verify(key, bytes(64), bytes(2)))
-print("plain key, 32 zero bytes: answer", walnut.verify(key, bytes(32), signature))
+print("plain key, 64 zero bytes, 01 00 and 128 bytes of 66: answer", walnut.verdict(key, bytes(64), signature))
+print("plain key, 64 zero bytes, 00 00: answer", answer_of(walnut.verify, key, bytes(64), bytes(2)))
+print("plain key, 32 zero bytes: answer", walnut.verdict(key, bytes(32), signature))

@@ -1,31 +1,90 @@
-"""Braid words, keys, E-multiplication and verdicts for WalnutDSA at strengths 128 and 256, over the proved library walnut.
+"""Braid words, keys, E-multiplication and verdicts for WalnutDSA at strengths 128 and 256, over the proved library.
 
-Every function takes any bytes. It gives its value, or raises Refusal with the number of the first question that the input fails; the verdict
-alone gives its number. A number that is no byte, or a fixed array of another length, is no input of the library's: it raises ValueError.
-The shared library libwalnut.so is looked for in the folder that the environment variable WALNUT_LIB_DIR names, else beside this file.
+Every function takes any bytes. It gives its value, or raises Refusal with the number of the first question that the
+input fails; verdict alone gives the number. A number that is no byte, or a fixed array of another length, is no input
+of the library's: it raises ValueError, and text where bytes are wanted raises TypeError. What keys, words and move
+lists look like stands in walnut.h, under FILES.
+
+Many words verify for one digest, so a word's bytes are no identity of a slip.
+
+The shared library libwalnut.so.0 is looked for in the folder that the environment variable WALNUT_LIB_DIR names;
+without it beside this file, and then where the system looks for libraries.
 """
 
 import ctypes
 import enum
+import operator
 import os
 from ctypes import POINTER, Structure, c_bool, c_char_p, c_int32, c_size_t, c_uint8
+from typing import Any, Iterable, List, Tuple, Union
+
+__version__ = "0.1.0"
 
 WORD_BYTES = 5002
+MOVES_BYTES = 12290
+LETTERS = 10000
+MOVES = 4096
+
+# bytes, or numbers that are bytes
+Bytes = Union[bytes, bytearray, memoryview, Iterable[int]]
+# a letter as its code, or as text: b1 to b7, b1^-1 to b7^-1
+Letter = Union[int, str]
+# a move's place and its kind
+Move = Tuple[int, int]
 
 
 class Field(enum.Enum):
-    """One of the two fields: as it is named to the library, the bytes of a key file over it, and of the digest that goes with such a key."""
+    """One of the two fields: as it is named to the library, the bytes of a key file over it, and of its digest."""
 
     GF32 = (False, 83, 32)
     GF256 = (True, 128, 64)
 
-    def __init__(self, large, key_bytes, digest_bytes):
+    def __init__(self, large: bool, key_bytes: int, digest_bytes: int) -> None:
         self.large = large
         self.key_bytes = key_bytes
         self.digest_bytes = digest_bytes
 
+    def __repr__(self) -> str:
+        return f"walnut.{self.name}"
+
 
 GF32, GF256 = Field.GF32, Field.GF256
+
+
+class Answer(enum.IntEnum):
+    """The names of the answers."""
+
+    # answers.txt: begin; tools/answers writes these lines
+    ACCEPTED = 0
+    KEY_LENGTH = 1
+    STRANDS = 2
+    KEY_FIELD = 3
+    ZERO = 4
+    FIRST_T_VALUES = 5
+    LABELS = 6
+    KEY_FILLER = 7
+    DIGEST_LENGTH = 8
+    WORD_SHORT = 9
+    TOO_MANY_LETTERS = 10
+    WORD_LENGTH = 11
+    NO_LETTER = 12
+    WORD_FILLER = 13
+    MATRICES_DIFFER = 14
+    OUTPUT_SHORT = 15
+    KEY_OUTPUT_SHORT = 16
+    NO_ELEMENT = 17
+    MOVES_SHORT = 18
+    TOO_MANY_MOVES = 19
+    MOVES_LENGTH = 20
+    NO_KIND = 21
+    PAST_THE_END = 22
+    NOT_THE_SHAPE = 23
+    WORD_FULL = 24
+    LIST = 25
+    NO_INVERSE = 26
+    TWO_LABELS = 27
+    # answers.txt: end
+
 
 # what failed, for each answer
 TEXTS = {
@@ -62,17 +121,23 @@ TEXTS = {
 }
 
 
-def text(answer):
+def text(answer: int) -> str:
     """What failed, for any answer: also for one that this module does not know."""
     return TEXTS.get(answer, "an answer that this binding does not know")
 
 
 class Refusal(Exception):
-    """The input failed a question; `number` is the answer, never 0."""
+    """The input failed a question; `number` is the answer, never 0, also one that this module does not know."""
 
-    def __init__(self, number):
-        super().__init__(f"{number}: {text(number)}")
+    def __init__(self, number: int) -> None:
+        super().__init__(number)
         self.number = number
+
+    def __str__(self) -> str:
+        return f"{self.number}: {text(self.number)}"
+
+    def __repr__(self) -> str:
+        return f"walnut.Refusal({self.number})"
 
 
 class _Element(Structure):
@@ -98,25 +163,43 @@ class _Pair(Structure):
 
 
 class _Key(Structure):
-    _fields_ = [("answer", c_uint8), ("large", c_bool), ("t_values", c_uint8 * 8), ("pair", _Pair), ("second", c_uint8 * 64)]
+    _fields_ = [
+        ("answer", c_uint8),
+        ("large", c_bool),
+        ("t_values", c_uint8 * 8),
+        ("pair", _Pair),
+        ("second", c_uint8 * 64),
+    ]
 
 
 _BYTES = [c_char_p, c_size_t]
 _OUT = [POINTER(c_uint8), c_size_t]
 
 
-def _library():
-    folder = os.environ.get("WALNUT_LIB_DIR") or os.path.dirname(os.path.abspath(__file__))
-    return ctypes.CDLL(os.path.join(folder, "libwalnut.so"))
+def _library() -> ctypes.CDLL:
+    name = "libwalnut.so.0"
+    named = os.environ.get("WALNUT_LIB_DIR")
+    beside = os.path.join(os.path.dirname(os.path.abspath(__file__)), name)
+    if named:
+        path = os.path.join(named, name)
+    else:
+        path = beside if os.path.exists(beside) else name
+    try:
+        return ctypes.CDLL(path)
+    except OSError as error:
+        folder = os.path.dirname(beside)
+        looked = f"{named}, which WALNUT_LIB_DIR names" if named else f"{folder} and the system's folders"
+        raise OSError(f"{name} was looked for in {looked}: {error}") from error
 
 
 _lib = _library()
 
 
-def _exported(name, result, *arguments):
+def _exported(name: str, result: Any, *arguments: Any) -> Any:
     function = getattr(_lib, "walnut_" + name)
     function.restype = result
-    function.argtypes = [kind for argument in arguments for kind in (argument if isinstance(argument, list) else [argument])]
+    flat = [argument if isinstance(argument, list) else [argument] for argument in arguments]
+    function.argtypes = [kind for kinds in flat for kind in kinds]
     return function
 
 
@@ -137,62 +220,176 @@ _cloaks = _exported("cloaks", _Cloak, _BYTES, _BYTES, _BYTES)
 _crossings = _exported("crossings", _Crossing, _BYTES, c_uint8, c_uint8)
 
 
-def _granted(answer, value=None):
+def _granted(answer: int, value: Any = None) -> Any:
     if answer:
         raise Refusal(answer)
     return value
 
 
-def _bytes(data):
-    """Bytes, or numbers that are bytes, one after another; a number alone is none."""
-    return bytes(iter(data))
+# ---- what is handed in
+
+_HINT = "; bytes.fromhex makes bytes of text in hexadecimal, and open(.., 'rb') reads a file's"
 
 
-def _fixed(data, length, name):
+def _bytes(data: Bytes, name: str) -> bytes:
+    """Bytes, or numbers that are bytes, one after another; text is none, and neither is a number alone."""
+    if isinstance(data, (bytes, bytearray, memoryview)):
+        return bytes(data)
+    if isinstance(data, str) or not isinstance(data, Iterable):
+        hint = _HINT if isinstance(data, str) else ""
+        raise TypeError(f"{name}: bytes are needed, or numbers that are bytes, not {type(data).__name__}{hint}")
+    return bytes(_byte(number, name) for number in data)
+
+
+def _fixed(data: Bytes, length: int, name: str) -> bytes:
     """Bytes that the library takes as a fixed array."""
-    data = _bytes(data)
+    data = _bytes(data, name)
     if len(data) != length:
         raise ValueError(f"{name}: {length} numbers are needed, not {len(data)}")
     return data
 
 
-def _byte(number, name):
-    """A number that the library takes as a byte."""
-    if not 0 <= number <= 255:
-        raise ValueError(f"{name}: {number} is no byte")
+def _whole(number: int, limit: int, name: str, what: str) -> int:
+    """A whole number from 0 to a limit."""
+    try:
+        number = operator.index(number)
+    except TypeError:
+        raise TypeError(f"{name}: a whole number is needed, not {type(number).__name__}") from None
+    if not 0 <= number <= limit:
+        raise ValueError(f"{name}: {number} is no {what}")
     return number
 
 
-def _label(number, name):
+def _byte(number: int, name: str) -> int:
+    """A number that the library takes as a byte."""
+    return _whole(number, 255, name, "byte")
+
+
+def _label(number: int, name: str) -> int:
     """A label as the library takes it: one over 255 is too large, as 255 is, and the library says so in its turn."""
     return _byte(min(number, 255), name)
 
 
-def _large(field):
+def _large(field: Field) -> bool:
     """A field as it is named to the library."""
     if not isinstance(field, Field):
         raise ValueError(f"{field!r} is no field: GF32 or GF256 is")
     return field.large
 
 
-def _slices(*parts):
+def _slices(**parts: Bytes) -> List[Any]:
     """Each part's bytes and their number, one after another."""
-    passed = []
-    for part in parts:
-        part = _bytes(part)
-        passed += [part, len(part)]
+    passed: List[Any] = []
+    for name, part in parts.items():
+        data = _bytes(part, name)
+        passed += [data, len(data)]
     return passed
 
 
-def _word_written(function, *parts):
+def _word_written(function: Any, **parts: Bytes) -> bytes:
     """What a writer of words wrote."""
     out = (c_uint8 * WORD_BYTES)()
-    written = function(*_slices(*parts), out, WORD_BYTES)
+    written = function(*_slices(**parts), out, WORD_BYTES)
     return _granted(written.answer, bytes(out[: written.number]))
 
 
-def place(row, column):
-    """Where the entry in a row and a column of a matrix stands, both counted from 1 to 8: every matrix lies column by column, the first one first."""
+# ---- letters
+
+
+def letter_text(code: int) -> str:
+    """A letter's code as text: b1 to b7 for 0 to 6, b1^-1 to b7^-1 for 8 to 14."""
+    code = _byte(code, "code")
+    if code > 14 or code == 7:
+        raise ValueError(f"{code} is no letter's code: 0 to 6 and 8 to 14 are")
+    return f"b{code % 8 + 1}" + ("^-1" if code >= 8 else "")
+
+
+_CODES = {letter_text(code): code for code in range(15) if code != 7}
+
+
+def letter_code(letter: Letter) -> int:
+    """A letter's code, of its text; of a number that number, which the library may find to be no letter."""
+    if not isinstance(letter, str):
+        return _byte(letter, "letter")
+    if letter not in _CODES:
+        raise ValueError(f"{letter!r} is no letter: letters are b1 to b7 and b1^-1 to b7^-1")
+    return _CODES[letter]
+
+
+def codes(word: Bytes) -> bytes:
+    """The codes of a word file's letters, one to a byte: what write_word takes."""
+    file = _bytes(word, "word")
+    letters = read_word(file)
+    both = bytes(half for byte in file[2:] for half in (byte // 16, byte % 16))
+    return both[:letters]
+
+
+def spelled(word: Bytes) -> str:
+    """The letters of a word file as text, with a space between them: b1 b2^-1 .. write_word takes it too."""
+    return " ".join(letter_text(code) for code in codes(word))
+
+
+# ---- moves
+
+REMOVE = 1
+SWAP = 2
+TURN = 3
+
+
+def insert(letter: Letter) -> int:
+    """The kind of move that inserts a letter and then its inverse."""
+    code = letter_code(letter)
+    if code not in _CODES.values():
+        raise ValueError(f"letter: {code} is no letter's code")
+    return 16 + code
+
+
+def write_moves(moves: Iterable[Move]) -> bytes:
+    """The file of (place, kind) of each move: the number of moves, then all places, then all kinds."""
+    return _moves_asked(_moves_file(moves))
+
+
+def read_moves(file: Bytes) -> List[Move]:
+    """The (place, kind) of each move of a file, of whatever kinds."""
+    data = _moves_asked(_bytes(file, "file"))
+    number = len(data) // 3
+    places, kinds = data[2 : 2 + 2 * number], data[2 + 2 * number :]
+    return [(int.from_bytes(places[2 * k : 2 * k + 2], "big"), kinds[k]) for k in range(number)]
+
+
+def _moves_file(moves: Iterable[Move]) -> bytes:
+    """Of more moves than two bytes count it states 65,535, so that it is refused like any list that is too long."""
+    if isinstance(moves, str) or not isinstance(moves, Iterable):
+        raise TypeError(f"moves: a file's bytes or (place, kind) of each move are needed, not {type(moves).__name__}")
+    listed = [_move(move) for move in moves]
+    places = b"".join(place.to_bytes(2, "big") for place, _ in listed)
+    return min(len(listed), 65535).to_bytes(2, "big") + places + bytes(kind for _, kind in listed)
+
+
+def _move(move: Move) -> Move:
+    try:
+        place, kind = move
+    except (TypeError, ValueError):
+        raise TypeError(f"moves: a move is (place, kind), not {move!r}") from None
+    return _whole(place, 65535, "place", "place of two bytes"), _byte(kind, "kind")
+
+
+def _moves_asked(file: bytes) -> bytes:
+    """A move list's file that passes 18, 19 and 20, which the rewriter asks before it looks at a move."""
+    try:
+        rewrite(bytes(2), file)
+    except Refusal as refusal:
+        if refusal.number <= Answer.MOVES_LENGTH:
+            raise
+    return file
+
+
+# ---- pairs and keys
+
+
+def place(row: int, column: int) -> int:
+    """Where the entry in a row and a column of a matrix stands, both counted from 1 to 8: every matrix lies column by
+    column, the first one first."""
     if not (1 <= row <= 8 and 1 <= column <= 8):
         raise ValueError(f"rows and columns count from 1 to 8, not {row} and {column}")
     return 8 * (column - 1) + (row - 1)
@@ -201,115 +398,147 @@ def place(row, column):
 class Pair:
     """A matrix of 64 entries, column by column (see place), and a list of eight labels."""
 
-    def __init__(self, matrix, labels):
+    def __init__(self, matrix: Bytes, labels: Bytes) -> None:
         self.matrix = _fixed(matrix, 64, "matrix")
         self.labels = _fixed(labels, 8, "labels")
 
     @classmethod
-    def start(cls):
+    def start(cls) -> "Pair":
         """The starting pair: the identity matrix with the list 0 to 7."""
         return cls._of(_start())
 
     @classmethod
-    def _of(cls, pair):
-        return cls(pair.matrix, pair.labels)
+    def _of(cls, pair: _Pair) -> "Pair":
+        return cls(bytes(pair.matrix), bytes(pair.labels))
 
-    def multiply(self, field, t_values, letter):
-        """Multiplies a letter, given by its code, into the pair, over a field. On a refusal the pair is as it was."""
+    def multiply(self, field: Field, t_values: Bytes, letter: Letter) -> None:
+        """Multiplies a letter into the pair, over a field. On a refusal the pair is as it was."""
         lent = _Pair((c_uint8 * 64)(*self.matrix), (c_uint8 * 8)(*self.labels))
-        _granted(_multiply(lent, _large(field), _fixed(t_values, 8, "t_values"), _byte(letter, "letter")))
+        _granted(_multiply(lent, _large(field), _fixed(t_values, 8, "t_values"), letter_code(letter)))
         self.matrix, self.labels = bytes(lent.matrix), bytes(lent.labels)
 
-    def __eq__(self, other):
+    def __eq__(self, other: object) -> bool:
         if not isinstance(other, Pair):
             return NotImplemented
         return (self.matrix, self.labels) == (other.matrix, other.labels)
 
-    __hash__ = None
+    __hash__ = None  # type: ignore[assignment]
+
+    def __repr__(self) -> str:
+        return f"walnut.Pair({_shown(self.matrix)}, {_shown(self.labels)})"
 
 
 class Key:
     """A key: its field, its T-values, the pair Pub(S) and the matrix of Pub(S'), column by column too."""
 
-    def __init__(self, field, t_values, pair, second):
+    def __init__(self, field: Field, t_values: Bytes, pair: Pair, second: Bytes) -> None:
         self.field = field
-        self.t_values = t_values
+        self.t_values = _fixed(t_values, 8, "t_values")
         self.pair = pair
-        self.second = second
+        self.second = _fixed(second, 64, "second")
+
+    def __eq__(self, other: object) -> bool:
+        if not isinstance(other, Key):
+            return NotImplemented
+        return vars(self) == vars(other)
+
+    __hash__ = None  # type: ignore[assignment]
+
+    def __repr__(self) -> str:
+        return f"walnut.Key({self.field!r}, {_shown(self.t_values)}, {self.pair!r}, {_shown(self.second)})"
 
 
-def product(field, a, b):
+def _shown(data: bytes) -> str:
+    return f"bytes.fromhex('{data.hex()}')"
+
+
+# ---- the operations
+
+
+def product(field: Field, a: int, b: int) -> int:
     """The product of two elements of a field."""
     element = _product(_large(field), _byte(a, "a"), _byte(b, "b"))
     return _granted(element.answer, element.value)
 
 
-def reciprocal(field, a):
+def reciprocal(field: Field, a: int) -> int:
     """The reciprocal of an element other than zero of a field."""
     element = _reciprocal(_large(field), _byte(a, "a"))
     return _granted(element.answer, element.value)
 
 
-def read_key(file):
+def read_key(file: Bytes) -> Key:
     """The key that a key file holds."""
-    key = _read_key(*_slices(file))
+    key = _read_key(*_slices(file=file))
     field = GF256 if key.large else GF32
     return _granted(key.answer, Key(field, bytes(key.t_values), Pair._of(key.pair), bytes(key.second)))
 
 
-def file_entries(matrix):
-    """The 57 entries that a key file has of a matrix, in the file's order: rows 1 to 7 whole, then the last entry of row 8."""
+def file_entries(matrix: Bytes) -> bytes:
+    """The 57 entries that a key file has of a matrix, in the file's order: rows 1 to 7, then the last one of row 8."""
     entries = (c_uint8 * 57)()
     _file_entries(_fixed(matrix, 64, "matrix"), entries)
     return bytes(entries)
 
 
-def write_key(field, t_values, labels, first, second):
+def write_key(field: Field, t_values: Bytes, labels: Bytes, first: Bytes, second: Bytes) -> bytes:
     """The key file over a field of T-values, labels and each matrix's 57 entries."""
     large = _large(field)
     out = (c_uint8 * field.key_bytes)()
-    lists = [_fixed(t_values, 8, "t_values"), _fixed(labels, 8, "labels"), _fixed(first, 57, "first"), _fixed(second, 57, "second")]
+    lists = [_fixed(t_values, 8, "t_values"), _fixed(labels, 8, "labels")]
+    lists += [_fixed(first, 57, "first"), _fixed(second, 57, "second")]
     return _granted(_write_key(large, *lists, out, field.key_bytes), bytes(out))
 
 
-def read_word(file):
-    """The number of letters of a word file."""
-    word = _read_word(*_slices(file))
+def read_word(file: Bytes) -> int:
+    """The number of letters of a word file; codes and spelled give the letters."""
+    word = _read_word(*_slices(file=file))
     return _granted(word.answer, word.number)
 
 
-def write_word(codes):
-    """The word file of codes."""
-    return _word_written(_write_word, codes)
+def write_word(letters: Union[str, Iterable[Letter]]) -> bytes:
+    """The word file of letters: codes, or text like b1 b2^-1, or a row of either."""
+    given = letters.split() if isinstance(letters, str) else letters
+    if not isinstance(given, Iterable):
+        raise TypeError(f"letters: codes or text are needed, not {type(letters).__name__}")
+    return _word_written(_write_word, codes=[letter_code(letter) for letter in given])
 
 
-def encode_digest(digest):
+def encode_digest(digest: Bytes) -> bytes:
     """The braid of a digest, of 32 bytes or 64, as a word file."""
-    return _word_written(_encode_digest, digest)
+    return _word_written(_encode_digest, digest=digest)
 
 
-def free_reduce(word):
+def free_reduce(word: Bytes) -> bytes:
     """The freely reduced word of a word file."""
-    return _word_written(_free_reduce, word)
+    return _word_written(_free_reduce, word=word)
 
 
-def rewrite(word, moves):
-    """The word file that the moves of a list leave."""
-    return _word_written(_rewrite, word, moves)
+def rewrite(word: Bytes, moves: Union[bytes, bytearray, memoryview, Iterable[Move]]) -> bytes:
+    """The word file that moves leave: the bytes of a move list's file, or (place, kind) of each move."""
+    file = moves if isinstance(moves, (bytes, bytearray, memoryview)) else _moves_file(moves)
+    return _word_written(_rewrite, word=word, moves=file)
 
 
-def verify(key, digest, word):
-    """The verdict's answer, over the key's field: 0 if the word is a signature of the digest under the key, 14 if not, or the number of the refusal."""
-    return _verify(*_slices(key, digest, word))
+def verify(key: Bytes, digest: Bytes, word: Bytes) -> None:
+    """Returns nothing where the word is a signature of the digest under the key, over the key's field, and raises
+    Refusal where not: with 14 if each file is right and the word is no signature."""
+    _granted(verdict(key, digest, word))
 
 
-def cloaks(key, labels, word):
+def verdict(key: Bytes, digest: Bytes, word: Bytes) -> int:
+    """The verdict's number: 0 where verify returns, else the refusal's. As a condition it is true on a failure."""
+    return _verify(*_slices(key=key, digest=digest, word=word))
+
+
+def cloaks(key: Bytes, labels: Bytes, word: Bytes) -> bool:
     """Does the word cloak for the list under the key's T-values, over the key's field?"""
-    cloak = _cloaks(*_slices(key, labels, word))
+    cloak = _cloaks(*_slices(key=key, labels=labels, word=word))
     return _granted(cloak.answer, cloak.yes)
 
 
-def crossings(word, a, b):
-    """How often the strands with labels a and b cross in the word, from the list 0 to 7: generators less inverse letters that swap them."""
-    crossing = _crossings(*_slices(word), _label(a, "a"), _label(b, "b"))
+def crossings(word: Bytes, a: int, b: int) -> int:
+    """How often the strands with labels a and b cross in the word, from the list 0 to 7: its generators that swap just
+    these two, less its inverse letters that do."""
+    crossing = _crossings(*_slices(word=word), _label(a, "a"), _label(b, "b"))
     return _granted(crossing.answer, crossing.crossings)

@@ -1,7 +1,9 @@
 //! Worked slips: fields, words, pairs, keys, moves, crossings, cloaking and the verdict, at both strengths.
 
+use std::error::Error;
+
 use walnut::Field::{self, Gf256, Gf32};
-use walnut::{Pair, Refusal, WORD_BYTES};
+use walnut::{Letter, Moves, Pair, Refusal, DIGEST_BYTES, WORD_BYTES};
 
 const T_VALUES: [u8; 8] = [1, 1, 2, 3, 4, 5, 6, 7];
 const ORDER: [u8; 8] = [0, 1, 2, 3, 4, 5, 6, 7];
@@ -42,16 +44,23 @@ fn yes_or_no(yes: bool) -> &'static str {
     }
 }
 
-fn main() -> Result<(), Refusal> {
+/// Fields and words.
+fn words() -> Result<(), Box<dyn Error>> {
     println!("16 x 2 = {}", walnut::product(Gf32, 16, 2)?);
     println!("31 x 31 = {}", walnut::product(Gf32, 31, 31)?);
     println!("the reciprocal of 3 is {}", walnut::reciprocal(Gf32, 3)?);
 
     let mut out = [0; WORD_BYTES];
-    let word = walnut::write_word(&[0, 9, 2, 3, 12, 5, 14], &mut out)?;
-    println!("b1 b2' b3 b4 b5' b6 b7' is {}", hex(word));
+    let word = walnut::write_word(&walnut::codes("b1 b2^-1 b3 b4 b5^-1 b6 b7^-1")?, &mut out)?;
+    println!("b1 b2^-1 b3 b4 b5^-1 b6 b7^-1 is {}", hex(word));
     println!("its letters: {}", walnut::read_word(word)?);
+    let letters = walnut::letters(word)?.map(|letter| letter.to_string());
+    println!("read back: {}", letters.collect::<Vec<_>>().join(" "));
+    Ok(())
+}
 
+/// Pairs and keys: gives the plain key, both of whose matrices are the identity.
+fn keys() -> Result<Vec<u8>, Refusal> {
     let mut pair = Pair::start();
     pair.multiply(Gf32, &T_VALUES, 2)?;
     println!("row 3 after b3: {}", row(&pair.matrix, 3));
@@ -76,31 +85,48 @@ fn main() -> Result<(), Refusal> {
     let back = key_file(held.field, &held.t_values, &held.pair, &held.second)?;
     println!("that key, read and written back, is the same: {}", yes_or_no(back == file));
     let blank = Pair { matrix: [0; 64], ..Pair::start() };
-    println!(
-        "a key with both matrices zero: answer {}",
-        answer(key_file(Gf32, &T_VALUES, &blank, &blank.matrix))
-    );
+    let refused = key_file(Gf32, &T_VALUES, &blank, &blank.matrix);
+    println!("a key with both matrices zero: answer {}", answer(refused));
+    Ok(key)
+}
 
+/// Moves, free reduction and digests.
+fn moves() -> Result<(), Refusal> {
+    let mut out = [0; WORD_BYTES];
     let moved = walnut::rewrite(&[0, 3, 1, 0], &[0, 1, 0, 0, 3], &mut out)?;
     println!("00 03 01 00 with kind 3 at place 0 gives {}", hex(moved));
+    let moves = Moves::new().turn(0).remove(3).file();
+    println!("kind 3 at place 0 and then kind 1 at place 3 is {}", hex(&moves));
+    let moved = walnut::rewrite(&[0, 5, 0x01, 0x03, 0xB0], &moves, &mut out)?;
+    println!("on 00 05 01 03 B0 it gives {}", hex(moved));
     println!("00 02 08 freely reduced is {}", hex(walnut::free_reduce(&[0, 2, 8], &mut out)?));
-    println!("half byte 6 gives {}", hex(&walnut::encode_digest(&[0x66; 32], &mut out)?[2..8]));
+    println!("half byte 6 gives {}", hex(&walnut::encode_digest(&[0x66; DIGEST_BYTES], &mut out)?[2..8]));
+    Ok(())
+}
 
+/// How often strands cross.
+fn crossings() -> Result<(), Refusal> {
     println!("strands 0 and 2 cross in b1 b2: {}", walnut::crossings(&[0, 2, 0x01], 0, 2)?);
-    println!("strands 1 and 0 cross in b1' b1': {}", walnut::crossings(&[0, 2, 0x88], 1, 0)?);
+    println!("strands 1 and 0 cross in b1^-1 b1^-1: {}", walnut::crossings(&[0, 2, 0x88], 1, 0)?);
     println!("strands 0 and 8: answer {}", answer(walnut::crossings(&[0, 0], 0, 8)));
+    Ok(())
+}
 
-    println!("b1 b1 cloaks: {}", yes_or_no(walnut::cloaks(&key, &ORDER, &[0, 2, 0x00])?));
-    println!("b3 b3 cloaks: {}", yes_or_no(walnut::cloaks(&key, &ORDER, &[0, 2, 0x22])?));
-    let refused = walnut::rewrite(&[0, 0], &[0, 1, 0, 1, 16], &mut out);
+/// Cloaking, a refused move and verdicts, under the plain key.
+fn verdicts(key: &[u8]) -> Result<(), Box<dyn Error>> {
+    println!("b1 b1 cloaks: {}", yes_or_no(walnut::cloaks(key, &ORDER, &[0, 2, 0x00])?));
+    println!("b3 b3 cloaks: {}", yes_or_no(walnut::cloaks(key, &ORDER, &[0, 2, 0x22])?));
+    let insertion = Moves::new().insert(1, "b1".parse::<Letter>()?);
+    let refused = walnut::rewrite(&[0, 0], &insertion.file(), &mut [0; WORD_BYTES]).map(|_| ());
     println!("00 00 with kind 16 at place 1: answer {}", answer(refused));
 
     let mut signature = vec![0x00, 0x80];
     signature.resize(66, 0x66);
-    let verdict = walnut::verify(&key, &[0; 32], &signature);
+    let verdict = walnut::verify(key, &[0; DIGEST_BYTES], &signature);
     println!("plain key, zero digest, 00 80 and 64 bytes of 66: answer {}", answer(verdict));
-    println!("plain key, zero digest, 00 00: answer {}", answer(walnut::verify(&key, &[0; 32], &[0, 0])));
-    larger_field()
+    let verdict = walnut::verify(key, &[0; DIGEST_BYTES], &[0, 0]);
+    println!("plain key, zero digest, 00 00: answer {}", answer(verdict));
+    Ok(())
 }
 
 /// The same over the field with 256 elements.
@@ -131,5 +157,15 @@ fn larger_field() -> Result<(), Refusal> {
     println!("plain key, 64 zero bytes, 01 00 and 128 bytes of 66: answer {}", answer(verdict));
     println!("plain key, 64 zero bytes, 00 00: answer {}", answer(walnut::verify(&key, &[0; 64], &[0, 0])));
     println!("plain key, 32 zero bytes: answer {}", answer(walnut::verify(&key, &[0; 32], &signature)));
+    Ok(())
+}
+
+fn main() -> Result<(), Box<dyn Error>> {
+    words()?;
+    let key = keys()?;
+    moves()?;
+    crossings()?;
+    verdicts(&key)?;
+    larger_field()?;
     Ok(())
 }

@@ -1,4 +1,5 @@
-//! The exported functions, as `walnut.h` states them: answers as numbers, and what comes with a refusal as it is.
+//! The exported functions, as `walnut.h` states them: answers as numbers, and what comes with a refusal as it is. They
+//! are private; `tests/compare` takes this file too, since it looks at what a refusal gives.
 
 use crate::Pair;
 

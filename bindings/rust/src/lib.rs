@@ -2,14 +2,21 @@
 //! at strengths 128 and 256.
 //!
 //! Every function takes any bytes. It gives its value, or the [`Refusal`] that holds the number of the first
-//! question that the input fails; on a refusal nothing that was lent is changed.
+//! question that the input fails; on a refusal nothing that was lent is changed. What keys, words and move lists look
+//! like stands in `walnut.h`, under FILES.
+//!
+//! Many words verify for one digest, so a word's bytes are no identity of a slip.
 
-pub mod exported;
+mod exported;
+mod letters;
+mod moves;
 mod refusal;
 
 use exported::*;
 use refusal::granted;
 
+pub use letters::{codes, letters, Letter, Letters, NoLetter};
+pub use moves::{Move, Moves};
 pub use refusal::Refusal;
 
 /// One of the two fields, with the sizes that go with it. A key knows its field.
@@ -25,16 +32,16 @@ impl Field {
     /// The bytes of a key file over it.
     pub const fn key_bytes(self) -> usize {
         match self {
-            Field::Gf32 => 83,
-            Field::Gf256 => 128,
+            Field::Gf32 => KEY_BYTES,
+            Field::Gf256 => LARGE_KEY_BYTES,
         }
     }
 
     /// The bytes of the digest that goes with such a key.
     pub const fn digest_bytes(self) -> usize {
         match self {
-            Field::Gf32 => 32,
-            Field::Gf256 => 64,
+            Field::Gf32 => DIGEST_BYTES,
+            Field::Gf256 => LARGE_DIGEST_BYTES,
         }
     }
 
@@ -53,8 +60,22 @@ impl Field {
     }
 }
 
+/// The bytes of a key file over the field with 32 elements.
+pub const KEY_BYTES: usize = 83;
+/// The bytes of a key file over the field with 256 elements.
+pub const LARGE_KEY_BYTES: usize = 128;
+/// The bytes of the digest that goes with a key of [`KEY_BYTES`].
+pub const DIGEST_BYTES: usize = 32;
+/// The bytes of the digest that goes with a key of [`LARGE_KEY_BYTES`].
+pub const LARGE_DIGEST_BYTES: usize = 64;
 /// The bytes of the longest word file, and so the least that an output for words must have.
 pub const WORD_BYTES: usize = 5002;
+/// The bytes of the longest move list.
+pub const MOVES_BYTES: usize = 12290;
+/// The most letters of a word.
+pub const LETTERS: usize = 10000;
+/// The most moves of a list.
+pub const MOVES: usize = 4096;
 
 /// Where the entry in a row and a column of a matrix stands, both counted from 1 to 8: every matrix lies column by
 /// column, the first one first.
@@ -147,7 +168,7 @@ pub fn write_key<'a>(
     granted(answer, field.key_bytes()).map(|bytes| &mut out[..bytes])
 }
 
-/// Reads a word file: the number of its letters.
+/// Reads a word file: the number of its letters. [`letters`] gives them.
 pub fn read_word(file: &[u8]) -> Result<usize, Refusal> {
     // SAFETY: see above.
     let word = unsafe { walnut_read_word(file.as_ptr(), file.len()) };
@@ -159,7 +180,8 @@ fn written(written: Number, out: &mut [u8]) -> Result<&mut [u8], Refusal> {
     granted(written.answer, written.number).map(|bytes| &mut out[..bytes])
 }
 
-/// Writes the word file of codes, one to a byte; gives the part of the output that holds it.
+/// Writes the word file of codes, one to a byte; gives the part of the output that holds it. [`codes`] makes codes of
+/// text.
 pub fn write_word<'a>(codes: &[u8], out: &'a mut [u8]) -> Result<&'a mut [u8], Refusal> {
     // SAFETY: see above.
     let number = unsafe { walnut_write_word(codes.as_ptr(), codes.len(), out.as_mut_ptr(), out.len()) };
@@ -180,7 +202,8 @@ pub fn free_reduce<'a>(word: &[u8], out: &'a mut [u8]) -> Result<&'a mut [u8], R
     written(number, out)
 }
 
-/// Makes the moves of a list on a word file; gives the part of the output that holds the new word.
+/// Makes the moves of a list on a word file; gives the part of the output that holds the new word. [`Moves`] makes the
+/// list's file.
 pub fn rewrite<'a>(word: &[u8], moves: &[u8], out: &'a mut [u8]) -> Result<&'a mut [u8], Refusal> {
     let (list, len) = (moves.as_ptr(), moves.len());
     // SAFETY: see above.
@@ -207,8 +230,8 @@ pub fn cloaks(key: &[u8], labels: &[u8], word: &[u8]) -> Result<bool, Refusal> {
     granted(cloak.answer, cloak.yes)
 }
 
-/// How often the strands with labels a and b cross in the word, from the list 0 to 7: its generators that swap just these
-/// two, less its inverse letters that do.
+/// How often the strands with labels a and b cross in the word, from the list 0 to 7: its generators that swap just
+/// these two, less its inverse letters that do.
 pub fn crossings(word: &[u8], a: u8, b: u8) -> Result<i32, Refusal> {
     // SAFETY: see above.
     let crossing = unsafe { walnut_crossings(word.as_ptr(), word.len(), a, b) };

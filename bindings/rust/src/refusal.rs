@@ -39,23 +39,91 @@ fn text(number: u8) -> &'static str {
     }
 }
 
-/// The number of the first question that an input failed.
-#[derive(Clone, Copy, Debug, PartialEq, Eq, Hash)]
+/// The number of the first question that an input failed. Each has a name; one that this binding does not know has its
+/// number.
+#[derive(Clone, Copy, PartialEq, Eq, PartialOrd, Ord, Hash)]
 pub struct Refusal(u8);
 
 impl Refusal {
-    /// The verdict on a word that is no signature of the digest.
+    // answers.txt: begin; tools/answers writes these lines
+    /// The key file is neither 83 nor 128 bytes.
+    pub const KEY_LENGTH: Refusal = Refusal(1);
+    /// The key is not for eight strands.
+    pub const STRANDS: Refusal = Refusal(2);
+    /// The key's field does not go with its length: 32 elements with 83 bytes, 256 with 128.
+    pub const KEY_FIELD: Refusal = Refusal(3);
+    /// A T-value, or the number whose reciprocal is asked for, is zero.
+    pub const ZERO: Refusal = Refusal(4);
+    /// The first two T-values are not both 1.
+    pub const FIRST_T_VALUES: Refusal = Refusal(5);
+    /// The list of labels is not 0 to 7, each once.
+    pub const LABELS: Refusal = Refusal(6);
+    /// Filler bits of the key are not zero.
+    pub const KEY_FILLER: Refusal = Refusal(7);
+    /// The digest is not 32 or 64 bytes, or not the one of the two that goes with the key.
+    pub const DIGEST_LENGTH: Refusal = Refusal(8);
+    /// The word has fewer than 2 bytes.
+    pub const WORD_SHORT: Refusal = Refusal(9);
+    /// The word's number of letters is over 10,000.
+    pub const TOO_MANY_LETTERS: Refusal = Refusal(10);
+    /// The word's length is not what its number of letters needs.
+    pub const WORD_LENGTH: Refusal = Refusal(11);
+    /// A code is no letter.
+    pub const NO_LETTER: Refusal = Refusal(12);
+    /// An odd word's last half byte is not 0.
+    pub const WORD_FILLER: Refusal = Refusal(13);
+    /// The matrices differ: the word is no signature of this digest under this key.
     pub const MATRICES_DIFFER: Refusal = Refusal(14);
+    /// The output has fewer than 5,002 bytes.
+    pub const OUTPUT_SHORT: Refusal = Refusal(15);
+    /// The key's output has fewer than 83 bytes, or than 128 over the field with 256 elements.
+    pub const KEY_OUTPUT_SHORT: Refusal = Refusal(16);
+    /// A T-value, matrix entry or operand is no element: not below 32, or 256 in the larger field.
+    pub const NO_ELEMENT: Refusal = Refusal(17);
+    /// The move list has fewer than 2 bytes.
+    pub const MOVES_SHORT: Refusal = Refusal(18);
+    /// The move list states more than 4,096 moves.
+    pub const TOO_MANY_MOVES: Refusal = Refusal(19);
+    /// The move list's length is not 2 + 3 times its number of moves.
+    pub const MOVES_LENGTH: Refusal = Refusal(20);
+    /// A move's kind is none of 1, 2, 3, 16 to 22, 24 to 30.
+    pub const NO_KIND: Refusal = Refusal(21);
+    /// A move's letters do not exist from its place on, or an insertion's place is past the end.
+    pub const PAST_THE_END: Refusal = Refusal(22);
+    /// The letters at a move's place have not the kind's shape.
+    pub const NOT_THE_SHAPE: Refusal = Refusal(23);
+    /// An insertion would leave more than 10,000 letters.
+    pub const WORD_FULL: Refusal = Refusal(24);
+    /// The list handed in is not 8 bytes, 0 to 7 each once.
+    pub const LIST: Refusal = Refusal(25);
+    /// A matrix of the key has no inverse.
+    pub const NO_INVERSE: Refusal = Refusal(26);
+    /// A label is over 7, or the two labels are equal.
+    pub const TWO_LABELS: Refusal = Refusal(27);
+    // answers.txt: end
 
     /// The number; never 0.
-    pub fn number(self) -> u8 {
+    pub const fn number(self) -> u8 {
         self.0
+    }
+
+    /// What failed.
+    pub fn text(self) -> &'static str {
+        text(self.0)
     }
 }
 
+/// The number alone.
+impl fmt::Debug for Refusal {
+    fn fmt(&self, to: &mut fmt::Formatter<'_>) -> fmt::Result {
+        write!(to, "Refusal({})", self.0)
+    }
+}
+
+/// The number and what failed.
 impl fmt::Display for Refusal {
     fn fmt(&self, to: &mut fmt::Formatter<'_>) -> fmt::Result {
-        write!(to, "{}: {}", self.0, text(self.0))
+        write!(to, "{}: {}", self.0, self.text())
     }
 }
 
@@ -67,5 +135,22 @@ pub(crate) fn granted<T>(answer: u8, value: T) -> Result<T, Refusal> {
         Ok(value)
     } else {
         Err(Refusal(answer))
+    }
+}
+
+#[cfg(test)]
+mod tests {
+    use super::*;
+
+    #[test]
+    fn an_unknown_number_is_a_refusal_too() {
+        let refusal = granted(255, ()).unwrap_err();
+        assert_eq!(refusal.number(), 255);
+        assert_eq!(refusal.to_string(), "255: an answer that this binding does not know");
+    }
+
+    #[test]
+    fn zero_is_no_refusal() {
+        assert_eq!(granted(0, "value"), Ok("value"));
     }
 }

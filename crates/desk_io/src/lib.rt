@@ -14,7 +14,7 @@ fn say(bytes: &[u8]) {
 }
 
 // Writes a line.
-fn tell(line: Line)
+pub fn tell(line: Line)
     requires { ⌜ Counts (line .bytes) (line .text) ⌝ }
 {
     let text = line.text;
@@ -22,50 +22,55 @@ fn tell(line: Line)
     say(&text[..n]);
 }
 
-// The desk program: a slip on standard input, key, digest and signature end to end.
-pub fn desk() {
-    let mut input = [0u8; desk_line::INPUT_ROOM];
-    let n = io::read_full(STDIN_FILENO, &mut input);
-    tell(desk_line::input_line(&input, n));
+// What reading gave where it failed, after a line on standard error.
+fn unread(path: &[u8]) -> Got {
+    os::fail(path);
+    Got {
+        read: false,
+        bytes: 0,
+    }
 }
 
 // Fills the start of `buf` from an open file, to its end or the file's.
 fn fill(fd: i32, path: &[u8], buf: &mut [u8]) -> Got {
-    let got = libc::read(fd, buf);
-    if got < 0 {
-        os::fail(path);
-        return Got {
-            read: false,
-            bytes: 0,
-        };
+    let mut n = 0;
+    while n < buf.len() {
+        let got = libc::read(fd, &mut buf[n..]);
+        if got < 0 {
+            return unread(path);
+        }
+        let more = io::count(got, &buf[n..]);
+        if more == 0 {
+            break;
+        }
+        n += more;
     }
-    let first = io::count(got, buf);
-    let more = io::read_full(fd, &mut buf[first..]);
     Got {
         read: true,
-        bytes: first + more,
+        bytes: n,
+    }
+}
+
+// The desk program: a slip on standard input, key, digest and signature end to end; no line where it cannot be read.
+pub fn desk() {
+    let mut input = [0u8; desk_line::INPUT_ROOM];
+    let got = fill(STDIN_FILENO, b"standard input", &mut input);
+    if got.read {
+        tell(desk_line::input_line(&input, got.bytes));
     }
 }
 
 // Reads the file that argument i names. One that cannot be opened or read gets a line on standard error.
-fn file(i: usize, buf: &mut [u8]) -> Got {
+pub fn file(i: usize, buf: &mut [u8]) -> Got {
     let mut path = io::buffer();
     let n = os::arg(i, &mut path);
     if os::errno() != 0 {
-        os::fail(b"name of a file");
-        return Got {
-            read: false,
-            bytes: 0,
-        };
+        return unread(b"name of a file");
     }
     let name = &path[..n];
     let fd = os::open_read(name);
     if fd < 0 {
-        os::fail(name);
-        return Got {
-            read: false,
-            bytes: 0,
-        };
+        return unread(name);
     }
     let got = fill(fd, name, buf);
     libc::close(fd);
@@ -92,9 +97,23 @@ fn tell_text(t: Text)
     say(&text[..n]);
 }
 
-// The program that lists how often every two strands cross, of the word on standard input.
+// Lists how often every two strands of a word cross; nothing where it could not be read.
+fn list(input: &[u8; crossing_lines::WORD_ROOM], got: Got) {
+    if got.read {
+        tell_text(crossing_lines::word_text(input, got.bytes));
+    }
+}
+
+// The program that lists crossings, of the word on standard input.
 pub fn crossings() {
     let mut input = [0u8; crossing_lines::WORD_ROOM];
-    let n = io::read_full(STDIN_FILENO, &mut input);
-    tell_text(crossing_lines::word_text(&input, n));
+    let got = fill(STDIN_FILENO, b"standard input", &mut input);
+    list(&input, got);
+}
+
+// The same program, of the word in the file that its argument names.
+pub fn crossings_file() {
+    let mut input = [0u8; crossing_lines::WORD_ROOM];
+    let got = file(1, &mut input);
+    list(&input, got);
 }

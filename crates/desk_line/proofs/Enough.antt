@@ -98,6 +98,10 @@ long-alike n word b e l =
     ∙ ap (λ (xs : List ℕ). cond (leb (value 256 xs) maxLetters) 11 10) (take-take 2 n word (omega arith))
     ∙ sym (long-word word (omega arith))
 
+-- so a word of any length is answered as its first 5,003 bytes are
+pub word-alike : (n : ℕ) (word : List ℕ) → 5002 < n → wordAnswer (take n word) ≡ wordAnswer word
+word-alike n word b = cut-alike n wordAnswer word (long-alike n word b)
+
 word-cut : (n : ℕ) (key digest word : List ℕ) → 5002 < n → verdict key digest (take n word) ≡ verdict key digest word
 word-cut n key digest word b =
     cut-alike n (λ w. verdict key digest w) word

@@ -134,13 +134,13 @@ fn nothing() -> Line
     }
 }
 
-fn both(a: bool, b: bool) -> bool
+pub fn both(a: bool, b: bool) -> bool
     ensures { λ r. ⌜ r ≡ a && b ⌝ }
 {
     a && b
 }
 
-fn all_read(k: Got, d: Got, w: Got) -> bool
+pub fn all_read(k: Got, d: Got, w: Got) -> bool
     ensures { λ r. ⌜ r ≡ k .read && d .read && w .read ⌝ }
 {
     both(both(k.read, d.read), w.read)

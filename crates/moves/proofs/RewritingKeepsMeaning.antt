@@ -41,7 +41,7 @@ unfolding signedOver
 signed-alike F laws key values good v w c = ap (λ (q : Pair). q .matrix) (c F laws (key .«t_values») values (key .pair) good)
 
 -- so they do under an accepted key, over its own field
-same-signed : (key v w : List ℕ) → Carried w v → keyAnswer key ≡ 0 → signed (keyOf key) v ≡ signed (keyOf key) w
+pub same-signed : (key v w : List ℕ) → Carried w v → keyAnswer key ≡ 0 → signed (keyOf key) v ≡ signed (keyOf key) w
 same-signed key v w c k =
     let over : (u : List ℕ) → signed (keyOf key) u ≡ signedOver (operations (keyField key)) (keyOf key) u =
     λ u. ap (λ (f : Field). signedOver (operations f) (keyOf key) u) (key-field key) in

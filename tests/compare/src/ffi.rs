@@ -6,7 +6,8 @@ use reference::key::Entries;
 use reference::matrix::at;
 use reference::pair::{Labels, TValues};
 use reference::{Cloak, Crossing, Element, Field, Key, Matrix, Pair, Word, Written};
-use walnut::exported::*;
+
+use crate::exported::*;
 
 /// Each row and column, counted from 1.
 fn places() -> impl Iterator<Item = (usize, usize)> {

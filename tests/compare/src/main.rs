@@ -7,6 +7,9 @@
 //! were compared, of each operation and of each program.
 
 mod case;
+// the binding's declarations, which it keeps to itself
+#[path = "../../../bindings/rust/src/exported.rs"]
+mod exported;
 mod ffi;
 mod fixed;
 mod make;
@@ -22,6 +25,7 @@ use std::path::PathBuf;
 use std::process::ExitCode;
 
 use reference::testkit::Random;
+use walnut::Pair;
 
 use case::{Case, Input, LIBRARY, REFERENCE};
 use make::Maker;

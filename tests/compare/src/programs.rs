@@ -4,6 +4,7 @@
 mod crossings;
 mod desk;
 mod letters;
+mod words;
 
 use std::collections::BTreeMap;
 use std::ffi::OsStr;
@@ -75,6 +76,7 @@ impl Counts {
 pub fn check(folder: &Path, maker: &mut Maker) -> Checked<Vec<String>> {
     let mut lines = desk::check(folder, maker)?;
     lines.push(letters::check(&folder.join("letters"), maker)?);
-    lines.push(crossings::check(&folder.join("crossings"), maker)?);
+    lines.push(crossings::check(folder, maker)?);
+    lines.extend(words::check(folder, maker)?);
     Ok(lines)
 }

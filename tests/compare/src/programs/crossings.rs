@@ -1,7 +1,8 @@
-//! The program `crossings`: what it writes of a word file is the line of each two labels with the number that the reference
-//! finds, or the line of the reference's answer.
+//! The programs `crossings`, of a word on standard input, and `crossings_file`, of a word in a file: what they write is
+//! the line of each two labels with the number that the reference finds, or the line of the reference's answer.
 
-use std::path::Path;
+use std::ffi::OsStr;
+use std::path::{Path, PathBuf};
 
 use reference::crossing::windings;
 use reference::word::{letters, word_answer, word_file};
@@ -31,28 +32,36 @@ fn expected(input: &[u8]) -> String {
     }
 }
 
-/// Runs the program on a word file, which comes in pieces.
-fn compare(program: &Path, counts: &mut Counts, pieces: &[&[u8]]) -> Checked {
+/// The two programs.
+struct Programs {
+    input: PathBuf,
+    file: PathBuf,
+}
+
+/// Runs both programs on a word file, which comes in pieces; to the second one its standard input is a file by name.
+fn compare(programs: &Programs, counts: &mut Counts, pieces: &[&[u8]]) -> Checked {
     let file = pieces.concat();
-    let output = ran(program, &[], pieces)?;
-    let (found, expected) = (String::from_utf8_lossy(&output.stdout), expected(&file));
-    if found != expected || !output.stderr.is_empty() {
-        let lines = found.lines().map(Some).chain([None]).zip(expected.lines().map(Some).chain([None]));
-        let line = lines.into_iter().find(|(found, expected)| found != expected);
-        return Err(format!(
-            "crossings, on {}: line written and line expected: {line:?}\n",
-            show::hex(&file)
-        ));
+    let expected = expected(&file);
+    let named: [&OsStr; 1] = ["/dev/stdin".as_ref()];
+    for (program, arguments) in [(&programs.input, &named[..0]), (&programs.file, &named[..])] {
+        let output = ran(program, arguments, pieces)?;
+        let found = String::from_utf8_lossy(&output.stdout);
+        if found != expected || !output.stderr.is_empty() {
+            let lines = found.lines().map(Some).chain([None]).zip(expected.lines().map(Some).chain([None]));
+            let line = lines.into_iter().find(|(found, expected)| found != expected);
+            let (name, hex) = (program.display(), show::hex(&file));
+            return Err(format!("{name}, on {hex}: line written and line expected: {line:?}\n"));
+        }
     }
     counts.count(word_answer(&file));
     Ok(())
 }
 
 /// Words of one letter repeated, so that a number has each number of digits, with either sign.
-fn repeated(program: &Path, counts: &mut Counts) -> Checked {
+fn repeated(programs: &Programs, counts: &mut Counts) -> Checked {
     for code in [0, 6, 8, 14] {
         for letters in [9, 10, 99, 100, 999, 1_000, 9_999, 10_000] {
-            compare(program, counts, &[&word_file(&vec![code; letters])])?;
+            compare(programs, counts, &[&word_file(&vec![code; letters])])?;
         }
     }
     Ok(())
@@ -60,15 +69,16 @@ fn repeated(program: &Path, counts: &mut Counts) -> Checked {
 
 /// Words of each length up to 40, of some hundred letters and as long as can be, longer inputs, refused ones, with faults in
 /// pairs, and damaged ones.
-pub fn check(program: &Path, maker: &mut Maker) -> Checked<String> {
+pub fn check(folder: &Path, maker: &mut Maker) -> Checked<String> {
+    let programs = &Programs { input: folder.join("crossings"), file: folder.join("crossings_file") };
     let counts = &mut Counts::default();
-    repeated(program, counts)?;
+    repeated(programs, counts)?;
     for letters in (0..=40).chain([255, 256, 9_999, 10_000]) {
         let file = word_file(&maker.random.word(letters));
-        compare(program, counts, &[&file])?;
-        compare(program, counts, &[&file[..1], &file[1..]])?;
+        compare(programs, counts, &[&file])?;
+        compare(programs, counts, &[&file[..1], &file[1..]])?;
         for more in [1, 2, 70_000] {
-            compare(program, counts, &[&file, &vec![0; more]])?;
+            compare(programs, counts, &[&file, &vec![0; more]])?;
         }
     }
     let questions = Operation::ReadWord.questions();
@@ -78,16 +88,16 @@ pub fn check(program: &Path, maker: &mut Maker) -> Checked<String> {
                 let letters = maker.random.within(0, LETTERS);
                 let codes = maker.random.word(letters);
                 let file = files::word(&mut maker.random, &codes, &[*first, *second]);
-                compare(program, counts, &[&file])?;
+                compare(programs, counts, &[&file])?;
             }
         }
     }
     for _ in 0..100 {
         let letters = maker.random.within(0, LETTERS);
         let mut file = word_file(&maker.random.tangled_word(letters));
-        compare(program, counts, &[&file])?;
+        compare(programs, counts, &[&file])?;
         files::damage(&mut maker.random, &mut file, false);
-        compare(program, counts, &[&file])?;
+        compare(programs, counts, &[&file])?;
     }
     counts.summary("crossings", &[0, 9, 10, 11, 12, 13])
 }

@@ -1,0 +1,232 @@
+"""What the binding adds to the library: what verify raises, names and texts of answers, letters, moves, and what is no
+input. Results are the papers' slips, or follow from the layout of the files."""
+
+import concurrent.futures
+import copy
+import os
+import pickle
+import subprocess
+import sys
+import unittest
+
+import walnut
+from walnut import GF32, GF256, Answer, Key, Pair, Refusal
+
+T_VALUES = [1, 1, 2, 3, 4, 5, 6, 7]
+SEVEN = "b1 b2^-1 b3 b4 b5^-1 b6 b7^-1"
+SEVEN_FILE = bytes.fromhex("00 07 09 23 C5 E0")
+FIVE_FILE = bytes.fromhex("00 05 01 03 B0")
+
+
+def plain_key(field):
+    """Both matrices the identity, and the list 0 to 7."""
+    start = Pair.start()
+    entries = walnut.file_entries(start.matrix)
+    return walnut.write_key(field, T_VALUES, start.labels, entries, entries)
+
+
+class Case(unittest.TestCase):
+    def refused(self, number, function, *arguments):
+        with self.assertRaises(Refusal) as caught:
+            function(*arguments)
+        self.assertEqual(caught.exception.number, number)
+
+    def raised(self, error, words, function, *arguments):
+        with self.assertRaises(error) as caught:
+            function(*arguments)
+        self.assertIn(words, str(caught.exception))
+
+
+class Verdicts(Case):
+    def test_verify_returns_nothing_or_raises(self):
+        for field in (GF32, GF256):
+            key, digest = plain_key(field), bytes(field.digest_bytes)
+            # a half byte 0 is b7 twice, and there are two in a byte
+            word = (4 * len(digest)).to_bytes(2, "big") + b"\x66" * (2 * len(digest))
+            self.assertIsNone(walnut.verify(key, digest, word))
+            self.assertEqual(walnut.verdict(key, digest, word), 0)
+            files = [(14, (key, digest, bytes(2))), (1, (key[1:], digest, word)), (8, (key, digest[1:], word))]
+            for number, slip in files + [(9, (key, digest, b"")), (1, (b"", b"", b""))]:
+                self.refused(number, walnut.verify, *slip)
+                self.assertEqual(walnut.verdict(*slip), number)
+
+    def test_any_kind_of_bytes(self):
+        key, digest, word = plain_key(GF32), bytes(32), b"\x00\x80" + b"\x66" * 64
+        for kind in (bytes, bytearray, memoryview, list, tuple, iter):
+            self.assertIsNone(walnut.verify(kind(key), kind(digest), kind(word)))
+
+
+class Refusals(Case):
+    def test_number_text_and_name(self):
+        refusal = Refusal(14)
+        self.assertEqual(refusal.number, Answer.MATRICES_DIFFER)
+        self.assertTrue(str(refusal).startswith("14: the matrices differ"))
+        self.assertEqual(repr(refusal), "walnut.Refusal(14)")
+        self.assertEqual({answer.value for answer in Answer}, set(walnut.TEXTS))
+
+    def test_an_unknown_number(self):
+        self.assertEqual(str(Refusal(255)), "255: an answer that this binding does not know")
+        self.assertEqual(walnut.text(255), "an answer that this binding does not know")
+
+    def test_it_pickles_and_copies(self):
+        for number in (14, 255):
+            for again in (pickle.loads(pickle.dumps(Refusal(number))), copy.deepcopy(Refusal(number))):
+                self.assertIs(type(again), Refusal)
+                self.assertEqual((again.number, str(again)), (number, str(Refusal(number))))
+
+    def test_a_process_pool_raises_it(self):
+        key, digest, word = plain_key(GF32), bytes(32), b"\x00\x80" + b"\x66" * 64
+        with concurrent.futures.ProcessPoolExecutor(1) as pool:
+            self.refused(14, pool.submit(walnut.verify, key, digest, bytes(2)).result)
+            self.assertIsNone(pool.submit(walnut.verify, key, digest, word).result())
+
+
+class Letters(Case):
+    def test_codes_and_text(self):
+        codes = bytes([0, 9, 2, 3, 12, 5, 14])
+        for letters in (SEVEN, f"\n {SEVEN}\n", SEVEN.split(), codes, list(codes), ["b1", 9, 2, "b4", 12, 5, "b7^-1"]):
+            self.assertEqual(walnut.write_word(letters), SEVEN_FILE)
+        self.assertEqual(walnut.codes(SEVEN_FILE), codes)
+        self.assertEqual(walnut.spelled(SEVEN_FILE), SEVEN)
+        for nothing in ("", b"", []):
+            self.assertEqual(walnut.write_word(nothing), bytes(2))
+        self.assertEqual((walnut.codes(bytes(2)), walnut.spelled(bytes(2))), (b"", ""))
+
+    def test_every_code(self):
+        for code in range(256):
+            if code in (*range(7), *range(8, 15)):
+                self.assertEqual(walnut.letter_code(walnut.letter_text(code)), code)
+                self.assertEqual(walnut.codes(walnut.write_word([code])), bytes([code]))
+            else:
+                self.raised(ValueError, f"{code} is no letter's code", walnut.letter_text, code)
+                self.refused(12, walnut.write_word, [code])
+
+    def test_text_that_is_no_letter(self):
+        for wrong in ("b0", "b8", "b1^-2", "b1^1", "B1", "b", "1"):
+            self.raised(ValueError, f"'{wrong}' is no letter", walnut.write_word, f"b1 {wrong}")
+        self.raised(ValueError, "256 is no byte", walnut.write_word, [256])
+        self.raised(TypeError, "a whole number is needed, not float", walnut.write_word, [1.0])
+        self.raised(TypeError, "codes or text are needed, not int", walnut.write_word, 5)
+
+    def test_letters_of_a_refused_word(self):
+        for number, file in ((9, "00"), (10, "27 11"), (11, "00 01"), (12, "00 01 70"), (13, "00 01 01")):
+            for function in (walnut.codes, walnut.spelled, walnut.read_word):
+                self.refused(number, function, bytes.fromhex(file))
+
+    def test_a_letter_on_a_pair(self):
+        by_text, by_code = Pair.start(), Pair.start()
+        by_text.multiply(GF32, T_VALUES, "b3^-1")
+        by_code.multiply(GF32, T_VALUES, 10)
+        self.assertEqual(by_text, by_code)
+        self.assertEqual([by_text.matrix[walnut.place(3, column)] for column in (2, 3, 4)], [1, 28, 28])
+        self.refused(12, by_text.multiply, GF32, T_VALUES, 7)
+        self.assertEqual(by_text, by_code)
+
+
+class Crossings(Case):
+    def test_by_sign(self):
+        # each letter swaps the strands 0 and 1; the others never cross
+        for text, number in (("b1 b1", 2), ("b1^-1 b1^-1", -2), ("b1 b1^-1", 0), ("", 0)):
+            word = walnut.write_word(text)
+            self.assertEqual([walnut.crossings(word, a, b) for a, b in ((0, 1), (1, 0), (0, 7))], [number, number, 0])
+            self.refused(27, walnut.crossings, word, 3, 3)
+            self.refused(27, walnut.crossings, word, 0, 8)
+        self.refused(9, walnut.crossings, b"", 0, 0)
+        # a label that is no byte is over 7 too, and is asked after the word; one below 0 is no label
+        self.refused(27, walnut.crossings, bytes(2), 0, 256)
+        self.refused(9, walnut.crossings, b"", 0, 256)
+        self.raised(ValueError, "b: -1 is no byte", walnut.crossings, bytes(2), 0, -1)
+        self.raised(TypeError, "word: bytes are needed", walnut.crossings, "0000", 0, 1)
+
+
+class Moves(Case):
+    def test_the_list_of_two_moves(self):
+        moves, file = [(0, walnut.TURN), (3, walnut.REMOVE)], bytes([0, 2, 0, 0, 0, 3, 3, 1])
+        self.assertEqual(walnut.write_moves(moves), file)
+        self.assertEqual(walnut.read_moves(file), moves)
+        for given in (moves, file, bytearray(file), iter(moves), [[0, 3], [3, 1]]):
+            self.assertEqual(walnut.rewrite(FIVE_FILE, given), bytes.fromhex("00 03 10 10"))
+
+    def test_places_and_kinds(self):
+        self.assertEqual([walnut.insert(letter) for letter in ("b1", "b7", "b1^-1", "b7^-1", 14)], [16, 22, 24, 30, 30])
+        for letter in (7, 15, 16, 255, 256, -1, "b9"):
+            self.raised(ValueError, "is no", walnut.insert, letter)
+        file = bytes([0, 2, 1, 2, 0xFF, 0xFF, 2, 200])
+        self.assertEqual(walnut.write_moves([(0x0102, walnut.SWAP), (0xFFFF, 200)]), file)
+        self.assertEqual(walnut.read_moves(file), [(0x0102, 2), (0xFFFF, 200)])
+        self.refused(21, walnut.rewrite, bytes(2), [(0, 200)])
+
+    def test_lists_that_are_refused(self):
+        for number, file in ((18, "00"), (19, "10 01"), (20, "00 01 00 00")):
+            self.refused(number, walnut.read_moves, bytes.fromhex(file))
+        self.assertEqual(len(walnut.write_moves([(0, 16)] * walnut.MOVES)), walnut.MOVES_BYTES)
+        for number in (walnut.MOVES + 1, 65535, 65536, 70000):
+            self.refused(19, walnut.write_moves, [(0, 16)] * number)
+            self.refused(19, walnut.rewrite, bytes(2), [(0, 16)] * number)
+            # the word is asked first
+            self.refused(9, walnut.rewrite, b"", [(0, 16)] * number)
+
+    def test_what_is_no_move(self):
+        for wrong in (5, (1, 2, 3), "b1^-1", bytes(3)):
+            self.raised(TypeError, "a move is (place, kind)", walnut.write_moves, [wrong])
+        self.raised(TypeError, "a move is (place, kind)", walnut.rewrite, bytes(2), [0, 1, 0, 0, 16])
+        self.raised(TypeError, "not str", walnut.rewrite, bytes(2), "00 00")
+        self.raised(ValueError, "65536 is no place", walnut.write_moves, [(65536, 1)])
+        self.raised(ValueError, "-1 is no place", walnut.write_moves, [(-1, 1)])
+        self.raised(ValueError, "256 is no byte", walnut.write_moves, [(0, 256)])
+
+
+class Inputs(Case):
+    def test_text_is_no_bytes(self):
+        calls = [
+            (walnut.read_key, ("08",), "file"),
+            (walnut.read_word, ("0000",), "file"),
+            (walnut.codes, ("0000",), "word"),
+            (walnut.encode_digest, ("00" * 32,), "digest"),
+            (walnut.free_reduce, ("0000",), "word"),
+            (walnut.read_moves, ("0000",), "file"),
+            (walnut.rewrite, ("0000", bytes(2)), "word"),
+            (walnut.verify, ("08", b"", b""), "key"),
+            (walnut.verdict, (b"", "00" * 32, b""), "digest"),
+            (walnut.verify, (b"", b"", "0000"), "word"),
+            (walnut.cloaks, (b"", "01234567", b""), "labels"),
+            (walnut.file_entries, ("0" * 64,), "matrix"),
+        ]
+        for function, arguments, name in calls:
+            needed = f"{name}: bytes are needed, or numbers that are bytes, not str"
+            self.raised(TypeError, needed, function, *arguments)
+            self.raised(TypeError, "bytes.fromhex", function, *arguments)
+
+    def test_numbers_and_lengths(self):
+        self.raised(TypeError, "file: bytes are needed, or numbers that are bytes, not int", walnut.read_word, 2)
+        self.raised(TypeError, "file: bytes are needed, or numbers that are bytes, not NoneType", walnut.read_key, None)
+        self.raised(ValueError, "word: 256 is no byte", walnut.free_reduce, [0, 256])
+        self.raised(ValueError, "t_values: 8 numbers are needed, not 7", Pair.start().multiply, GF32, T_VALUES[1:], 0)
+        self.raised(ValueError, "a: 256 is no byte", walnut.product, GF32, 256, 0)
+        self.raised(ValueError, "True is no field", walnut.product, True, 1, 1)
+        self.raised(ValueError, "from 1 to 8", walnut.place, 0, 1)
+
+
+class Values(Case):
+    def test_reprs_read_back(self):
+        key = walnut.read_key(plain_key(GF256))
+        for value in (Pair.start(), key, GF32, Refusal(14)):
+            again = eval(repr(value), {"walnut": walnut})
+            self.assertEqual(repr(again), repr(value))
+        self.assertEqual(eval(repr(key), {"walnut": walnut}), key)
+        self.assertNotEqual(key, walnut.read_key(plain_key(GF32)))
+        self.assertIsInstance(key, Key)
+
+    def test_values_pickle(self):
+        for value in (Pair.start(), walnut.read_key(plain_key(GF32)), GF256):
+            self.assertEqual(pickle.loads(pickle.dumps(value)), value)
+
+    def test_a_library_that_is_not_there(self):
+        environment = {**os.environ, "WALNUT_LIB_DIR": os.devnull, "PYTHONPATH": os.path.dirname(walnut.__file__)}
+        run = subprocess.run([sys.executable, "-c", "import walnut"], env=environment, capture_output=True, text=True)
+        self.assertNotEqual(run.returncode, 0)
+        self.assertIn(f"libwalnut.so.0 was looked for in {os.devnull}, which WALNUT_LIB_DIR names", run.stderr)
+
+
+if __name__ == "__main__":
+    unittest.main()

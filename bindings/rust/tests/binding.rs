@@ -1,0 +1,164 @@
+//! What the binding adds to the library: names of answers, letters, moves, and what is lent on a refusal. Results are
+//! the papers' slips, or follow from the layout of the files.
+
+use std::error::Error;
+
+use walnut::Field::{Gf256, Gf32};
+use walnut::{Letter, Move, Moves, NoLetter, Pair, Refusal};
+use walnut::{DIGEST_BYTES, KEY_BYTES, LARGE_DIGEST_BYTES, LARGE_KEY_BYTES};
+use walnut::{LETTERS, MOVES, MOVES_BYTES, WORD_BYTES};
+
+const T_VALUES: [u8; 8] = [1, 1, 2, 3, 4, 5, 6, 7];
+const SEVEN: &str = "b1 b2^-1 b3 b4 b5^-1 b6 b7^-1";
+const SEVEN_FILE: [u8; 6] = [0x00, 0x07, 0x09, 0x23, 0xC5, 0xE0];
+
+/// The plain key over a field: both matrices the identity, and the list 0 to 7.
+fn plain_key(field: walnut::Field) -> Vec<u8> {
+    let start = Pair::start();
+    let entries = walnut::file_entries(&start.matrix);
+    let mut key = vec![0; field.key_bytes()];
+    walnut::write_key(field, &T_VALUES, &start.labels, &entries, &entries, &mut key).unwrap();
+    key
+}
+
+#[test]
+fn sizes_go_together() {
+    assert_eq!((Gf32.key_bytes(), Gf32.digest_bytes()), (KEY_BYTES, DIGEST_BYTES));
+    assert_eq!((Gf256.key_bytes(), Gf256.digest_bytes()), (LARGE_KEY_BYTES, LARGE_DIGEST_BYTES));
+    assert_eq!((WORD_BYTES, MOVES_BYTES), (2 + LETTERS / 2, 2 + 3 * MOVES));
+}
+
+#[test]
+fn verdicts_are_results() {
+    for field in [Gf32, Gf256] {
+        let (key, digest) = (plain_key(field), vec![0; field.digest_bytes()]);
+        // a half byte 0 is b7 twice, and there are two in a byte
+        let mut signature = u16::try_from(4 * digest.len()).unwrap().to_be_bytes().to_vec();
+        signature.extend(vec![0x66; 2 * digest.len()]);
+        assert_eq!(walnut::verify(&key, &digest, &signature), Ok(()));
+        assert_eq!(walnut::verify(&key, &digest, &[0, 0]), Err(Refusal::MATRICES_DIFFER));
+        assert_eq!(walnut::verify(&key[1..], &digest, &signature), Err(Refusal::KEY_LENGTH));
+        assert_eq!(walnut::verify(&key, &digest[1..], &signature), Err(Refusal::DIGEST_LENGTH));
+        assert_eq!(walnut::verify(&key, &digest, &[]), Err(Refusal::WORD_SHORT));
+        assert_eq!(walnut::verify(&[], &[], &[]), Err(Refusal::KEY_LENGTH));
+    }
+}
+
+#[test]
+fn refusals_are_errors_with_number_and_text() {
+    let error: Box<dyn Error + Send + Sync> = Box::new(Refusal::MATRICES_DIFFER);
+    assert!(error.to_string().starts_with("14: the matrices differ"));
+    assert_eq!(Refusal::MATRICES_DIFFER.number(), 14);
+    assert_eq!(Refusal::NO_INVERSE.number(), 26);
+    assert_eq!(format!("{:?}", Refusal::NO_INVERSE), "Refusal(26)");
+    // a name in a pattern
+    assert!(matches!(walnut::reciprocal(Gf32, 0), Err(Refusal::ZERO)));
+    assert!(matches!(walnut::product(Gf32, 32, 1), Err(Refusal::NO_ELEMENT)));
+}
+
+#[test]
+fn nothing_lent_changes_on_a_refusal() {
+    let mut pair = Pair::start();
+    assert_eq!(pair.multiply(Gf32, &T_VALUES, 7), Err(Refusal::NO_LETTER));
+    assert_eq!(pair, Pair::start());
+    let mut short = [9; WORD_BYTES - 1];
+    assert_eq!(walnut::free_reduce(&SEVEN_FILE, &mut short), Err(Refusal::OUTPUT_SHORT));
+    assert_eq!(short, [9; WORD_BYTES - 1]);
+    let entries = walnut::file_entries(&Pair::start().matrix);
+    let mut key = [9; KEY_BYTES];
+    let refused = walnut::write_key(Gf256, &T_VALUES, &Pair::start().labels, &entries, &entries, &mut key);
+    assert_eq!(refused, Err(Refusal::KEY_OUTPUT_SHORT));
+    assert_eq!(key, [9; KEY_BYTES]);
+}
+
+#[test]
+fn letters_as_codes_and_as_text() {
+    let codes = walnut::codes(SEVEN).unwrap();
+    assert_eq!(codes, [0, 9, 2, 3, 12, 5, 14]);
+    let mut out = [0; WORD_BYTES];
+    assert_eq!(walnut::write_word(&codes, &mut out), Ok(&mut SEVEN_FILE.clone()[..]));
+    let letters = walnut::letters(&SEVEN_FILE).unwrap();
+    assert_eq!(letters.len(), 7);
+    assert_eq!(letters.clone().map(Letter::code).collect::<Vec<_>>(), codes);
+    assert_eq!(letters.map(|letter| letter.to_string()).collect::<Vec<_>>().join(" "), SEVEN);
+    assert_eq!(walnut::letters(&[0, 0]).unwrap().next(), None);
+    assert_eq!(walnut::codes(" \n"), Ok(vec![]));
+}
+
+#[test]
+fn a_letter_is_its_code_its_text_and_its_parts() {
+    let letters: Vec<Letter> = (0..=255).filter_map(Letter::of_code).collect();
+    assert_eq!(letters.len(), 14);
+    for letter in letters {
+        assert_eq!(letter.to_string().parse(), Ok(letter));
+        assert_eq!(letter.generator() - 1 + if letter.is_inverse() { 8 } else { 0 }, letter.code());
+        assert_eq!(letter.inverse().generator(), letter.generator());
+        assert_ne!(letter.inverse().is_inverse(), letter.is_inverse());
+    }
+    assert_eq!((Letter::of_code(7), Letter::of_code(15), Letter::of_code(16)), (None, None, None));
+    for text in ["b0", "b8", "b1^-2", "b1^1", "B1", "b", "", "1", "b1b2"] {
+        assert_eq!(text.parse::<Letter>(), Err(NoLetter(text.to_string())));
+    }
+    assert_eq!(walnut::codes("b1 b9 b2"), Err(NoLetter("b9".to_string())));
+}
+
+#[test]
+fn letters_of_a_refused_word() {
+    let refusal = |file: &[u8]| walnut::letters(file).err();
+    assert_eq!(refusal(&[0]), Some(Refusal::WORD_SHORT));
+    assert_eq!(refusal(&[0x27, 0x11]), Some(Refusal::TOO_MANY_LETTERS));
+    assert_eq!(refusal(&[0, 1]), Some(Refusal::WORD_LENGTH));
+    assert_eq!(refusal(&[0, 1, 0x70]), Some(Refusal::NO_LETTER));
+    assert_eq!(refusal(&[0, 1, 0x01]), Some(Refusal::WORD_FILLER));
+}
+
+#[test]
+fn crossings_by_sign() {
+    let mut out = [0; WORD_BYTES];
+    // each letter swaps the strands 0 and 1; the others never cross
+    for (text, number) in [("b1 b1", 2), ("b1^-1 b1^-1", -2), ("b1 b1^-1", 0), ("", 0)] {
+        let word = walnut::write_word(&walnut::codes(text).unwrap(), &mut out).unwrap();
+        assert_eq!(walnut::crossings(word, 0, 1), Ok(number));
+        assert_eq!(walnut::crossings(word, 1, 0), Ok(number));
+        assert_eq!(walnut::crossings(word, 0, 7), Ok(0));
+        assert_eq!(walnut::crossings(word, 3, 3), Err(Refusal::TWO_LABELS));
+        assert_eq!(walnut::crossings(word, 0, 8), Err(Refusal::TWO_LABELS));
+    }
+    assert_eq!(walnut::crossings(&[0], 0, 0), Err(Refusal::WORD_SHORT));
+}
+
+#[test]
+fn moves_by_a_builder() {
+    let moves = Moves::new().turn(0).remove(3);
+    assert_eq!(moves.file(), [0, 2, 0, 0, 0, 3, 3, 1]);
+    let mut out = [0; WORD_BYTES];
+    let word = [0x00, 0x05, 0x01, 0x03, 0xB0];
+    assert_eq!(walnut::rewrite(&word, &moves.file(), &mut out), Ok(&mut [0, 3, 0x10, 0x10][..]));
+    let others = Moves::new().swap(0x0102).insert(0xFFFF, "b7^-1".parse().unwrap());
+    assert_eq!(others.file(), [0, 2, 1, 2, 0xFF, 0xFF, 2, 30]);
+    assert_eq!(others.list()[1], Move { place: 0xFFFF, kind: 30 });
+    assert_eq!(Moves::new().file(), [0, 0]);
+    assert_eq!(Moves::new().remove(0).then(Move { place: 5, kind: 200 }).list().len(), 2);
+}
+
+#[test]
+fn move_lists_read_back() {
+    for file in [&[0, 0][..], &[0, 1, 0, 9, 7], &[0, 2, 0, 0, 0, 3, 3, 1], &[0, 1, 0xFF, 0xFF, 255]] {
+        assert_eq!(Moves::read(file).unwrap().file(), file);
+    }
+    assert_eq!(Moves::read(&[0]), Err(Refusal::MOVES_SHORT));
+    assert_eq!(Moves::read(&[0x10, 0x01]), Err(Refusal::TOO_MANY_MOVES));
+    assert_eq!(Moves::read(&[0, 1, 0, 0]), Err(Refusal::MOVES_LENGTH));
+}
+
+#[test]
+fn more_moves_than_a_list_may_have() {
+    let many = |number| (0..number).map(|_| Move { place: 0, kind: 16 }).collect::<Moves>().file();
+    let mut out = [0; WORD_BYTES];
+    // each inserts two letters
+    assert_eq!(many(MOVES).len(), MOVES_BYTES);
+    assert_eq!(walnut::rewrite(&[0, 0], &many(MOVES), &mut out).map(|word| word.len()), Ok(2 + MOVES));
+    for number in [MOVES + 1, 65535, 65536, 70000] {
+        assert_eq!(walnut::rewrite(&[0, 0], &many(number), &mut out), Err(Refusal::TOO_MANY_MOVES));
+    }
+}

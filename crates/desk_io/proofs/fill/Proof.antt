@@ -1,0 +1,40 @@
+-- `desk_io::fill` is safe and ends. The invariant: the buffer keeps its length, and the bytes counted lie within it. The
+-- measure is what is left of it.
+use Prim.Native.Nat.{_-_, _≤_}
+use mathlib.Core.Path.{_≡_}
+use lib.ListN.{length}
+use borrow.Author.Needs.{needs}
+use Rattle.desk_io.proofs.fill.Statement.{statement}
+use Rattle.desk_io.proofs.fill.Tie as tie
+
+abbrev Inv-loop : tie.InvT-loop
+Inv-loop fd path buf₀ n₀ buf n = (length buf ≡ length buf₀) × (n ≤ length buf)
+
+abbrev μ-loop : tie.MeasureT-loop
+μ-loop fd path buf₀ n₀ buf n = length buf₀ - n
+
+pub fill-spec : {M : Type 1} → statement M
+fill-spec =
+    tie.close
+    (tie.spec
+    Inv-loop
+    μ-loop
+    (λ c. search needs)
+    (λ c. search needs)
+    (λ c. search needs)
+    (λ c. search needs)
+    (λ c κs. search needs)
+    (λ c κs. search needs)
+    (λ c. search needs)
+    (λ c. search needs)
+    (λ c. search needs)
+    (λ c. search needs)
+    (λ c. search needs)
+    (λ c κs. search needs)
+    (λ c. search needs)
+    (λ c. search needs)
+    (λ c. search needs)
+    (λ c. search needs)
+    (λ c. search needs)
+    (λ c. search needs)
+    (λ c. search needs))

@@ -1,0 +1,145 @@
+// The desk's verbs that write a new file: files come in, and what `desk_words` makes of them goes out. The first
+// argument is a name beside the new file's place: the file is written there, and takes its own name when it is whole.
+// Of each word one line tells its answer, after its file is in its place, and where that is 0 a second one the sizes.
+use desk_line::Got;
+use desk_words::Made;
+ghost use Prim.Native.Nat.{_<_};
+ghost use Rattle.io.specs.Counts.{Counts};
+
+// Writes the bytes to a new file, and where it is alone waits until they have reached its device.
+fn saved(fd: i32, bytes: &[u8], alone: bool) -> bool {
+    if !io::write_all(fd, bytes) {
+        return false;
+    }
+    !alone || libc::fsync(fd) == 0
+}
+
+// A new file at `beside` gets the bytes, and then the name `new`. Where that fails, `new` is what it was, and nothing of
+// ours is left at `beside`: what stood there before stays, and no file is made.
+fn put(beside: &[u8], new: &[u8], bytes: &[u8], alone: bool) -> bool {
+    let fd = os::create(beside);
+    if fd < 0 {
+        os::fail(new);
+        return false;
+    }
+    if !saved(fd, bytes, alone) {
+        os::fail(new);
+        libc::close(fd);
+        os::unlink(beside);
+        return false;
+    }
+    if libc::close(fd) != 0 {
+        os::fail(new);
+        os::unlink(beside);
+        return false;
+    }
+    if os::rename(beside, new) != 0 {
+        os::fail(new);
+        os::unlink(beside);
+        return false;
+    }
+    true
+}
+
+// The same, by the places of both names among the arguments.
+fn put_at(beside: usize, new: usize, bytes: &[u8], alone: bool) -> bool {
+    let mut first = io::buffer();
+    let n = os::arg(beside, &mut first);
+    if os::errno() != 0 {
+        os::fail(b"name of a file");
+        return false;
+    }
+    let mut second = io::buffer();
+    let m = os::arg(new, &mut second);
+    if os::errno() != 0 {
+        os::fail(b"name of a file");
+        return false;
+    }
+    put(&first[..n], &second[..m], bytes, alone)
+}
+
+// How many letters and bytes became how many.
+fn sizes(old: &[u8], new: &[u8]) {
+    let before = braid::read_word(old);
+    let after = braid::read_word(new);
+    print::text(b"letters");
+    print::number(before.letters);
+    print::text(b" to");
+    print::number(after.letters);
+    print::text(b", bytes");
+    print::number(old.len());
+    print::text(b" to");
+    print::number(new.len());
+    print::text(b"\n");
+}
+
+fn tell(answer: u8) {
+    desk_io::tell(desk_line::answer_line(answer));
+}
+
+// What was made of a word goes to the file that argument `new` names, and the account of it to standard output.
+fn end(made: Made, word: &[u8], new: usize, alone: bool)
+    requires { ⌜ Counts (made .bytes) (made .file) ⌝ }
+{
+    if !made.read {
+        print::text(b"no answer\n");
+        return;
+    }
+    let answer = made.answer;
+    let file = made.file;
+    let bytes = made.bytes;
+    if answer == 0 && !put_at(1, new, &file[..bytes], alone) {
+        print::text(b"not written\n");
+        return;
+    }
+    tell(answer);
+    if answer == 0 {
+        sizes(word, &file[..bytes]);
+    }
+}
+
+// One slip: digest, signature and new signature are the three arguments from a place on.
+fn slip(key: &[u8; desk_line::KEY_ROOM], k: Got, at: usize, alone: bool)
+    requires { ⌜ at < 18446744073709551613 ⌝ }
+{
+    let mut digest = [0u8; desk_line::DIGEST_ROOM];
+    let mut word = [0u8; desk_line::WORD_ROOM];
+    let d = desk_io::file(at, &mut digest);
+    let w = desk_io::file(at + 1, &mut word);
+    let made = desk_words::shorten(key, &digest, &word, k, d, w);
+    let n = w.bytes;
+    end(made, desk_line::part(&word, 0, n), at + 2, alone);
+}
+
+// Shortens slips under one key: a name beside the new files, the key, then digest, signature and new signature of each
+// slip. Of many slips none is waited for.
+pub fn shorten() {
+    let mut key = [0u8; desk_line::KEY_ROOM];
+    let k = desk_io::file(2, &mut key);
+    let n = os::arg_count() / 3;
+    let mut i = 1;
+    while i < n {
+        slip(&key, k, 3 * i, n == 2);
+        i += 1;
+    }
+}
+
+// Rewrites a word: a name beside the new file, the word, the move list, the new word.
+pub fn rewrite() {
+    let mut word = [0u8; desk_line::WORD_ROOM];
+    let mut moves = [0u8; desk_words::MOVES_ROOM];
+    let w = desk_io::file(2, &mut word);
+    let m = desk_io::file(3, &mut moves);
+    let made = desk_words::rewrite(&word, &moves, w, m);
+    let n = w.bytes;
+    end(made, desk_line::part(&word, 0, n), 4, true);
+}
+
+// Reduces a word freely: a name beside the new file, the word, the new word.
+pub fn reduce() {
+    let mut word = [0u8; desk_line::WORD_ROOM];
+    let w = desk_io::file(2, &mut word);
+    let made = desk_words::reduce(&word, w);
+    let n = w.bytes;
+    end(made, desk_line::part(&word, 0, n), 3, true);
+}

@@ -1,0 +1,3 @@
+pub mod MakingLaws
+pub mod Shortening
+pub mod Enough

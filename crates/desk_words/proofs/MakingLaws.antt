@@ -1,0 +1,92 @@
+-- What a verb makes, from what its parts give: nothing where a file could not be read or the answer is a refusal, and
+-- what a writer of words wrote to zeros.
+use Prim.Native.Nat.{ℕ, _≤_}
+use native.Mathlib.Omega.{arith}
+use mathlib.Core.Path.{_≡_, refl, sym, ap, _∙_, transport}
+use mathlib.Core.Bool.{Bool, true, false, cond}
+use mathlib.Core.List.{List, []}
+use lib.ListN.{length, take, replicate, length-append}
+use Rattle.base.specs.Questions.{Question, firstNo, granted}
+use Rattle.base.specs.Lists.{overlaid}
+use Rattle.base.proofs.QuestionLaws.{granted-zero, granted-refused, granted-ap}
+use Rattle.base.proofs.ListLaws.{true-false, take-overlaid}
+use Rattle.braid.specs.Words.{Wrote}
+use Rattle.desk_words.specs.Making.{toWrite, Makes, Shortens, Rewrites}
+use Rattle.desk_words.specs.declared.Made.{Made}
+
+-- nothing is written: what is made is the answer alone
+pub record Bare (read : Bool) (answer : ℕ) (made : Made) : Type 0 where
+  pub read-is : made .read ≡ read
+  pub answer-is : made .answer ≡ answer
+  pub bytes-are : made .bytes ≡ 0
+  pub file-is : made .file ≡ replicate 5002 0
+
+pub bare-of : {read : Bool} {answer : ℕ} {made : Made}
+    → (made .read ≡ read) × (made .answer ≡ answer) × (made .bytes ≡ 0) × (made .file ≡ replicate 5002 0) → Bare read answer made
+bare-of p = record { read-is = p .0; answer-is = p .1; bytes-are = p .2; file-is = p .3 }
+
+bare-makes : {read : Bool} {n : ℕ} {made : Made} (answer : ℕ) (new : List ℕ) → Bare read n made → n ≡ cond read answer 0 → toWrite read answer new ≡ []
+    → Makes read answer new made
+unfolding overlaid
+bare-makes answer new b a e =
+    record {
+      read-is = b .read-is;
+      answer-is = b .answer-is ∙ a;
+      bytes-are = rw e (b .bytes-are);
+      file-is = rw e (b .file-is);
+    }
+
+-- a file could not be read
+pub unread : {read : Bool} {made : Made} (answer : ℕ) (new : List ℕ) → read ≡ false → Bare false 0 made → Makes read answer new made
+unfolding toWrite
+unread answer new e b = rw e (bare-makes answer new b refl refl)
+
+-- the answer is a refusal
+pub refused : {made : Made} (answer : ℕ) (new : List ℕ) → (answer ≡ 0 → ⊥) → Bare true answer made → Makes true answer new made
+unfolding toWrite
+refused answer new h b = bare-makes answer new b refl (granted-refused new [] h)
+
+-- what a writer of words wrote to zeros
+pub wrote-makes : {questions : List Question} {new : List ℕ} {made : Made} (answer : ℕ) → made .read ≡ true
+    → Wrote questions new (replicate 5002 0) (made .file) (made .answer) (made .bytes) → firstNo questions ≡ answer → Makes true answer new made
+unfolding toWrite overlaid
+wrote-makes {questions} {new} {made} answer r w e =
+    record {
+      read-is = r;
+      answer-is = w .answer-is ∙ e;
+      bytes-are = w .bytes-is ∙ ap (λ (n : ℕ). granted n (length new) 0) e ∙ sym (granted-ap length answer new []);
+      file-is =
+          w .output-is ∙ ap (λ (n : ℕ). granted n (overlaid new (replicate 5002 0)) (replicate 5002 0)) e
+          ∙ sym (granted-ap (λ l. overlaid l (replicate 5002 0)) answer new []);
+    }
+
+-- the same with another name for the answer
+pub makes-as : {read : Bool} {a b : ℕ} {new : List ℕ} {made : Made} → a ≡ b → Makes read a new made → Makes read b new made
+makes-as e m = rw (sym e) m
+
+-- on answer 0 the bytes to write are the new word's file
+pub made-file : {answer : ℕ} {new : List ℕ} {made : Made} → Makes true answer new made → made .answer ≡ 0 → take (made .bytes) (made .file) ≡ new
+unfolding toWrite
+made-file {answer} {new} m z =
+    let g : granted answer new [] ≡ new = granted-zero new [] (sym (m .answer-is) ∙ z) in
+    rw (m .bytes-are, m .file-is, g) (take-overlaid new (replicate 5002 0))
+
+-- the bytes counted lie within the file
+pub bytes-within : {read : Bool} {answer : ℕ} {new : List ℕ} {made : Made} → Makes read answer new made → made .bytes ≤ length (made .file)
+unfolding overlaid
+bytes-within m = rw (m .bytes-are, m .file-is) (simp length-append (omega arith))
+
+-- what the two larger verbs make where a file could not be read, and where all could
+pub shortens-unread : {read : Bool} {key digest word : List ℕ} {made : Made} → read ≡ false → Bare false 0 made → Shortens read key digest word made
+shortens-unread e b = record { makes = unread _ _ e b; opens = λ t _. absurd (true-false _ t e) }
+
+pub shortens-as : {read : Bool} {k d w key digest word : List ℕ} {made : Made} → read ≡ true → k ≡ key → d ≡ digest → w ≡ word
+    → Shortens true k d w made → Shortens read key digest word made
+shortens-as {made = made} e p q r s = transport (λ i. Shortens (sym e i) (p i) (q i) (r i) made) s
+
+pub rewrites-unread : {read : Bool} {word moves : List ℕ} {made : Made} → read ≡ false → Bare false 0 made → Rewrites read word moves made
+rewrites-unread e b = record { makes = unread _ _ e b; keeps = λ t _. absurd (true-false _ t e) }
+
+pub rewrites-as : {read : Bool} {w m word moves : List ℕ} {made : Made} → read ≡ true → w ≡ word → m ≡ moves
+    → Rewrites true w m made → Rewrites read word moves made
+rewrites-as {made = made} e p q s = transport (λ i. Rewrites (sym e i) (p i) (q i) made) s

@@ -1,0 +1,135 @@
+// The verbs of the desk that make a new word, from what was read of their files to what is to be written: a slip's word
+// shortened, a word rewritten by a move list, a word freely reduced. What is read lies in arrays whose sizes are given
+// here and in `desk_line`, so that a buffer of another size does not fit.
+use desk_line::Got;
+ghost use mathlib.Core.Path.{_≡_};
+ghost use mathlib.Core.Bool.{true, _&&_};
+ghost use lib.ListN.{length, take, replicate};
+ghost use Rattle.desk_words.specs.Making.{Shortens, Rewrites, Reduces, EnoughToShorten, EnoughToRewrite, EnoughToReduce};
+
+// The bytes to read of a move list: one more than it may hold.
+pub const MOVES_ROOM: usize = 2 + 3 * 4096 + 1;
+
+// What a verb makes: could every file be read? The answer, and the new word's file, the first `bytes` bytes; zeros
+// after it.
+pub struct Made {
+    pub read: bool,
+    pub answer: u8,
+    pub bytes: usize,
+    pub file: [u8; braid::MAX_BYTES],
+}
+
+// The answer alone, and nothing to write.
+fn bare(read: bool, answer: u8) -> Made
+    ensures { λ r. ⌜ (r .read ≡ read) × (r .answer ≡ answer) × (r .bytes ≡ 0) × (r .file ≡ replicate 5002 0) ⌝ }
+{
+    Made {
+        read,
+        answer,
+        bytes: 0,
+        file: [0; braid::MAX_BYTES],
+    }
+}
+
+// A word freely reduced.
+fn reduced(word: &[u8]) -> Made
+    ensures { λ r. ⌜ Reduces true (now (word .entry)) r ⌝ }
+{
+    let mut file = [0u8; braid::MAX_BYTES];
+    let written = reduction::free_reduce(word, &mut file);
+    let answer = written.answer;
+    let bytes = written.bytes;
+    Made {
+        read: true,
+        answer,
+        bytes,
+        file,
+    }
+}
+
+// A word rewritten by a move list.
+fn rewritten(word: &[u8], moves: &[u8]) -> Made
+    ensures { λ r. ⌜ Rewrites true (now (word .entry)) (now (moves .entry)) r ⌝ }
+{
+    let mut file = [0u8; braid::MAX_BYTES];
+    let written = moves::rewrite(word, moves, &mut file);
+    let answer = written.answer;
+    let bytes = written.bytes;
+    Made {
+        read: true,
+        answer,
+        bytes,
+        file,
+    }
+}
+
+// A slip's word, freely reduced where the slip opens. The new word is judged before it is given: that verdict is proved
+// to be 0, it is made all the same, and no contract asks for it.
+fn shortened(key: &[u8], digest: &[u8], word: &[u8]) -> Made
+    ensures { λ r. ⌜ Shortens true (now (key .entry)) (now (digest .entry)) (now (word .entry)) r ⌝ }
+{
+    let answer = verify::verify(key, digest, word);
+    if answer != 0 {
+        return bare(true, answer);
+    }
+    let made = reduced(word);
+    let file = made.file;
+    let bytes = made.bytes;
+    let again = verify::verify(key, digest, &file[..bytes]);
+    if again != 0 {
+        return bare(true, again);
+    }
+    made
+}
+
+// Shortening a slip in three files, each judged by its own bytes.
+pub fn shorten(
+    key: &[u8; desk_line::KEY_ROOM],
+    digest: &[u8; desk_line::DIGEST_ROOM],
+    word: &[u8; desk_line::WORD_ROOM],
+    k: Got,
+    d: Got,
+    w: Got,
+) -> Made
+    ensures { λ r. ⌜ Shortens (k .read && d .read && w .read) (take (k .bytes) (now (key .entry))) (take (d .bytes) (now (digest .entry))) (take (w .bytes) (now (word .entry))) r ⌝ }
+    ensures { λ _. ⌜ EnoughToShorten (length (now (key .entry))) (length (now (digest .entry))) (length (now (word .entry))) ⌝ }
+{
+    let k_n = k.bytes;
+    let d_n = d.bytes;
+    let w_n = w.bytes;
+    let k_read = desk_line::part(key, 0, k_n);
+    let d_read = desk_line::part(digest, 0, d_n);
+    let w_read = desk_line::part(word, 0, w_n);
+    if !desk_line::all_read(k, d, w) {
+        return bare(false, 0);
+    }
+    shortened(k_read, d_read, w_read)
+}
+
+// Rewriting the word in a file by the move list in another.
+pub fn rewrite(word: &[u8; desk_line::WORD_ROOM], moves: &[u8; MOVES_ROOM], w: Got, m: Got) -> Made
+    ensures { λ r. ⌜ Rewrites (w .read && m .read) (take (w .bytes) (now (word .entry))) (take (m .bytes) (now (moves .entry))) r ⌝ }
+    ensures { λ _. ⌜ EnoughToRewrite (length (now (word .entry))) (length (now (moves .entry))) ⌝ }
+{
+    let w_n = w.bytes;
+    let m_n = m.bytes;
+    let w_read = desk_line::part(word, 0, w_n);
+    let m_read = desk_line::part(moves, 0, m_n);
+    if !desk_line::both(w.read, m.read) {
+        return bare(false, 0);
+    }
+    rewritten(w_read, m_read)
+}
+
+// Reducing the word in a file freely.
+pub fn reduce(word: &[u8; desk_line::WORD_ROOM], w: Got) -> Made
+    ensures { λ r. ⌜ Reduces (w .read) (take (w .bytes) (now (word .entry))) r ⌝ }
+    ensures { λ _. ⌜ EnoughToReduce (length (now (word .entry))) ⌝ }
+{
+    let w_n = w.bytes;
+    let w_read = desk_line::part(word, 0, w_n);
+    if !w.read {
+        return bare(false, 0);
+    }
+    reduced(w_read)
+}

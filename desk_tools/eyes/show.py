@@ -1,0 +1,203 @@
+"""Words, keys and move lists in words; of a refused file the first question that it fails, where in the file, and what
+stands there; of a move list that a word refuses, which move."""
+
+import walnut
+
+import files
+from files import KeyParts, Refused, count
+from walnut import letter_text
+
+# letters in a row of text
+ROW = 10
+
+
+def main(what, *paths):
+    {"word": show_word, "key": show_key, "moves": show_moves}[what](*paths)
+
+
+def places(first, count):
+    """'byte 4', 'bytes 4 to 6'; bytes count from 0."""
+    return f"byte {first}" if count == 1 else f"bytes {first} to {first + count - 1}"
+
+
+# ---- words
+
+
+def show_word(path):
+    codes, size = word(path)[1:]
+    size_told = f"a word of {count(len(codes), 'letter')} in {size} bytes"
+    print(f"# {size_told}; before the colon the place of a row's first letter")
+    width = len(str(len(codes)))
+    for place in range(0, len(codes), ROW):
+        print(f"{place:{width}}: " + " ".join(letter_text(code) for code in codes[place : place + ROW]))
+
+
+def word(path):
+    """The file of a word that the library accepts, its letters' codes, and its size."""
+    file, size = files.read(path, walnut.WORD_BYTES)
+    try:
+        return file, walnut.codes(file), size
+    except walnut.Refusal as refusal:
+        raise Refused(refusal.number, *word_fault(path, file, size, refusal.number)) from None
+
+
+def word_fault(path, file, size, answer):
+    """Where a refused word fails, and what stands there."""
+    letters = int.from_bytes(file[:2], "big")
+    stated = f"'{path}', bytes 0 and 1: {file[:2].hex(' ')}, so it states {count(letters, 'letter')}"
+    if answer == 9:
+        return [f"'{path}' has {count(size, 'byte')}"]
+    if answer == 10:
+        return [f"{stated}; a word has at most {walnut.LETTERS}"]
+    if answer == 11:
+        return [f"{stated}, which take {2 + (letters + 1) // 2} bytes; the file has {size}"]
+    if answer == 12:
+        place = next(k for k in range(letters) if files.half(file[2:], k) % 8 == 7)
+        code, byte = files.half(file[2:], place), 2 + place // 2
+        told = f"so the letter at place {place} has the code {code}; 7 and 15 are no letters"
+        return [f"'{path}', byte {byte}: {file[byte]:02x}, {told}"]
+    return [f"{stated}; byte {size - 1}: {file[-1]:02x}, whose low half is no letter's and must be 0"]
+
+
+# ---- keys
+
+
+def table(entries):
+    """A matrix's 57 entries of a key file as eight rows: of row 8 the file has the last alone, and the others are 0."""
+    rows = [entries[8 * r : 8 * r + 8] for r in range(7)] + [bytes(7) + entries[56:]]
+    width = len(str(max(entries)))
+    return ["  " + " ".join(f"{entry:{width}}" for entry in row) for row in rows]
+
+
+def numbers(values):
+    return " ".join(map(str, values))
+
+
+def show_key(path):
+    file, size = files.read(path, max(files.FIELDS))
+    try:
+        key = walnut.read_key(file)
+    except walnut.Refusal as refusal:
+        raise Refused(refusal.number, *key_fault(path, file, size, refusal.number)) from None
+    parts = KeyParts(key.field)
+    print(f"a key of {size} bytes: 8 strands, the field with {parts.size} elements")
+    print(f"T-values, of the labels 0 to 7: {numbers(key.t_values)}")
+    print("matrix of Pub(S):")
+    print("\n".join(table(walnut.file_entries(key.pair.matrix))))
+    print(f"list of Pub(S): {numbers(key.pair.labels)}")
+    print("matrix of Pub(S'):")
+    print("\n".join(table(walnut.file_entries(key.second))))
+
+
+def key_fault(path, file, size, answer):
+    """Where a refused key fails, and what stands there."""
+    at = f"'{path}', "
+    if answer == 1:
+        return [f"'{path}' has {size} bytes; a key has {' or '.join(map(str, sorted(files.FIELDS)))}"]
+    if answer == 2:
+        return [at + f"byte 0: {file[0]} strands, and not 8"]
+    parts = KeyParts(files.FIELDS[size])
+    if answer == 3:
+        q = int.from_bytes(file[1:3], "big")
+        return [at + f"bytes 1 and 2: q is {q}; a key of {size} bytes has q = {parts.size}"]
+    t_values = files.packed(file, parts.t_values, parts.bits, 8)
+    labels = files.packed(file, parts.labels, 3, 8)
+    if answer in (4, 5):
+        return [at + f"{places(*parts.t_values)}: the T-values of the labels 0 to 7 are {numbers(t_values)}"]
+    if answer == 6:
+        missing = numbers(label for label in range(8) if label not in labels)
+        return [at + f"{places(*parts.labels)}: the list is {numbers(labels)}; missing: {missing}"]
+    if answer == 7:
+        return [at + line for line in fillers(file, parts)]
+    return no_inverses(at, file, parts, t_values, labels)
+
+
+def fillers(file, parts):
+    for name, (start, length) in (("Pub(S)", parts.first), ("Pub(S')", parts.second)):
+        last = file[start + length - 1]
+        if last % 2**parts.filler:
+            told = f"whose last {parts.filler} bits, after the matrix of {name}, are not zero"
+            yield f"byte {start + length - 1}: {last:02x}, {told}"
+
+
+def no_inverses(at, file, parts, t_values, labels):
+    """The matrices without an inverse: the library refuses a key that has one of them beside the identity."""
+    identity = walnut.file_entries(walnut.Pair.start().matrix)
+    for name, part in (("Pub(S)", parts.first), ("Pub(S')", parts.second)):
+        entries = files.packed(file, part, parts.bits, 57)
+        try:
+            walnut.write_key(parts.field, t_values, labels, entries, identity)
+        except walnut.Refusal:
+            zero = "" if any(entries) else "; it is zero"
+            yield at + f"{places(*part)}: the matrix of {name} has no inverse{zero}"
+            yield from table(bytes(entries))
+
+
+# ---- move lists
+
+
+def show_moves(path, on=None):
+    file, size = files.read(path, walnut.MOVES_BYTES)
+    try:
+        moves = walnut.read_moves(file)
+    except walnut.Refusal as refusal:
+        raise Refused(refusal.number, list_fault(path, file, size, refusal.number)) from None
+    if on is not None:
+        made(path, moves, on)
+    known = {kind: files.kind_is_known(kind) for _, kind in moves}
+    for number, (_, kind) in enumerate(moves, 1):
+        if not known[kind]:
+            raise Refused(21, unknown_kind(path, moves, number))
+    print(f"# a list of {count(len(moves), 'move')} in {size} bytes; before the colon a move's number;")
+    print("# places count from 0, in the word as it is then")
+    width = len(str(len(moves)))
+    for number, (place, kind) in enumerate(moves, 1):
+        text = f"{number:{width}}: at {place} {move_text(kind)}"
+        print(f"{text:32} # {move_told(place, kind)}")
+
+
+def unknown_kind(path, moves, number):
+    place, kind = moves[number - 1]
+    return f"'{path}', byte {2 + 2 * len(moves) + number - 1}: {kind}, the kind of move {number}, at place {place}"
+
+
+def made(listed, moves, on):
+    """Has the library make the moves one by one, each on the word that the last one left: which one is refused?"""
+    file = word(on)[0]
+    for number, (place, kind) in enumerate(moves, 1):
+        try:
+            file = walnut.rewrite(file, [(place, kind)])
+        except walnut.Refusal as refusal:
+            if refusal.number == 21:
+                raise Refused(21, unknown_kind(listed, moves, number)) from None
+            codes = walnut.codes(file)
+            there = " ".join(map(letter_text, codes[place : place + 3])) or "no letter"
+            told = f"{there} stands there, in a word of {count(len(codes), 'letter')} by then"
+            raise Refused(refusal.number, f"move {number}, at {place} {move_text(kind)}: {told}") from None
+
+
+def move_text(kind):
+    """A kind as text, as `spell` reads it."""
+    return files.KINDS.get(kind) or f"insert {letter_text(kind - files.INSERT)}"
+
+
+def move_told(place, kind):
+    """What a move does."""
+    if kind == 1:
+        return f"the letters at {place} and {place + 1} go: a letter and its inverse"
+    if kind == 2:
+        return f"the letters at {place} and {place + 1} change places"
+    if kind == 3:
+        return f"j k j at {place} to {place + 2} becomes k j k"
+    code = kind - files.INSERT
+    return f"{letter_text(code)} {letter_text(code ^ 8)} before place {place}"
+
+
+def list_fault(path, file, size, answer):
+    moves = int.from_bytes(file[:2], "big")
+    if answer == 18:
+        return f"'{path}' has {count(size, 'byte')}"
+    stated = f"'{path}', bytes 0 and 1: {file[:2].hex(' ')}, so it states {count(moves, 'move')}"
+    if answer == 19:
+        return f"{stated}; a list has at most {walnut.MOVES}"
+    return f"{stated}, which take {2 + 3 * moves} bytes; the file has {size}"

@@ -1,0 +1,130 @@
+"""What tests/walnut and tests/eyes share: a folder to work in, runs of ./walnut held to what they must give, and files
+to run them on."""
+
+import os
+import shutil
+import subprocess
+import sys
+import tempfile
+
+ROOT = os.path.dirname(os.path.dirname(os.path.abspath(__file__)))
+WALNUT = os.path.join(ROOT, "walnut")
+BIN = os.path.join(ROOT, "target", "bin")
+
+# what the verbs run
+PROGRAMS = ("desk", "desk_files", "shorten", "rewrite", "reduce", "crossings_file")
+
+runs = 0
+
+
+def work(*verbs):
+    """A new folder, to be in; it goes when the tests end. What the verbs need is built before, in any time."""
+    for verb in verbs:
+        run(*verb, timeout=None)
+    folder = tempfile.mkdtemp(prefix="walnut tests ")
+    os.chmod(folder, 0o755)
+    os.chdir(folder)
+    return folder
+
+
+def fail(what):
+    sys.exit(f"tests: {what}")
+
+
+def run(*arguments, walnut=WALNUT, **options):
+    """Runs ./walnut: its status, standard output and standard error."""
+    global runs
+    runs += 1
+    captured = {"stdin": subprocess.DEVNULL, "stdout": subprocess.PIPE, "stderr": subprocess.PIPE, "timeout": 30}
+    options = {**captured, **options}
+    done = subprocess.run([walnut, *arguments], check=False, **options)
+    return done.returncode, (done.stdout or b"").decode(), (done.stderr or b"").decode()
+
+
+def held(name, arguments, status, out, *said, **options):
+    """A run has this status and standard output, and says these texts on standard error."""
+    found = run(*arguments, **options)
+    if found[:2] != (status, out) or not all(text in found[2] for text in said):
+        fail(f"{name}: {arguments} gave {found}, and not {(status, out, *said)}")
+    return found[2]
+
+
+def put(name, data):
+    with open(name, "wb") as file:
+        file.write(data)
+    return name
+
+
+def get(name):
+    with open(name, "rb") as file:
+        return file.read()
+
+
+# ---- files: the plain key, a zero digest, 128 letters b7, which open the slip; at strength 256 it takes 256 letters
+
+IDENTITY = bytes.fromhex("0800000000004000 0000000200000000 0010000000000080 0000000004000000 00002008")
+KEY = bytes.fromhex("0800200844 3214C7") + IDENTITY + bytes.fromhex("053977") + IDENTITY
+DIGEST = bytes(32)
+LARGE_IDENTITY = bytes.fromhex("010000000000000000" * 6 + "010001")
+LARGE_KEY = bytes.fromhex("080100 0101020304050607") + LARGE_IDENTITY + bytes.fromhex("053977") + LARGE_IDENTITY
+LARGE_DIGEST = bytes(64)
+
+
+def word(codes):
+    """The file of a word."""
+    codes = list(codes)
+    halves = codes + [0] * (len(codes) % 2)
+    return len(codes).to_bytes(2, "big") + bytes(16 * a + b for a, b in zip(halves[::2], halves[1::2]))
+
+
+def moves(*listed):
+    """The file of a list of (place, kind)."""
+    places = b"".join(place.to_bytes(2, "big") for place, _ in listed)
+    return len(listed).to_bytes(2, "big") + places + bytes(kind for _, kind in listed)
+
+
+SEVENS = word([6] * 128)
+LONG = word([6] * 64 + [0, 8] + [6] * 64)
+LARGE_SEVENS = word([6] * 256)
+LARGE_LONG = word([6] * 128 + [0, 8] + [6] * 128)
+
+
+def changed(data, place, byte):
+    return data[:place] + bytes([byte]) + data[place + 1 :]
+
+
+def answers():
+    """What failed and what to do, by number."""
+    with open(os.path.join(ROOT, "answers.txt"), encoding="ascii") as lines:
+        rows = [line.rstrip("\n").split(" | ") for line in lines if not line.startswith("#")]
+    return {int(row[0]): ": ".join(row[1:3]) for row in rows if len(row) == 3}
+
+
+# ---- another tree, with programs of its own
+
+
+def tree(folder, programs):
+    """A copy of ./walnut whose programs are these, and whose rt proves nothing: its name, and what to run it with."""
+    folder = os.path.abspath(folder)
+    os.makedirs(os.path.join(folder, "target", "bin"))
+    os.makedirs(os.path.join(folder, "crates", "none"))
+    os.makedirs(os.path.join(folder, "path"))
+    for name in ("walnut", "desk", "answers.txt", "crates.txt"):
+        shutil.copy(os.path.join(ROOT, name), folder)
+    shutil.copytree(os.path.join(ROOT, "desk_tools"), os.path.join(folder, "desk_tools"))
+    script(os.path.join(folder, "path", "rt"), "exit 0")
+    put(os.path.join(folder, "crates", "none", "file"), b"")
+    for name in PROGRAMS:
+        place = os.path.join(folder, "target", "bin", name)
+        if isinstance(programs, str):
+            shutil.copy(os.path.join(programs, name), place)
+        else:
+            script(place, programs.get(name, "exit 0"))
+    environment = {**os.environ, "PATH": os.path.join(folder, "path") + ":" + os.environ["PATH"]}
+    return {"walnut": os.path.join(folder, "walnut"), "env": environment}
+
+
+def script(path, text):
+    with open(path, "w", encoding="ascii") as file:
+        file.write("#!/bin/sh\n" + text + "\n")
+    os.chmod(path, 0o755)
