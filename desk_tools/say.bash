@@ -31,10 +31,17 @@ joined() {
 key_sizes() { joined $(printf '%s\n' "${!digest_bytes[@]}" | sort -n); }
 digest_sizes() { joined $(printf '%s\n' "${digest_bytes[@]}" | sort -n); }
 
+# the bytes of a word of so many letters, and of a list of so many moves
+word_bytes() { echo $((2 + ($1 + 1) / 2)); }
+moves_bytes() { echo $((2 + 3 * $1)); }
+
+# has the file as many bytes as the number in its first two needs?
+as_stated() { local n; n=$(size "$2") && [ "$n" -ge 2 ] && [ "$n" -eq "$("$1" "$(first_two "$2")")" ]; }
+
 is_key() { local n; n=$(size "$1") && [ -n "${digest_bytes[$n]-}" ]; }
 is_digest() { local n; n=$(size "$1") && [[ " ${digest_bytes[*]} " == *" $n "* ]]; }
-is_word() { local n; n=$(size "$1") && [ "$n" -ge 2 ] && [ "$n" -eq $((2 + ($(first_two "$1") + 1) / 2)) ]; }
-is_moves() { local n; n=$(size "$1") && [ "$n" -ge 2 ] && [ "$n" -eq $((2 + 3 * $(first_two "$1"))) ]; }
+is_word() { as_stated word_bytes "$1"; }
+is_moves() { as_stated moves_bytes "$1"; }
 
 # does a file hold hexadecimal text, and nothing else?
 is_hex() {
@@ -73,30 +80,21 @@ about_digest() { # KEY DIGEST
     say "the digest is '$2', $(count "$n" byte); with this key a digest has ${digest_bytes[$k]-$(digest_sizes)}"
 }
 
-about_word() {
-    local n
-    n=$(size "$1") || return 0
+# a file that states in its first two bytes how many things it has
+about_stated() { # WHAT FILE THING BYTES MORE
+    local n things
+    n=$(size "$2") || return 0
     if [ "$n" -lt 2 ]; then
-        say "the word is '$1', $(count "$n" byte); a word has at least 2"
+        say "the $1 is '$2', $(count "$n" byte); a $1 has at least 2"
     else
-        local letters
-        letters=$(first_two "$1")
-        say "the word is '$1', $n bytes; its first two state $(count "$letters" letter), which take" \
-            "$((2 + (letters + 1) / 2)) bytes; for more: ./walnut show word ${1@Q}"
+        things=$(first_two "$2")
+        say "the $1 is '$2', $n bytes; its first two state $(count "$things" "$3"), which take" \
+            "$("$4" "$things") bytes; $5"
     fi
 }
-
+about_word() { about_stated word "$1" letter word_bytes "for more: ./walnut show word ${1@Q}"; }
 about_moves() { # MOVES WORD
-    local n
-    n=$(size "$1") || return 0
-    if [ "$n" -lt 2 ]; then
-        say "the move list is '$1', $(count "$n" byte); a move list has at least 2"
-    else
-        local moves
-        moves=$(first_two "$1")
-        say "the move list is '$1', $n bytes; its first two state $(count "$moves" move), which take" \
-            "$((2 + 3 * moves)) bytes; for which fails: ./walnut show moves ${1@Q} ${2@Q}"
-    fi
+    about_stated 'move list' "$1" move moves_bytes "for which fails: ./walnut show moves ${1@Q} ${2@Q}"
 }
 
 # three files that are key, digest and word in another order

@@ -2,7 +2,8 @@
 //!
 //! `bench` prints the least time of several rounds for each, and the library's as a ratio to the others'.
 //! `bench again CASE WHO` only does the work, 10 times, in the function `again`, for a counter of instructions to
-//! watch (CASE from 0; WHO 0 the library, 1 Rust, 2 C); it prints the case's name and the parts that were done.
+//! watch (WHO 0 the library, 1 Rust, 2 C); it prints the case's name and the parts that were done. `bench cases` prints
+//! the cases' numbers.
 
 mod plain;
 mod plain_c;
@@ -105,6 +106,10 @@ fn main() -> ExitCode {
     let words: Vec<&str> = arguments.iter().map(String::as_str).collect();
     let well = match words[..] {
         [] => times(),
+        ["cases"] => {
+            (0..CASES).for_each(|number| println!("{number}"));
+            true
+        }
         ["again", number, who] => counted(number, who),
         _ => false,
     };

@@ -249,12 +249,17 @@ def _fixed(data: Bytes, length: int, name: str) -> bytes:
     return data
 
 
-def _whole(number: int, limit: int, name: str, what: str) -> int:
-    """A whole number from 0 to a limit."""
+def _index(number: int, name: str) -> int:
+    """A whole number."""
     try:
-        number = operator.index(number)
+        return operator.index(number)
     except TypeError:
         raise TypeError(f"{name}: a whole number is needed, not {type(number).__name__}") from None
+
+
+def _whole(number: int, limit: int, name: str, what: str) -> int:
+    """A whole number from 0 to a limit."""
+    number = _index(number, name)
     if not 0 <= number <= limit:
         raise ValueError(f"{name}: {number} is no {what}")
     return number
@@ -267,7 +272,7 @@ def _byte(number: int, name: str) -> int:
 
 def _label(number: int, name: str) -> int:
     """A label as the library takes it: one over 255 is too large, as 255 is, and the library says so in its turn."""
-    return _byte(min(number, 255), name)
+    return _byte(min(_index(number, name), 255), name)
 
 
 def _large(field: Field) -> bool:

@@ -5,8 +5,8 @@
 mod common;
 
 use common::{
-    blank_key_over, hex, key_with_t_values, large_key_with_t_values, large_plain_key, output, plain_key,
-    refuses, LARGE_IDENTITY, PLAIN_LIST, PLAIN_T_VALUES,
+    blank_key_over, hex, identity_entries, key_with_t_values, large_key_with_t_values, large_plain_key,
+    output, plain_key, refuses, LARGE_IDENTITY, PLAIN_LIST, PLAIN_T_VALUES,
 };
 use reference::key::layout;
 use reference::Field::{Gf256, Gf32};
@@ -121,15 +121,6 @@ fn multiplier_refusals_in_order() {
 }
 
 // ---- Keys ----
-
-/// The identity's 57 entries.
-fn identity_entries() -> [u8; 57] {
-    let mut entries = [0; 57];
-    for place in [0, 9, 18, 27, 36, 45, 54, 56] {
-        entries[place] = 1;
-    }
-    entries
-}
 
 /// 3 bytes, 8 T-values, 57 entries, 3 bytes of labels, 57 entries: 128 bytes without filler.
 #[test]

@@ -4,8 +4,8 @@
 mod common;
 
 use common::{
-    blank_key, file, hex, key_with_t_values, output, plain_key, refuses, PACKED_IDENTITY, PLAIN_LIST,
-    PLAIN_T_VALUES,
+    blank_key, file, hex, identity_entries, key_with_t_values, output, plain_key, refuses, PACKED_IDENTITY,
+    PLAIN_LIST, PLAIN_T_VALUES,
 };
 use reference::digest::half_byte_braid;
 use reference::letter::{is_letter, Letter};
@@ -366,15 +366,6 @@ fn word_writer_refusals_in_order() {
 }
 
 // ---- Keys (document 01, "Files"; source 000, section 10.1) ----
-
-/// The identity's 57 entries.
-fn identity_entries() -> [u8; 57] {
-    let mut entries = [0; 57];
-    for place in [0, 9, 18, 27, 36, 45, 54, 56] {
-        entries[place] = 1;
-    }
-    entries
-}
 
 #[test]
 fn plain_key_is_read() {

@@ -1,23 +1,15 @@
 -- The multiplier: what its answer tells, and what it gives.
-use Prim.Native.Nat.{ℕ, _*_, _/_, _<_}
-use mathlib.Core.Path.{_≡_, refl, sym, ap, _∙_}
+use Prim.Native.Nat.{ℕ}
+use mathlib.Core.Path.{_≡_, sym, _∙_}
 use mathlib.Core.Bool.{true}
-use mathlib.Core.List.{List, [], _∷_}
-use mathlib.Core.Logic.{⊎-elim}
-use native.Mathlib.Omega.{arith}
-use lib.ListN.{take}
+use mathlib.Core.List.{List, []}
 use Rattle.base.specs.Questions.{firstNo}
-use Rattle.base.specs.Lists.{every}
-use Rattle.base.specs.Digits.{halves}
 use Rattle.base.proofs.QuestionLaws.{granted-zero, granted-refused, answers-passed}
-use Rattle.base.proofs.ListLaws.{and-both}
-use Rattle.field.specs.Binary.{Operations}
 use Rattle.field.specs.Fields.{operations}
 use Rattle.field.specs.declared.Field.{Field}
 use Rattle.braid.specs.Letters.{isLetter}
-use Rattle.braid.proofs.LetterLaws.{letter-cases}
 use Rattle.action.specs.declared.Pair.{Pair}
-use Rattle.action.specs.Action.{letterOn, wordOn}
+use Rattle.action.specs.Action.{letterOn}
 use Rattle.action.specs.Multiplier.{multiplierQuestions, zeroPair, Multiplies}
 
 module _ (f : Field) (p : Pair) (ts : List ℕ) (c : ℕ) where

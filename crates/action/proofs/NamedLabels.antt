@@ -1,6 +1,6 @@
 -- Labels by name: a word moves places of a list as it moves the labels that stand there, and the T-values by place are
 -- those of the labels. So the loop may hold places, whatever the labels are.
-use Prim.Native.Nat.{_≤_, ℕ, _+_, _%_, _<_}
+use Prim.Native.Nat.{_≤_, ℕ, _+_, _<_}
 use mathlib.Core.Path.{_≡_, refl, sym, ap, ap₂, _∙_}
 use mathlib.Core.Bool.{Bool, true, cond}
 use mathlib.Core.List.{List, [], _∷_}

@@ -6,13 +6,13 @@ use mathlib.Core.Bool.{Bool, cond}
 use mathlib.Core.List.{List, [], _∷_}
 use lib.Dec.{eqb}
 use lib.ListN.{getD}
-use Rattle.base.specs.Lists.{every, values}
+use Rattle.base.specs.Lists.{every}
 use Rattle.field.specs.Binary.{Operations}
 use Rattle.matrix.specs.Layout.{entry, matrixOf}
 use Rattle.matrix.specs.Product.{identity}
 use Rattle.braid.specs.Letters.{generator, isInverse, isLetter}
 use Rattle.action.specs.declared.Pair.{Pair}
-use Rattle.braid.specs.Strands.{swapped}
+use Rattle.braid.specs.Strands.{inOrder, swapped}
 
 -- what a letter makes of an entry of its own column: what the column before gains, what its own becomes, what the
 -- column after gains
@@ -76,6 +76,6 @@ codesOn F ts cs p = cond (every isLetter cs) (wordOn F ts cs p) p
 abbrev pub identityWith : List ℕ → Pair
 identityWith labels = pairOf identity labels
 
--- the starting pair: the identity with the list 0 to 7
+-- the starting pair: the identity with the starting list
 unfoldable pub start : Pair
-start = identityWith (values (λ a. a) 8)
+start = identityWith inOrder

@@ -1,5 +1,5 @@
--- A pair as the loop over letters holds it, for private contracts: the matrix by columns of 64 bits, behind a spare
--- one.
+-- A pair as the loop over letters holds it, for the contracts of functions that are no operation of the papers: the
+-- matrix by columns of 64 bits, behind a spare one.
 use Prim.Native.Nat.{ℕ, _+_, _<_, _≤_}
 use mathlib.Core.Path.{_≡_}
 use mathlib.Core.Bool.{Bool, cond}

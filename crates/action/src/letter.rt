@@ -54,7 +54,7 @@ fn exchange(labels: &mut [u8; 8], g: usize)
 }
 
 // A letter whose own column is g, by the constants from a place on of the number that it takes.
-pub(crate) fn cross(
+pub fn cross(
     columns: &mut [u64; 9],
     labels: &mut [u8; 8],
     constants: &[u64],
@@ -83,7 +83,7 @@ pub(crate) fn cross(
 
 // The letter on the pair of the columns and the labels. The labels are read before they are stored, for the place of
 // the constants: read and stored in one, they would be exchanged in memory, and each letter would wait for the last.
-pub(crate) fn letter(
+pub fn one_letter(
     columns: &mut [u64; 9],
     labels: &mut [u8; 8],
     constants: &[u64; 128],

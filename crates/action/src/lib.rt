@@ -1,16 +1,13 @@
-// E-multiplication: pairs of a matrix over either field and a list of labels, and braid words multiplied into them.
+// E-multiplication: pairs of a matrix over either field and a list of labels, and one letter multiplied into a pair.
 ghost use mathlib.Core.Path.{_≡_};
+ghost use lib.ListN.{length, getD};
 ghost use Rattle.action.specs.Action.{pairOf, start};
 ghost use Rattle.action.specs.Multiplier.{zeroPair};
 
-mod held; // held.rt: a pair as the loop over letters holds it
 mod letter; // letter.rt: one letter, in place
-mod multiplier; // multiplier.rt: the multiplier used alone
-mod word; // word.rt: whole words
 
-pub use multiplier::multiply;
-pub use word::carry;
-pub use word::carry_letters;
+pub use letter::cross;
+pub use letter::one_letter;
 
 // An 8 by 8 matrix, column by column, and a list of eight labels.
 #[repr(C)]
@@ -61,5 +58,17 @@ impl Pair {
         matrix[54] = 1;
         matrix[63] = 1;
         Pair::with(matrix, [0, 1, 2, 3, 4, 5, 6, 7])
+    }
+}
+
+// The T-value of a label; 0 for one over 7.
+pub fn value_of(t_values: &[u8], label: u8) -> u8
+    requires { ⌜ length (now «t_values») ≡ 8 ⌝ }
+    ensures { λ r. ⌜ r ≡ getD (now («t_values» .entry)) label 0 ⌝ }
+{
+    if label < 8 {
+        t_values[label as usize]
+    } else {
+        0
     }
 }

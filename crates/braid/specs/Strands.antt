@@ -4,7 +4,11 @@ use Prim.Native.Nat.{ℕ, _+_}
 use mathlib.Core.Bool.{Bool}
 use mathlib.Core.List.{List}
 use lib.ListN.{getD, set}
-use Rattle.base.specs.Lists.{eachOnce}
+use Rattle.base.specs.Lists.{values, eachOnce}
+
+-- the starting list, 0 to 7
+abbrev pub inOrder : List ℕ
+inOrder = values (λ a. a) 8
 
 -- is the list 0 to 7, each once?
 abbrev pub isOrder : List ℕ → Bool

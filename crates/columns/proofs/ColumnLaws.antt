@@ -1,7 +1,7 @@
 -- A column put together from its entries and taken apart again, and the matrix of columns: one entry after another, one
 -- column after another.
 use Prim.Native.Nat.{ℕ, zero, suc, _+_, _-_, _*_, _/_, _%_, _^_, _≤_, _<_}
-use mathlib.Core.Path.{_≡_, refl, sym, ap, ap₂, _∙_}
+use mathlib.Core.Path.{_≡_, refl, sym, ap, _∙_}
 use mathlib.Core.List.{List}
 use native.Mathlib.Nat.{zero-lt-suc, pow-suc, pow-le-pow-right}
 use native.Mathlib.Numerals.{add-one}
@@ -10,7 +10,7 @@ use native.Mathlib.Decide.{ℕ-discrete}
 use lib.Arith.{digits-lt}
 use lib.ListN.{length, getD, set, length-set}
 use lib.Seq.{getD-set-same, getD-set-other}
-use Rattle.matrix.specs.Layout.{place, entry, matrixOf}
+use Rattle.matrix.specs.Layout.{place, entry}
 use Rattle.matrix.proofs.LayoutLaws.{by-entries}
 use Rattle.matrix.proofs.StoreLaws.{store-same, store-other}
 use Rattle.columns.specs.Lanes.{lane, InLanes, Put, columnsMatrix}

@@ -1,9 +1,9 @@
 -- The constants of a number, one after another: each is x times the last.
-use Prim.Native.Nat.{ℕ, zero, suc, _+_, _-_, _*_, _/_, _%_, _^_, _≤_, _<_}
-use mathlib.Core.Path.{_≡_, refl, sym, ap, ap₂, _∙_}
+use Prim.Native.Nat.{ℕ, zero, suc, _+_, _-_, _*_, _%_, _^_, _≤_, _<_}
+use mathlib.Core.Path.{_≡_, refl, sym, ap, _∙_}
 use mathlib.Core.List.{List}
 use mathlib.Core.Logic.{_⊎_, inl, inr, ⊎-elim}
-use native.Mathlib.Nat.{zero-lt-suc, mod-lt, one-mul, le-refl, pow-zero}
+use native.Mathlib.Nat.{zero-lt-suc, mod-lt, one-mul, le-refl}
 use native.Mathlib.Numerals.{add-one}
 use native.Mathlib.Omega.{arith}
 use native.Mathlib.Decide.{ℕ-discrete}
@@ -12,7 +12,7 @@ use lib.ListN.{length, getD, set, replicate, length-set}
 use lib.Seq.{getD-set-same, getD-set-other}
 use Rattle.field.specs.Binary.{Operations}
 use Rattle.field.specs.Polynomial.{Degree, timesX, times, polynomials}
-use Rattle.field.proofs.Laws.{step-below, times-below, times-one, times-next}
+use Rattle.field.proofs.Laws.{step-below, times-one, times-next}
 use Rattle.columns.specs.Constants.{Bytes, Multiples, Filled, AllFilled, Reciprocals, Constants}
 
 -- the size of the field, as the code makes it

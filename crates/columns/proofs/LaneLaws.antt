@@ -1,11 +1,11 @@
 -- Lanes of a number: the first, those after it, and of a number put together from its first lane and the rest; sums go
 -- lane by lane, and a number masked to the low bit of each lane times a byte has in each lane that bit times the byte.
 use Prim.Native.Nat.{ℕ, zero, suc, _+_, _-_, _*_, _/_, _%_, _^_, _≤_, _<_}
-use mathlib.Core.Path.{_≡_, refl, sym, ap, ap₂, _∙_}
-use native.Mathlib.Nat.{zero-lt-suc, mod-lt, mod-mod, mod-eq-of-lt, mul-le-mul, mul-comm, div-div-eq-div-mul, pow-succ', add-mul, mul-assoc, div-add-mod', le-of-suc-le-suc, div-one}
+use mathlib.Core.Path.{_≡_, sym, ap, ap₂, _∙_}
+use native.Mathlib.Nat.{zero-lt-suc, mod-lt, mul-le-mul, mul-comm, div-div-eq-div-mul, pow-succ', add-mul, mul-assoc, div-add-mod', le-of-suc-le-suc, div-one}
 use native.Mathlib.Omega.{arith}
 use lib.Arith.{digits-div, digits-mod}
-use lib.Pow.{pow-pos, pow-add, mod-mod-pow, field}
+use lib.Pow.{mod-mod-pow, field}
 use lib.Bits.{bitXor, bitAnd, xor-shr, xor-mod, and-block, and-mask, and-le-r}
 use Rattle.field.proofs.Xor.{by-digit}
 use Rattle.columns.specs.Lanes.{lane, ones}

@@ -1,9 +1,8 @@
 -- A column times a number, bit by bit: what one more bit of the lanes adds to the product so far.
-use Prim.Native.Nat.{ℕ, zero, suc, _+_, _*_, _/_, _%_, _^_, _<_}
-use mathlib.Core.Path.{_≡_, refl, sym, ap, ap₂, _∙_}
+use Prim.Native.Nat.{ℕ, _+_, _*_, _/_, _%_, _^_, _<_}
+use mathlib.Core.Path.{_≡_, sym, ap, ap₂, _∙_}
 use native.Mathlib.Nat.{div-one, div-div-eq-div-mul, pow-suc}
 use native.Mathlib.Numerals.{add-one}
-use native.Mathlib.Omega.{arith}
 use lib.Bits.{bitXor, bitAnd}
 use Rattle.columns.specs.Lanes.{lane, ones, chosen, InLanes}
 use Rattle.columns.proofs.LaneLaws.{lane-zero, lane-xor, masked, masked-fits}

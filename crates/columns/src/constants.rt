@@ -2,7 +2,7 @@
 use crate::wide;
 use field::times_x;
 ghost use mathlib.Core.Path.{_≡_};
-ghost use Prim.Native.Nat.{_+_, _*_, _^_, _<_, _≤_};
+ghost use Prim.Native.Nat.{_+_, _*_, _<_, _≤_};
 ghost use lib.ListN.{length};
 ghost use Rattle.field.specs.Polynomial.{Degree, polynomials};
 ghost use Rattle.columns.specs.Constants.{Bytes, Multiples, Filled, AllFilled, Reciprocals, Constants};

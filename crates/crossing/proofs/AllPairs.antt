@@ -13,12 +13,12 @@ use Rattle.base.specs.Lists.{every, count, values, valuesFrom, eachOnce}
 use Rattle.base.proofs.ListLaws.{every-values, every-all, and-left, and-right}
 use Rattle.braid.specs.Letters.{isPositive, isInverse, generator}
 use Rattle.braid.specs.Exponent.{tally, exponentSum}
-use Rattle.braid.specs.Strands.{isOrder, swapped}
+use Rattle.braid.specs.Strands.{inOrder, isOrder, swapped}
 use Rattle.braid.specs.Words.{codes, wordAnswer}
 use Rattle.braid.proofs.LetterLaws.{Lettered, lettered-cons, generator-below}
 use Rattle.braid.proofs.ReadLaws.{accepted-word}
 use Rattle.braid.proofs.StrandLaws.{count-swapped, neighbours-differ}
-use Rattle.crossing.specs.Crossings.{Two, both, swaps, swapping, inOrder, crossingsFrom, crossings, withEach, pairsFrom, allPairs, together}
+use Rattle.crossing.specs.Crossings.{Two, both, swaps, swapping, crossingsFrom, crossings, withEach, pairsFrom, allPairs, together}
 use Rattle.crossing.specs.Counting.{Labelled}
 use Rattle.crossing.proofs.CrossingLaws.{share, tally-letter}
 use Rattle.crossing.proofs.CountLaws.{labelled-next}

@@ -16,10 +16,10 @@ use Rattle.base.specs.Lists.{count, every, values, valuesFrom}
 use Rattle.base.proofs.ListLaws.{count-le, beq-true, every-values, every-all, and-left, and-right}
 use Rattle.braid.specs.Letters.{isLetter, isPositive, isInverse, generator}
 use Rattle.braid.specs.Exponent.{tally, exponentSum}
-use Rattle.braid.specs.Strands.{swapped}
+use Rattle.braid.specs.Strands.{inOrder, swapped}
 use Rattle.braid.proofs.LetterLaws.{Lettered, lettered-cons, letter-below, generator-below}
 use Rattle.braid.proofs.StrandLaws.{length-swapped, swapped-below}
-use Rattle.crossing.specs.Crossings.{both, swaps, swapping, inOrder, crossingsFrom, crossings}
+use Rattle.crossing.specs.Crossings.{both, swaps, swapping, crossingsFrom, crossings}
 use Rattle.crossing.specs.Counting.{slot, slotOf, slots, Labelled, Table, Counts, Found}
 use Rattle.crossing.proofs.CrossingLaws.{share, tally-letter}
 

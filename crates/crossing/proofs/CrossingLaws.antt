@@ -10,11 +10,11 @@ use lib.ListN.{length, getD}
 use lib.IntN.{natAbs}
 use Rattle.braid.specs.Letters.{generator, isPositive, isInverse}
 use Rattle.braid.specs.Exponent.{tally, exponentSum}
-use Rattle.braid.specs.Strands.{swapped}
+use Rattle.braid.specs.Strands.{inOrder, swapped}
 use Rattle.braid.specs.Words.{codes, wordAnswer}
 use Rattle.braid.proofs.ReadLaws.{accepted-word}
 use Rattle.braid.proofs.StrandLaws.{length-swapped}
-use Rattle.crossing.specs.Crossings.{both, swaps, swapping, inOrder, crossingsFrom, crossings}
+use Rattle.crossing.specs.Crossings.{both, swaps, swapping, crossingsFrom, crossings}
 use Rattle.crossing.proofs.SignedLaws.{difference-within}
 
 -- ---- either way round

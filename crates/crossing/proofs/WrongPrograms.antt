@@ -13,10 +13,10 @@ use Rattle.base.specs.Digits.{value, halves}
 use Rattle.base.proofs.QuestionLaws.{granted-zero}
 use Rattle.braid.specs.Letters.{generator}
 use Rattle.braid.specs.Exponent.{tally, exponentSum}
-use Rattle.braid.specs.Strands.{swapped}
+use Rattle.braid.specs.Strands.{inOrder, swapped}
 use Rattle.braid.specs.Words.{codes, filler}
 use Rattle.crossing.specs.declared.Crossing.{Crossing}
-use Rattle.crossing.specs.Crossings.{both, swaps, swapping, inOrder, crossingsFrom, crossings, crossingQuestions, Crosses}
+use Rattle.crossing.specs.Crossings.{both, swaps, swapping, crossingsFrom, crossings, crossingQuestions, Crosses}
 
 -- ---- what they count
 

@@ -8,10 +8,9 @@ use lib.Dec.{ltb, eqb}
 use lib.ListN.{getD}
 use lib.IntN.{ℤ, pos, _+ℤ_}
 use Rattle.base.specs.Questions.{Question, _else_, firstNo, granted}
-use Rattle.base.specs.Lists.{values}
 use Rattle.braid.specs.Letters.{generator}
 use Rattle.braid.specs.Exponent.{exponentSum}
-use Rattle.braid.specs.Strands.{swapped}
+use Rattle.braid.specs.Strands.{inOrder, swapped}
 use Rattle.braid.specs.Words.{codes, wordQuestions}
 
 -- are p and q just the labels a and b, either way round?
@@ -32,10 +31,7 @@ swapping a b labels (c ∷ w) =
 unfoldable pub crossingsFrom : List ℕ → ℕ → ℕ → List ℕ → ℤ
 crossingsFrom labels a b w = exponentSum (swapping a b labels w)
 
--- from the starting list, 0 to 7
-abbrev pub inOrder : List ℕ
-inOrder = values (λ a. a) 8
-
+-- from the starting list
 unfoldable pub crossings : ℕ → ℕ → List ℕ → ℤ
 crossings a b w = crossingsFrom inOrder a b w
 

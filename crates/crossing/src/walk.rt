@@ -7,9 +7,8 @@ ghost use mathlib.Core.Bool.{true};
 ghost use lib.ListN.{length, getD, set};
 ghost use Rattle.base.specs.Lists.{every};
 ghost use Rattle.braid.specs.Letters.{generator, isLetter};
-ghost use Rattle.braid.specs.Strands.{swapped};
+ghost use Rattle.braid.specs.Strands.{inOrder, swapped};
 ghost use Rattle.braid.specs.Words.{codes, letters, wordAnswer};
-ghost use Rattle.crossing.specs.Crossings.{inOrder};
 ghost use Rattle.crossing.specs.Counting.{slot, slotOf, Labelled, Table, Counts, Found};
 
 // The place of a sign, 0 for a generator and 1 for an inverse, and two labels.

@@ -14,7 +14,8 @@ use Rattle.base.proofs.DigitLaws.{length-digits}
 use Rattle.base.proofs.ListLaws.{take-overlaid}
 use Rattle.base.proofs.QuestionLaws.{granted-zero, granted-refused}
 use Rattle.braid.specs.Words.{codes, wordAnswer}
-use Rattle.crossing.specs.Crossings.{crossings, inOrder, Two, allPairs}
+use Rattle.braid.specs.Strands.{inOrder}
+use Rattle.crossing.specs.Crossings.{crossings, Two, allPairs}
 use Rattle.crossing.proofs.PartLaws.{SameCrossings}
 use Rattle.desk_line.specs.Desk.{places, decimal, answerLine, TellsIn, Tells}
 use Rattle.desk_line.proofs.Enough.{cut-alike, long-refused, long-alike}

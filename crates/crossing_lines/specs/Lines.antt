@@ -10,7 +10,8 @@ use Rattle.base.specs.Questions.{granted}
 use Rattle.base.specs.Lists.{every}
 use Rattle.braid.specs.Letters.{isLetter}
 use Rattle.braid.specs.Words.{codes, wordAnswer}
-use Rattle.crossing.specs.Crossings.{crossings, inOrder, Two, allPairs}
+use Rattle.braid.specs.Strands.{inOrder}
+use Rattle.crossing.specs.Crossings.{crossings, Two, allPairs}
 use Rattle.crossing.specs.Counting.{Counts}
 use Rattle.desk_line.specs.Desk.{decimal, answerLine, TellsIn}
 

@@ -19,7 +19,7 @@ use Rattle.braid.specs.Words.{codes, filler, wordAnswer}
 use Rattle.key.specs.Keys.{keyField, fileEntries, packedMatrix, keyFile, keyAnswer}
 use Rattle.key.proofs.Inverses.{keyWith, unitEntries, plain-key}
 use Rattle.verify.specs.Verdict.{verdict}
-use Rattle.verify.proofs.VerdictIff.{key-refused, digest-refused, word-refused, zero-or-14}
+use Rattle.verify.proofs.VerdictIff.{digest-refused, word-refused, zero-or-14}
 use Rattle.desk_line.proofs.Enough.{long-key}
 use Rattle.desk_line.specs.Desk.{deskField, cutVerdict, deskVerdict, EnoughOfInput, EnoughOfFiles}
 

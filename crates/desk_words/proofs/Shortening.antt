@@ -17,7 +17,8 @@ use Rattle.action.proofs.CancelLaws.{reduced-same}
 use Rattle.key.specs.Keys.{keyField, keyAnswer}
 use Rattle.verify.specs.Verdict.{verdict}
 use Rattle.verify.proofs.VerdictIff.{same-verdict, zero-or-14, zero-iff-signs}
-use Rattle.crossing.specs.Crossings.{inOrder, crossings, allPairs, together}
+use Rattle.braid.specs.Strands.{inOrder}
+use Rattle.crossing.specs.Crossings.{crossings, allPairs, together}
 use Rattle.crossing.proofs.PartLaws.{SameCrossings}
 use Rattle.crossing.proofs.Reduction.{reduced-crossings}
 use Rattle.crossing.proofs.AllPairs.{all-crossings}

@@ -1,13 +1,12 @@
 -- Codes in steps: one more of them, the first of them, and three runs one over the other's end: the braid of a half byte.
 use Prim.Native.Nat.{ℕ, suc, _+_, _-_, _*_, _%_, _≤_, _<_}
-use mathlib.Core.Path.{_≡_, refl, sym, ap, ap₂, _∙_}
+use mathlib.Core.Path.{_≡_, sym, ap, ap₂, _∙_}
 use mathlib.Core.List.{List, [], _∷_, _++_, append-assoc}
 use native.Mathlib.Nat.{mul-add, mul-one}
 use native.Mathlib.Numerals.{add-one}
 use native.Mathlib.Omega.{arith}
-use lib.ListN.{length, take, getD, set}
+use lib.ListN.{length, take, set}
 use lib.Seq.{take-suc, take-suc-set, take-take, take-all, take-append-add, length-take-le, getD-take}
-use Rattle.base.specs.Lists.{values}
 use Rattle.base.proofs.ListLaws.{length-values, getD-values, values-of}
 use Rattle.digest.specs.Digest.{stepped, halfByteBraid}
 use Rattle.digest.proofs.HalfByte.{over, twice, over-six, three-runs}

@@ -46,7 +46,7 @@ fn is_zeros(key: Key) -> bool {
 }
 
 pub(crate) fn read(file: &[u8]) {
-    let found = key::read_key(file);
+    let found = key_reader::read_key(file);
     let key = found.key;
     print::answer(found.answer);
     if found.answer == 0 {
@@ -85,7 +85,7 @@ pub(crate) fn write(t_values: &[u8], labels: &[u8], entries: &[u8], lacks: &[u8]
 // For a list, a word, and a key that differs from the plain one in its first bytes.
 pub(crate) fn cloaks(labels: &[u8], word: &[u8], key: &[u8]) {
     let file = file(key);
-    let found = verify::cloaks(&file, labels, word);
+    let found = cloaking::cloaks(&file, labels, word);
     print::answer(found.answer);
     print::choice(found.yes, b" yes\n", b" no\n");
 }

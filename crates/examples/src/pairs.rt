@@ -47,7 +47,7 @@ fn after(pair: Pair, t_values: &[u8; 8], codes: &[u8]) -> Multiplied {
     let mut i = 0;
     while i < codes.len() {
         let pair = last.pair;
-        last = action::multiply(pair, t_values, codes[i], Field::Gf32);
+        last = multiplier::multiply(pair, t_values, codes[i], Field::Gf32);
         i += 1;
     }
     last

@@ -1,6 +1,6 @@
 -- Products by steps: x times a by one exclusive or, and a turn of the loop over the bits of a factor, the lowest first.
 use Prim.Native.Nat.{ℕ, suc, _*_, _/_, _%_, _^_, _<_}
-use mathlib.Core.Path.{_≡_, refl, sym, ap, ap₂, _∙_}
+use mathlib.Core.Path.{_≡_, sym, ap, _∙_}
 use native.Mathlib.Nat.{mod-lt, one-mul, zero-mul}
 use native.Mathlib.Omega.{arith}
 use lib.Bits.{bitXor, xor-comm}

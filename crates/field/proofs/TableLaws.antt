@@ -4,7 +4,7 @@ use Prim.Native.Nat.{ℕ, zero, suc, _+_, _-_, _*_, _/_, _%_, _^_, _<_, _≤_}
 use mathlib.Core.Path.{_≡_, refl, sym, ap, ap₂, _∙_, fun-ext}
 use mathlib.Core.Bool.{Bool, true, _&&_}
 use mathlib.Core.List.{List, _∷_}
-use native.Mathlib.Nat.{mod-lt, mod-mod, zero-lt-suc, le-of-suc-le-suc}
+use native.Mathlib.Nat.{mod-lt}
 use native.Mathlib.Numerals.{add-one}
 use native.Mathlib.Omega.{arith}
 use borrow.Author.Tests.{ltb-true, eqb-true}
@@ -19,7 +19,7 @@ use Rattle.field.specs.Gf32.{gf32, products}
 use Rattle.field.specs.Reciprocals.{reciprocals, LentField}
 use Rattle.field.specs.declared.Field.{Field}
 use Rattle.field.specs.declared.Field.the-variants.{Gf32}
-use Rattle.field.proofs.Laws.{times-low, times-low-both, times-comm}
+use Rattle.field.proofs.Laws.{times-low, times-low-both}
 use Rattle.field.proofs.ReciprocalLaws.{reciprocal-unique, reciprocal-zero}
 use Rattle.field.proofs.Fields.{degree, narrow}
 
@@ -49,6 +49,11 @@ table-of {n} {p} d l size all =
     sym (reciprocal-unique d (suc k) b (ltb-true b (2 ^ n) (and-left (ltb b (2 ^ n)) (eqb (times n p (suc k) b) 1) e))
     (eqb-true (times n p (suc k) b) 1 (and-right (ltb b (2 ^ n)) (eqb (times n p (suc k) b) 1) e))))
 
+-- a table has an entry for each element but zero
+pub reciprocals-size : (n p : ℕ) (table : List ℕ) → table ≡ reciprocals n p → suc (length table) ≡ 2 ^ n
+reciprocals-size n p table e =
+    ap (λ (l : List ℕ). suc (length l)) e ∙ ap suc (length-values (λ k. reciprocalOf n p (suc k)) 0 (2 ^ n - 1)) ∙ suc-ones n
+
 module _ {n p : ℕ} (d : Degree n p) where
   -- the reciprocal reads the n low bits of its operand
   inv-low : (a : ℕ) → reciprocalOf n p (a % 2 ^ n) ≡ reciprocalOf n p a
@@ -64,9 +69,7 @@ module _ {n p : ℕ} (d : Degree n p) where
   -- read from the table
   pub inverse-at : (table : List ℕ) → table ≡ reciprocals n p → (a : ℕ) → getD (0 ∷ table) (a % suc (length table)) 0 ≡ reciprocalOf n p a
   inverse-at table e a =
-      let size : suc (length table) ≡ 2 ^ n =
-      ap (λ (l : List ℕ). suc (length l)) e ∙ ap suc (length-values (λ k. reciprocalOf n p (suc k)) 0 (2 ^ n - 1)) ∙ suc-ones n in
-      ap₂ (λ (l : List ℕ) (m : ℕ). getD (0 ∷ l) (a % m) 0) e size ∙ at-low (a % 2 ^ n) (mod-lt a (pow-pos n)) ∙ inv-low a
+      ap₂ (λ (l : List ℕ) (m : ℕ). getD (0 ∷ l) (a % m) 0) e (reciprocals-size n p table e) ∙ at-low (a % 2 ^ n) (mod-lt a (pow-pos n)) ∙ inv-low a
 
 -- the entry before a number's remainder
 module _ (table : List ℕ) (a : ℕ) where
@@ -89,7 +92,7 @@ lent f table e = record { degree = degree f; narrow = narrow f; reciprocals-are 
 pub lent-short : {n p : ℕ} {table : List ℕ} → LentField n p table → length table < 256
 lent-short {n} {p} {table} lent =
     let b : 2 ^ n ≤ 2 ^ 8 = pow-mono (lent .narrow) in
-    let size : length table ≡ 2 ^ n - 1 = ap length (lent .reciprocals-are) ∙ length-values (λ k. reciprocalOf n p (suc k)) 0 (2 ^ n - 1) in
+    let size = reciprocals-size n p table (lent .reciprocals-are) in
     omega arith
 
 pub reciprocals-short : (f : Field) (table : List ℕ) → table ≡ reciprocals (bits f) (modulus f) → length table < 256

@@ -1,10 +1,10 @@
 -- Wrong operations of the larger field are shut out by their contracts: the product by x^8 + x^4 + x^3 + x + 1, 17 for
 -- an element over 31, and the smaller field's reciprocals.
 use Prim.Native.Nat.{ℕ}
-use mathlib.Core.Path.{_≡_, refl, sym, ap, _∙_}
+use mathlib.Core.Path.{_≡_, refl, sym, _∙_}
 use native.Mathlib.Omega.{arith}
 use Rattle.base.specs.Questions.{firstNo, granted}
-use Rattle.field.specs.Polynomial.{timesX, horner, times, reciprocalOf}
+use Rattle.field.specs.Polynomial.{timesX, horner, times}
 use Rattle.field.specs.Fields.{operations}
 use Rattle.field.specs.Elements.{productQuestions, reciprocalQuestions, Gives}
 use Rattle.field.specs.declared.Field.the-variants.{Gf32, Gf256}

@@ -1,8 +1,23 @@
-// The reciprocals of GF(256), named by one function.
+// The reciprocals of GF(256), named by one function, and its products.
+use crate::Element;
+use crate::LARGE_BITS;
+use crate::LARGE_MODULUS;
+use crate::steps::times;
 ghost use mathlib.Core.Path.{_≡_};
-ghost use Rattle.field.specs.Fields.{bits, modulus};
+ghost use Rattle.field.specs.Fields.{bits, modulus, operations};
+ghost use Rattle.field.specs.Elements.{productQuestions, Gives};
 ghost use Rattle.field.specs.Reciprocals.{reciprocals};
 ghost use Rattle.field.specs.declared.Field.the-variants.{Gf256};
+
+// Field product, by steps. Every byte is an element.
+pub(crate) fn large_product(a: u8, b: u8) -> Element
+    ensures { λ r. ⌜ Gives (productQuestions Gf256 a b) (operations Gf256 .mul a b) (r .answer) (r .value) ⌝ }
+{
+    Element {
+        answer: 0,
+        value: times(a, b, LARGE_BITS, LARGE_MODULUS),
+    }
+}
 
 // The table of reciprocals.
 pub fn large_reciprocals() -> [u8; 255]

@@ -2,20 +2,20 @@
 // x^8 + x^4 + x^3 + x^2 + 1.
 ghost use mathlib.Core.Path.{_≡_};
 ghost use Rattle.field.specs.Fields.{bits, modulus, operations, fieldOf, isLarge};
-ghost use Rattle.field.specs.Elements.{isElement, productQuestions, reciprocalQuestions, Gives};
+ghost use Rattle.field.specs.Reciprocals.{reciprocals};
+ghost use Rattle.field.specs.Elements.{productQuestions, reciprocalQuestions, Gives};
 
-mod large; // large.rt: all reciprocals of GF(256)
+mod large; // large.rt: all reciprocals of GF(256), and its products by steps
 mod small; // small.rt: all products and all reciprocals of GF(32)
 mod steps; // steps.rt: products and reciprocals in any field whose elements are bytes
 
 pub use large::large_reciprocals;
 pub use small::small_reciprocals;
 pub use steps::inverse;
-pub use steps::times;
 pub use steps::times_x;
 
-// One of the two fields. An operation takes it apart once, and lends what its loops need: the bits of an element, the
-// polynomial and the reciprocals.
+// One of the two fields. A function that is handed it alone takes it apart once, and lends what is below it the bits of
+// an element, the polynomial and the tables.
 pub enum Field {
     Gf32,
     Gf256,
@@ -52,69 +52,22 @@ pub fn is_large(f: Field) -> bool
     }
 }
 
-// Is the number an element of the field?
-fn is_element(a: u8, f: Field) -> bool
-    ensures { λ r. ⌜ r ≡ isElement f a ⌝ }
-{
-    match f {
-        Field::Gf32 => a < 32,
-        Field::Gf256 => true, // every byte
-    }
-}
-
-// A product: that of the smaller field by its table, that of the larger by steps.
-fn multiplied(a: u8, b: u8, f: Field) -> u8
-    ensures { λ r. ⌜ r ≡ operations f .mul a b ⌝ }
-{
-    match f {
-        Field::Gf32 => small::product(a, b),
-        Field::Gf256 => times(a, b, LARGE_BITS, LARGE_MODULUS),
-    }
-}
-
-// A reciprocal, 0 for zero.
-fn inverted(a: u8, f: Field) -> u8
-    ensures { λ r. ⌜ r ≡ operations f .inv a ⌝ }
-{
-    match f {
-        Field::Gf32 => {
-            let table = small_reciprocals();
-            inverse(a, &table)
-        }
-        Field::Gf256 => {
-            let table = large_reciprocals();
-            inverse(a, &table)
-        }
-    }
-}
-
 // Field product: 17 where an operand is no element.
 pub fn product(a: u8, b: u8, f: Field) -> Element
     ensures { λ r. ⌜ Gives (productQuestions f a b) (operations f .mul a b) (r .answer) (r .value) ⌝ }
 {
-    if !is_element(a, f) {
-        return Element {
-            answer: 17,
-            value: 0,
-        };
-    }
-    if !is_element(b, f) {
-        return Element {
-            answer: 17,
-            value: 0,
-        };
-    }
-    Element {
-        answer: 0,
-        value: multiplied(a, b, f),
+    match f {
+        Field::Gf32 => small::small_product(a, b),
+        Field::Gf256 => large::large_product(a, b),
     }
 }
 
-// Reciprocal: 17 where the operand is no element, then 4 where it is zero.
-pub fn reciprocal(a: u8, f: Field) -> Element
+// Reciprocal by the field's table of them: 17 where the operand is past its end, then 4 where it is zero.
+fn reciprocal_by(a: u8, table: &[u8], f: Field) -> Element
+    requires { ⌜ now table ≡ reciprocals (bits f) (modulus f) ⌝ }
     ensures { λ r. ⌜ Gives (reciprocalQuestions f a) (operations f .inv a) (r .answer) (r .value) ⌝ }
 {
-    if !is_element(a, f) {
+    if table.len() < a as usize {
         return Element {
             answer: 17,
             value: 0,
@@ -128,6 +81,22 @@ pub fn reciprocal(a: u8, f: Field) -> Element
     }
     Element {
         answer: 0,
-        value: inverted(a, f),
+        value: inverse(a, table),
+    }
+}
+
+// Reciprocal: 17 where the operand is no element, then 4 where it is zero.
+pub fn reciprocal(a: u8, f: Field) -> Element
+    ensures { λ r. ⌜ Gives (reciprocalQuestions f a) (operations f .inv a) (r .answer) (r .value) ⌝ }
+{
+    match f {
+        Field::Gf32 => {
+            let table = small_reciprocals();
+            reciprocal_by(a, &table, f)
+        }
+        Field::Gf256 => {
+            let table = large_reciprocals();
+            reciprocal_by(a, &table, f)
+        }
     }
 }

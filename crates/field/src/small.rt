@@ -1,7 +1,9 @@
-// The tables of GF(32), each named by one function.
+// The tables of GF(32), each named by one function, and its products.
+use crate::Element;
 ghost use mathlib.Core.Path.{_≡_};
 ghost use Rattle.field.specs.Gf32.{gf32, products};
 ghost use Rattle.field.specs.Fields.{bits, modulus};
+ghost use Rattle.field.specs.Elements.{productQuestions, Gives};
 ghost use Rattle.field.specs.Reciprocals.{reciprocals};
 ghost use Rattle.field.specs.declared.Field.the-variants.{Gf32};
 
@@ -13,13 +15,35 @@ fn table() -> [u8; 1024]
 }
 
 // A product, by the table. Factors count by their five low bits.
-pub(crate) fn product(a: u8, b: u8) -> u8
+fn product(a: u8, b: u8) -> u8
     ensures { λ r. ⌜ r ≡ gf32 .mul a b ⌝ }
 {
     let products = table();
     let i = (a % 32) as usize;
     let j = (b % 32) as usize;
     products[32 * i + j]
+}
+
+// Field product, by the table: 17 where an operand is not below 32.
+pub(crate) fn small_product(a: u8, b: u8) -> Element
+    ensures { λ r. ⌜ Gives (productQuestions Gf32 a b) (gf32 .mul a b) (r .answer) (r .value) ⌝ }
+{
+    if 32 <= a {
+        return Element {
+            answer: 17,
+            value: 0,
+        };
+    }
+    if 32 <= b {
+        return Element {
+            answer: 17,
+            value: 0,
+        };
+    }
+    Element {
+        answer: 0,
+        value: product(a, b),
+    }
 }
 
 // The table of reciprocals.

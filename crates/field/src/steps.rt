@@ -25,7 +25,7 @@ fn low(a: u8, bits: usize) -> u64
 }
 
 // A product, by the bits of b, the lowest first. Factors count by their low bits.
-pub fn times(a: u8, b: u8, bits: usize, modulus: u64) -> u8
+pub(crate) fn times(a: u8, b: u8, bits: usize, modulus: u64) -> u8
     requires { ⌜ Degree bits modulus × (bits ≤ 8) ⌝ }
     ensures { λ r. ⌜ r ≡ times bits modulus a b ⌝ }
 {

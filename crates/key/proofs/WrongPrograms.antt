@@ -1,6 +1,6 @@
--- Wrong programs that the contracts shut out: a reader that takes a key of 128 bytes with q = 32 or one of 83 with
--- q = 256, that asks filler bits of the larger field, or whose refusal names it; a writer that says 17 of an element
--- over 31 of the larger field; one that gives the first 57 of a matrix's 64 numbers as those that a file has.
+-- Wrong programs that the contracts shut out: a reader that takes a key of 128 bytes with q = 32 or one of 83 with q =
+-- 256, that asks filler bits of the larger field, or whose refusal names it; a writer that says 17 of an element over
+-- 31 of the larger field; one that gives the first 57 of a matrix's 64 numbers as those that a file has.
 use Prim.Native.Nat.{ℕ}
 use mathlib.Core.Path.{_≡_, sym, ap, _∙_, subst}
 use mathlib.Core.Bool.{false≢true}

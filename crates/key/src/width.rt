@@ -1,8 +1,9 @@
-// What differs between the key files of the two fields: the bits of an element, and the bytes of a file.
+// What differs between the key files of the two fields: the bits of an element, and what follows from them.
 use field::Field;
 ghost use mathlib.Core.Path.{_≡_};
 ghost use Prim.Native.Nat.{_^_, _≤_};
-ghost use Rattle.field.specs.Fields.{bits, keyBytes};
+ghost use Rattle.field.specs.Fields.{bits};
+ghost use Rattle.key.specs.Parts.{fileBytes};
 
 // The bits of an element.
 pub fn bits_of(f: Field) -> usize
@@ -14,14 +15,12 @@ pub fn bits_of(f: Field) -> usize
     }
 }
 
-// The bytes of a key file.
-pub fn key_bytes(f: Field) -> usize
-    ensures { λ r. ⌜ r ≡ keyBytes f ⌝ }
+// The bytes of a key file, by the bits of an element.
+pub fn file_bytes(bits: usize) -> usize
+    requires { ⌜ bits ≤ 8 ⌝ }
+    ensures { λ r. ⌜ r ≡ fileBytes bits ⌝ }
 {
-    match f {
-        Field::Gf32 => 83,
-        Field::Gf256 => 128,
-    }
+    15 * bits + 8
 }
 
 // How many numbers n bits write.

@@ -5,41 +5,44 @@ ghost use mathlib.Core.Bool.{_&&_};
 ghost use Prim.Native.Nat.{ℕ, _^_, _<_};
 ghost use lib.ListN.{length, take, getD};
 ghost use Rattle.base.specs.Questions.{firstNo};
-ghost use Rattle.operands.specs.Operands.{elements};
+ghost use Rattle.field.specs.Fields.{bits};
+ghost use Rattle.operands.specs.Operands.{fit};
 ghost use Rattle.key.specs.Keys.{matrixBytes, packedMatrix, keyFile, keyWriterQuestions, WroteKey};
 ghost use Rattle.key.specs.Parts.{Width, fileBytes, Parts, Sizes};
 
-// Is every T-value and entry an element of the field?
-fn all_elements(ts: &[u8; 8], first: &[u8; 57], second: &[u8; 57], f: Field) -> bool
-    ensures { λ r. ⌜ r ≡ (elements f (now (ts .entry)) && elements f (now (first .entry)) && elements f (now (second .entry))) ⌝ }
+// Does every T-value and entry fit so many bits?
+fn all_fit(ts: &[u8; 8], first: &[u8; 57], second: &[u8; 57], bits: usize) -> bool
+    ensures { λ r. ⌜ r ≡ (fit bits (now (ts .entry)) && fit bits (now (first .entry)) && fit bits (now (second .entry))) ⌝ }
 {
-    let a = operands::all_elements(ts, f);
+    let a = operands::all_fit(ts, bits);
     if !a {
         return false;
     }
-    let b = operands::all_elements(first, f);
+    let b = operands::all_fit(first, bits);
     if !b {
         return false;
     }
-    operands::all_elements(second, f)
+    operands::all_fit(second, bits)
 }
 
-// The questions 16, 17, 4, 5, 6, 26, in this order.
+// The questions 16, 17, 4, 5, 6, 26, in this order, over a field whose elements have so many bits.
 fn answer(
     room: usize,
     ts: &[u8; 8],
     order: &[u8; 8],
     first: &[u8; 57],
     second: &[u8; 57],
+    width: usize,
     f: Field,
 ) -> u8
+    requires { ⌜ width ≡ bits f ⌝ }
     ensures { λ r. ⌜ r ≡ firstNo (keyWriterQuestions f room (now (ts .entry)) (now (order .entry)) (now (first .entry)) (now (second .entry))) ⌝ }
 {
-    let size = key::key_bytes(f);
+    let size = key::file_bytes(width);
     if room < size {
         return 16;
     }
-    let elements = all_elements(ts, first, second, f);
+    let elements = all_fit(ts, first, second, width);
     if !elements {
         return 17;
     }
@@ -57,7 +60,7 @@ fn answer(
     }
     let whole = key::whole_matrix(first);
     let other = key::whole_matrix(second);
-    let inverses = matrix::both_invertible(whole, other, f);
+    let inverses = elimination::both_invertible(whole, other, f);
     if !inverses {
         return 26;
     }
@@ -107,7 +110,7 @@ fn file(
     ensures { λ r. ⌜ take (fileBytes bits) r ≡ keyFile bits (now (ts .entry)) (now (order .entry)) (now (first .entry)) (now (second .entry)) ⌝ }
 {
     let mut out = [0u8; 128];
-    let size = 15 * bits + 8;
+    let size = key::file_bytes(bits);
     fill(&mut out[..size], ts, order, first, second, bits);
     out
 }
@@ -123,12 +126,12 @@ pub fn write_key(
 ) -> u8
     ensures { λ r. ⌜ WroteKey f (now («t_values» .entry)) (now (labels .entry)) (now (first .entry)) (now (second .entry)) (now (out .entry)) (now (out .exit)) r ⌝ }
 {
-    let answer = answer(out.len(), t_values, labels, first, second, f);
+    let bits = key::bits_of(f);
+    let answer = answer(out.len(), t_values, labels, first, second, bits, f);
     if answer != 0 {
         return answer;
     }
-    let bits = key::bits_of(f);
-    let size = key::key_bytes(f);
+    let size = key::file_bytes(bits);
     let file = file(t_values, labels, first, second, bits);
     base::put(out, &file[..size]);
     0

@@ -15,7 +15,7 @@ pub fn step(pair: Pair, large: bool, t_values: &[u8; 8], letter: u8) -> Stepped
     ensures { λ r. ⌜ Lends (fieldOf large) pair (now («t_values» .entry)) letter (r .answer) (r .pair) ⌝ }
 {
     let f = field::field_of(large);
-    let multiplied = action::multiply(pair, t_values, letter, f);
+    let multiplied = multiplier::multiply(pair, t_values, letter, f);
     let answer = multiplied.answer;
     let after = multiplied.pair;
     if answer != 0 {

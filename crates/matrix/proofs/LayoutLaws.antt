@@ -1,7 +1,7 @@
 -- Laws of the layout of an 8 by 8 matrix: each place has its row and column, and they their place; what an entry of
 -- `matrixOf f` is, matrices with the same entries are the same, a list of 64 is the matrix of its entries, and bounds
 -- on entries. Nothing above this file knows which entry is where.
-use Prim.Native.Nat.{ℕ, _+_, _*_, _<_}
+use Prim.Native.Nat.{ℕ, _<_}
 use mathlib.Core.Path.{_≡_, sym, ap, ap₂, _∙_}
 use mathlib.Core.List.{List}
 use native.Mathlib.Omega.{arith}

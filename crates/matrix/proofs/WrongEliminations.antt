@@ -1,7 +1,7 @@
 -- Wrong tests for an inverse are shut out by the contract: one that always says yes, one that always says no, and one
 -- that looks for the last column's pivot on the diagonal alone.
 use Prim.Native.Nat.{ℕ, _-_}
-use mathlib.Core.Path.{_≡_, refl, sym, ap, _∙_}
+use mathlib.Core.Path.{_≡_, refl, sym, _∙_}
 use mathlib.Core.Bool.{Bool, true, false, false≢true}
 use mathlib.Core.List.{List}
 use lib.ListN.{length, replicate}

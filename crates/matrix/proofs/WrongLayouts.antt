@@ -2,9 +2,9 @@
 -- comparison goes over two lists, and knows no row or column, so the wrong one is no edit of it.)
 use Prim.Native.Nat.{ℕ}
 use mathlib.Core.Path.{_≡_, refl, sym, _∙_}
-use mathlib.Core.Bool.{Bool, true, false, false≢true}
+use mathlib.Core.Bool.{Bool, false≢true}
 use mathlib.Core.List.{List, _∷_}
-use lib.ListN.{length, getD, replicate}
+use lib.ListN.{length, replicate}
 use Rattle.base.specs.Lists.{equal, valuesFrom}
 use Rattle.base.proofs.ListLaws.{equal-refl}
 use Rattle.matrix.specs.ByRows.{turned}

@@ -3,10 +3,8 @@ ghost use mathlib.Core.Path.{_≡_};
 ghost use Prim.Native.Nat.{_%_, _<_};
 ghost use Rattle.matrix.specs.Layout.{place, entry};
 
-mod elimination; // elimination.rt: has a matrix an inverse?
 mod product; // product.rt: the product of two matrices
 
-pub use elimination::both_invertible;
 pub use product::matrix_product;
 
 // The rows, and the columns.

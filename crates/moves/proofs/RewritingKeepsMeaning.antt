@@ -15,7 +15,7 @@ use Rattle.braid.specs.Words.{codes, wordAnswer, wordFile, Wrote}
 use Rattle.braid.proofs.RoundTrip.{wordFile-accepted, codes-wordFile, wrote-file}
 use Rattle.action.specs.declared.Pair.{Pair}
 use Rattle.action.specs.Action.{pairOf, wordOn}
-use Rattle.braid.specs.Strands.{isOrder}
+use Rattle.braid.specs.Strands.{inOrder, isOrder}
 use Rattle.operands.specs.Operands.{elements, nonzero}
 use Rattle.action.specs.Good.{TValues, GoodPair}
 use Rattle.action.proofs.GoodLaws.{tested-pair, tested-values}
@@ -24,7 +24,7 @@ use Rattle.key.specs.declared.Key.{Key}
 use Rattle.verify.specs.Verdict.{signed, signedOver}
 use Rattle.key.proofs.KeyFacts.{key-values, key-pair, key-field}
 use Rattle.verify.proofs.VerdictIff.{same-verdict, zero-or-14}
-use Rattle.crossing.specs.Crossings.{inOrder, crossings}
+use Rattle.crossing.specs.Crossings.{crossings}
 use Rattle.rewriting.specs.Rewriting.{rewritten, rewriterQuestions}
 use Rattle.moves.specs.Meaning.{SameMeaning, Rewrote}
 use Rattle.rewriting.proofs.Kept.{Kept, Carried}

@@ -19,7 +19,7 @@ pub fn rewrite(word: &[u8], moves: &[u8], out: &mut [u8]) -> Written
             bytes: 0,
         };
     }
-    let listed = rewriting::list_answer(moves);
+    let listed = move_list::list_answer(moves);
     if listed != 0 {
         return Written {
             answer: listed,
@@ -28,7 +28,7 @@ pub fn rewrite(word: &[u8], moves: &[u8], out: &mut [u8]) -> Written
     }
     let mut codes = [0u8; braid::MAX_LETTERS];
     braid::unpack(&word[2..], &mut codes);
-    let last = rewriting::all_moves(&mut codes, w.letters, moves);
+    let last = move_list::all_moves(&mut codes, w.letters, moves);
     if last.answer != 0 {
         return Written {
             answer: last.answer,

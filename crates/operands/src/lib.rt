@@ -1,10 +1,9 @@
-// Tests on T-values, entries and labels, for the questions of the multiplier and of keys.
-use field::Field;
+// Tests on T-values, entries and labels, for the questions of the multiplier, of keys and of cloaking.
 ghost use mathlib.Core.Path.{_≡_};
 ghost use lib.Dec.{eqb, ltb};
 ghost use Rattle.base.specs.Lists.{every, count, values};
 ghost use Rattle.braid.specs.Strands.{isOrder};
-ghost use Rattle.operands.specs.Operands.{elements, nonzero};
+ghost use Rattle.operands.specs.Operands.{fit, nonzero};
 
 fn all_below(xs: &[u8], limit: u8) -> bool
     ensures { λ r. ⌜ r ≡ every (λ x. ltb x limit) (now (xs .entry)) ⌝ }
@@ -20,14 +19,15 @@ fn all_below(xs: &[u8], limit: u8) -> bool
     true
 }
 
-// Is every number an element of the field?
-pub fn all_elements(xs: &[u8], f: Field) -> bool
-    ensures { λ r. ⌜ r ≡ elements f (now (xs .entry)) ⌝ }
+// Does every number fit so many bits? Every byte fits eight or more.
+pub fn all_fit(xs: &[u8], bits: usize) -> bool
+    ensures { λ r. ⌜ r ≡ fit bits (now (xs .entry)) ⌝ }
 {
-    match f {
-        Field::Gf32 => all_below(xs, 32),
-        Field::Gf256 => true, // every byte
+    if 8 <= bits {
+        return true;
     }
+    let limit: u8 = 1 << bits;
+    all_below(xs, limit)
 }
 
 // How often a number occurs.

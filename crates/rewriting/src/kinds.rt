@@ -156,25 +156,30 @@ fn try_insert(codes: &mut [u8], n: usize, place: usize, c: u8) -> Change
     }
 }
 
-// The move of a kind at a place.
-pub(crate) fn one_move(codes: &mut [u8], n: usize, kind: u8, place: usize) -> Change
+// The move of a kind at a place. Removals and insertions are told first: what comes and goes at one place takes most of
+// these.
+pub fn one_move(codes: &mut [u8], n: usize, kind: u8, place: usize) -> Change
     requires { ⌜ Holds n (now codes) × (place < 65536) ⌝ }
     ensures { λ r. ⌜ Makes (move kind place) n (now (codes .entry)) (now (codes .exit)) (r .answer) (r .letters) ⌝ }
 {
     if kind == 1 {
         return try_remove(codes, n, place);
     }
-    if kind == 2 {
-        return try_swap(codes, n, place);
-    }
-    if kind == 3 {
-        return try_braid(codes, n, place);
-    }
     if 16 <= kind {
         let c = kind - 16;
         if braid::is_letter(c) {
             return try_insert(codes, n, place, c);
         }
+        return Change {
+            answer: 21,
+            letters: n,
+        };
+    }
+    if kind == 2 {
+        return try_swap(codes, n, place);
+    }
+    if kind == 3 {
+        return try_braid(codes, n, place);
     }
     Change {
         answer: 21,

@@ -1,7 +1,7 @@
 -- Old promises are instances: under a key that has not 128 bytes the verdict and cloaking ask, and answer, what they
 -- did when there was one field, with 32 bytes of digest and GF(32) spelled.
 use Prim.Native.Nat.{ℕ}
-use mathlib.Core.Path.{_≡_, refl, sym, ap, ap₂, _∙_}
+use mathlib.Core.Path.{_≡_, sym, ap, ap₂, _∙_}
 use mathlib.Core.Bool.{Bool, cond, _&&_}
 use mathlib.Core.List.{List, [], _∷_, _++_}
 use borrow.Author.Tests.{ne-eqb}

@@ -18,9 +18,9 @@ ghost use Rattle.crossing.specs.Crossings.{Crosses};
 use action::Pair;
 use braid::Word;
 use braid::Written;
+use cloaking::Cloak;
 use crossing::Crossing;
 use field::Element;
-use verify::Cloak;
 
 // What the key reader gives: its answer, then whether its field is the larger one, T-values, the pair Pub(S) and the
 // matrix of Pub(S'), false and all zeros on a refusal.
@@ -75,7 +75,7 @@ pub extern "C" fn walnut_multiply(
 pub extern "C" fn walnut_read_key(file: &[u8]) -> KeyRead
     ensures { λ r. ⌜ ReadsKey (now (file .entry)) (r .answer) (keyFrom (r .large) (r .«t_values») (r .pair) (r .second)) ⌝ }
 {
-    let read = key::read_key(file);
+    let read = key_reader::read_key(file);
     let held = read.key;
     let answer = read.answer;
     let f = held.field;
@@ -161,7 +161,7 @@ pub extern "C" fn walnut_verify(key: &[u8], digest: &[u8], word: &[u8]) -> u8
 pub extern "C" fn walnut_cloaks(key: &[u8], labels: &[u8], word: &[u8]) -> Cloak
     ensures { λ r. ⌜ Cloaks (now (key .entry)) (now (labels .entry)) (now (word .entry)) (r .answer) (r .yes) ⌝ }
 {
-    verify::cloaks(key, labels, word)
+    cloaking::cloaks(key, labels, word)
 }
 
 #[no_mangle]

@@ -28,6 +28,15 @@ pub const LARGE_IDENTITY: &str = "01 00 00 00 00 00 00 00 00 01 00 00 00 00 00 0
                                   00 00 00 01 00 00 00 00 00 00 00 00 01 00 00 00 00 00 00 00 00 01 00 00 \
                                   00 00 00 00 00 00 01 00 01";
 
+/// The identity's 57 entries.
+pub fn identity_entries() -> [u8; 57] {
+    let mut entries = [0; 57];
+    for place in [0, 9, 18, 27, 36, 45, 54, 56] {
+        entries[place] = 1;
+    }
+    entries
+}
+
 /// A key with both matrices the identity, the list 0 to 7 and these five bytes of T-values.
 pub fn key_with_t_values(packed: &str) -> Vec<u8> {
     hex(&format!("08 00 20 {packed} {PACKED_IDENTITY} 05 39 77 {PACKED_IDENTITY}"))

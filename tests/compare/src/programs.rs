@@ -14,7 +14,10 @@ use std::process::{Command, Output, Stdio};
 use std::thread;
 use std::time::Duration;
 
-use crate::make::Maker;
+use reference::word::word_file;
+
+use crate::make::{files, Maker};
+use crate::paper::Operation;
 
 /// What is wrong, or nothing.
 type Checked<T = ()> = Result<T, String>;
@@ -49,6 +52,37 @@ fn ran(program: &Path, arguments: &[&OsStr], pieces: &[&[u8]]) -> Checked<Output
         true => Ok(output),
         false => Err(format!("{}: ended with {}\n", program.display(), output.status)),
     }
+}
+
+/// How often each pair of faults is drawn anew.
+const VARIANTS: usize = 10;
+
+/// The letters of words drawn at random, short of the longest.
+const LETTERS: usize = 300;
+
+/// Refused words, with each two faults that a word can have and each by itself; then words with letters that cancel, each
+/// of them damaged too.
+fn odd_words(maker: &mut Maker) -> Vec<Vec<u8>> {
+    let random = &mut maker.random;
+    let mut words = Vec::new();
+    let questions = Operation::ReadWord.questions();
+    for (place, first) in questions.iter().enumerate() {
+        for second in &questions[place..] {
+            for _ in 0..VARIANTS {
+                let letters = random.within(0, LETTERS);
+                let codes = random.word(letters);
+                words.push(files::word(random, &codes, &[*first, *second]));
+            }
+        }
+    }
+    for _ in 0..100 {
+        let letters = random.within(0, LETTERS);
+        let mut file = word_file(&random.tangled_word(letters));
+        words.push(file.clone());
+        files::damage(random, &mut file, false);
+        words.push(file);
+    }
+    words
 }
 
 /// Cases counted by the answer that the reference gives.

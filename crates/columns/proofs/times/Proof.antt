@@ -1,8 +1,7 @@
 -- `columns::times` meets its contract. The loop's invariant: the product by the bits before i, and the bits from i on.
 use Prim.Native.Nat.{ℕ, _+_, _-_, _≤_}
-use mathlib.Core.Path.{_≡_, refl, sym, ap, _∙_}
+use mathlib.Core.Path.{_≡_, ap, _∙_}
 use native.Mathlib.Omega.{arith}
-use borrow.Author.Needs.{needs}
 use lib.ListN.{getD}
 use Rattle.columns.specs.Lanes.{lane, chosen}
 use Rattle.columns.proofs.TimesLaws.{Multiplied, none-multiplied, next-multiplied, fits}

@@ -1,7 +1,6 @@
 -- `desk_line::judged` meets its contract: the cut of the field that the input names.
 use mathlib.Core.Path.{sym, _∙_}
 use mathlib.Core.Bool.{true, false}
-use native.Mathlib.Omega.{arith}
 use borrow.Author.Needs.{needs}
 use Rattle.desk_line.proofs.DeskLaws.{cut-for}
 use Rattle.desk_line.proofs.judged.Statement.{statement}

@@ -1,10 +1,7 @@
 -- `digest::append` meets its contract: three runs, each over what is too much of the last.
-use Prim.Native.Nat.{ℕ, _+_}
-use mathlib.Core.Path.{_≡_, refl, sym, ap, _∙_}
+use mathlib.Core.Path.{_∙_}
 use native.Mathlib.Omega.{arith}
 use borrow.Author.Needs.{needs}
-use lib.ListN.{take}
-use Rattle.digest.specs.Digest.{halfByteBraid}
 use Rattle.digest.proofs.HalfByte.{braid-length, braid-short}
 use Rattle.digest.proofs.RunLaws.{appended}
 use Rattle.digest.proofs.append.Statement.{statement}

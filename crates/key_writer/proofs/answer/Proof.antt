@@ -1,7 +1,8 @@
 -- `key_writer::answer` meets its contract: one question after another. `past-k`: the first k questions are passed, so
 -- the answer is that of the rest.
 use Prim.Native.Nat.{ℕ, _≤_, _<_}
-use mathlib.Core.Path.{_≡_, sym, ap₂, _∙_, subst}
+use mathlib.Core.Path.{_≡_, sym, ap, ap₂, _∙_, subst}
+use mathlib.Core.Bool.{_&&_}
 use mathlib.Core.List.{List}
 use borrow.Author.Tests.{le-leb, lt-leb, not-true, not-false}
 use borrow.Author.Needs.{needs}
@@ -9,7 +10,10 @@ use lib.ListN.{drop}
 use Rattle.base.specs.Questions.{Question, firstNo}
 use Rattle.base.proofs.QuestionLaws.{passes, fails}
 use Rattle.field.specs.Fields.{keyBytes}
+use Rattle.operands.specs.Operands.{elements, fit}
 use Rattle.key.specs.Keys.{wholeMatrix, bothInvertible, keyWriterQuestions}
+use Rattle.key.specs.Parts.{fileBytes}
+use Rattle.key.proofs.Widths.{file-bytes, told-width}
 use Rattle.key_writer.proofs.answer.Statement.{statement}
 use Rattle.key_writer.proofs.answer.Tie as tie
 
@@ -18,7 +22,7 @@ abbrev rest : ℕ → tie.Start → List Question
 rest k s = let a = s .args in drop k (keyWriterQuestions (a .f) (a .room) (a .ts .now) (a .order .now) (a .first .now) (a .second .now))
 
 -- where the function was entered
-abbrev at-2 : tie.After-all-elements → tie.Start
+abbrev at-2 : tie.After-all-fit → tie.Start
 at-2 c = c .before .before .before
 
 abbrev at-3 : tie.After-all-nonzero → tie.Start
@@ -36,14 +40,25 @@ at-6 c = at-5 (c .before .before .before .before .before .before)
 abbrev Past : ℕ → tie.Start → Type 0
 Past k s = firstNo (rest 0 s) ≡ firstNo (rest k s)
 
+-- the size asked for, and what fits the bits of an element
+size-is : (c : tie.After-file-bytes) → c .file-bytes .result ≡ keyBytes (c .before .args .f)
+size-is c = let s = c .before in c .file-bytes .ensures ∙ ap (λ (b : ℕ). fileBytes b) (s .pre) ∙ file-bytes (s .args .f)
+
+test-2 : (c : tie.After-all-fit) → let a = at-2 c .args in
+    elements (a .f) (a .ts .now) && elements (a .f) (a .first .now) && elements (a .f) (a .second .now) ≡ c .all-fit .result
+test-2 c =
+    let s = at-2 c in
+    let a = s .args in
+    sym (c .all-fit .ensures ∙ ap (λ (b : ℕ). fit b (a .ts .now) && fit b (a .first .now) && fit b (a .second .now)) (s .pre))
+
 past-1 : (c : tie.Else1) → Past 1 (c .before .before)
 past-1 c =
     let a = c .before .before .args in
     passes 16 (rest 1 (c .before .before))
-    (le-leb (keyBytes (a .f)) (a .room) (subst (λ (n : ℕ). n ≤ a .room) (c .before .key-bytes .ensures) (c .if1 .left)))
+    (le-leb (keyBytes (a .f)) (a .room) (subst (λ (n : ℕ). n ≤ a .room) (size-is (c .before)) (c .if1 .left)))
 
 past-2 : (c : tie.Else2) → Past 2 (at-2 (c .before))
-past-2 c = let b = c .before in past-1 (b .before) ∙ passes 17 (rest 2 (at-2 b)) (sym (b .all-elements .ensures) ∙ not-false _ (c .if2 .left))
+past-2 c = let b = c .before in past-1 (b .before) ∙ passes 17 (rest 2 (at-2 b)) (test-2 b ∙ not-false _ (c .if2 .left))
 
 past-3 : (c : tie.Else3) → Past 3 (at-3 (c .before))
 past-3 c = let b = c .before in past-2 (b .before .before) ∙ passes 4 (rest 3 (at-3 b)) (sym (b .all-nonzero .ensures) ∙ not-false _ (c .if3 .left))
@@ -59,10 +74,10 @@ returns c =
     let a = c .before .before .args in
     sym
     (fails 16 (rest 1 (c .before .before))
-    (lt-leb (keyBytes (a .f)) (a .room) (subst (λ (n : ℕ). a .room < n) (c .before .key-bytes .ensures) (c .if1 .taken))))
+    (lt-leb (keyBytes (a .f)) (a .room) (subst (λ (n : ℕ). a .room < n) (size-is (c .before)) (c .if1 .taken))))
 
 returns-2 : tie.Need-returns-2
-returns-2 c = let b = c .before in sym (past-1 (b .before) ∙ fails 17 (rest 2 (at-2 b)) (sym (b .all-elements .ensures) ∙ not-true _ (c .if2 .taken)))
+returns-2 c = let b = c .before in sym (past-1 (b .before) ∙ fails 17 (rest 2 (at-2 b)) (test-2 b ∙ not-true _ (c .if2 .taken)))
 
 returns-3 : tie.Need-returns-3
 returns-3 c = let b = c .before in sym (past-2 (b .before .before) ∙ fails 4 (rest 3 (at-3 b)) (sym (b .all-nonzero .ensures) ∙ not-true _ (c .if3 .taken)))
@@ -87,11 +102,14 @@ returns-7 : tie.Need-returns-7
 unfolding firstNo
 returns-7 c = let b = c .before in sym (past-5 (b .before .before .before .before .before) ∙ passes 26 (rest 6 (at-6 b)) (test-6 b ∙ not-false _ (c .if6 .left)))
 
+file-bytes-requires : tie.Need-file-bytes-requires
+file-bytes-requires c κs = told-width (c .args .f) (c .pre) .narrow
+
 pub answer-spec : {M : Type 1} → statement M
 answer-spec =
     tie.close
     (tie.spec
-    (λ c κs. search needs)
+    file-bytes-requires
     returns
     (λ c κs. search needs)
     returns-2

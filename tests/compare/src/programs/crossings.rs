@@ -7,19 +7,12 @@ use std::path::{Path, PathBuf};
 use reference::crossing::windings;
 use reference::word::{letters, word_answer, word_file};
 
-use crate::make::{files, Maker};
-use crate::paper::Operation;
-use crate::programs::{ran, Checked, Counts};
+use crate::make::Maker;
+use crate::programs::{odd_words, ran, Checked, Counts};
 use crate::show;
 
 /// The most that the program reads: the longest word file and one.
 const INPUT: usize = 5_003;
-
-/// How often each pair of faults is drawn anew.
-const VARIANTS: usize = 10;
-
-/// The letters of words drawn at random, short of the longest.
-const LETTERS: usize = 300;
 
 /// What the program must write.
 fn expected(input: &[u8]) -> String {
@@ -81,22 +74,7 @@ pub fn check(folder: &Path, maker: &mut Maker) -> Checked<String> {
             compare(programs, counts, &[&file, &vec![0; more]])?;
         }
     }
-    let questions = Operation::ReadWord.questions();
-    for (place, first) in questions.iter().enumerate() {
-        for second in &questions[place..] {
-            for _ in 0..VARIANTS {
-                let letters = maker.random.within(0, LETTERS);
-                let codes = maker.random.word(letters);
-                let file = files::word(&mut maker.random, &codes, &[*first, *second]);
-                compare(programs, counts, &[&file])?;
-            }
-        }
-    }
-    for _ in 0..100 {
-        let letters = maker.random.within(0, LETTERS);
-        let mut file = word_file(&maker.random.tangled_word(letters));
-        compare(programs, counts, &[&file])?;
-        files::damage(&mut maker.random, &mut file, false);
+    for file in odd_words(maker) {
         compare(programs, counts, &[&file])?;
     }
     counts.summary("crossings", &[0, 9, 10, 11, 12, 13])

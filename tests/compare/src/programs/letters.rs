@@ -5,16 +5,9 @@ use std::path::Path;
 
 use reference::word::{code_part, letters, word_answer, word_file, WordReader};
 
-use crate::make::{files, Maker};
-use crate::paper::Operation;
-use crate::programs::{ran, Checked, Counts};
+use crate::make::Maker;
+use crate::programs::{odd_words, ran, Checked, Counts};
 use crate::show;
-
-/// How often each pair of faults is drawn anew.
-const VARIANTS: usize = 10;
-
-/// The letters of words drawn at random, short of the longest.
-const LETTERS: usize = 300;
 
 /// A letter, or that none is left.
 fn letter(code: Option<u8>) -> String {
@@ -59,22 +52,7 @@ pub fn check(program: &Path, maker: &mut Maker) -> Checked<String> {
         let codes = maker.random.word(letters);
         compare(program, counts, &word_file(&codes))?;
     }
-    let questions = Operation::ReadWord.questions();
-    for (place, first) in questions.iter().enumerate() {
-        for second in &questions[place..] {
-            for _ in 0..VARIANTS {
-                let letters = maker.random.within(0, LETTERS);
-                let codes = maker.random.word(letters);
-                let file = files::word(&mut maker.random, &codes, &[*first, *second]);
-                compare(program, counts, &file)?;
-            }
-        }
-    }
-    for _ in 0..100 {
-        let letters = maker.random.within(0, LETTERS);
-        let mut file = word_file(&maker.random.tangled_word(letters));
-        compare(program, counts, &file)?;
-        files::damage(&mut maker.random, &mut file, false);
+    for file in odd_words(maker) {
         compare(program, counts, &file)?;
     }
     counts.summary("letters", &[0, 9, 10, 11, 12, 13])

@@ -3,7 +3,6 @@
 use Prim.Native.Nat.{_-_, _≤_}
 use mathlib.Core.Path.{_≡_}
 use native.Mathlib.Omega.{arith}
-use borrow.Author.Needs.{needs}
 use Rattle.field.specs.Polynomial.{polynomials}
 use Rattle.columns.specs.Constants.{AllFilled}
 use Rattle.columns.proofs.ConstantLaws.{none-row, next-row}

@@ -2,7 +2,6 @@
 use Prim.Native.Nat.{_-_, _≤_}
 use mathlib.Core.Path.{_≡_, refl}
 use native.Mathlib.Omega.{arith}
-use borrow.Author.Needs.{needs}
 use Rattle.columns.proofs.ColumnLaws.{Holding, none-held, next-held, all-held}
 use Rattle.columns.proofs.layout.columns_of.Statement.{statement}
 use Rattle.columns.proofs.layout.columns_of.Tie as tie

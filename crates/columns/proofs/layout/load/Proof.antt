@@ -1,11 +1,10 @@
 -- `columns::layout::load` meets its contract. The loop's invariant: the last i entries are the lanes so far.
 use Prim.Native.Nat.{ℕ, _-_, _≤_}
-use mathlib.Core.Path.{_≡_, refl, sym, ap, _∙_}
+use mathlib.Core.Path.{_≡_, ap, _∙_}
 use native.Mathlib.Omega.{arith}
 use borrow.Author.Needs.{needs}
 use lib.ListN.{getD}
 use Rattle.matrix.specs.Layout.{entry}
-use Rattle.columns.specs.Lanes.{lane}
 use Rattle.columns.proofs.ColumnLaws.{Loaded, none-loaded, next-loaded, all-loaded, load-fits}
 use Rattle.columns.proofs.layout.load.Statement.{statement}
 use Rattle.columns.proofs.layout.load.Tie as tie

@@ -2,7 +2,6 @@
 use Prim.Native.Nat.{_-_, _≤_}
 use mathlib.Core.Path.{_≡_, refl}
 use native.Mathlib.Omega.{arith}
-use borrow.Author.Needs.{needs}
 use Rattle.columns.proofs.ColumnLaws.{Restored, none-restored, next-restored, all-restored}
 use Rattle.columns.proofs.layout.matrix_of.Statement.{statement}
 use Rattle.columns.proofs.layout.matrix_of.Tie as tie

@@ -1,8 +1,7 @@
 -- `columns::layout::store` meets its contract. The loop's invariant: the first r lanes are stored.
-use Prim.Native.Nat.{ℕ, _-_, _≤_}
-use mathlib.Core.Path.{_≡_, refl, sym, ap, _∙_}
+use Prim.Native.Nat.{_-_, _≤_}
+use mathlib.Core.Path.{_≡_}
 use native.Mathlib.Omega.{arith}
-use borrow.Author.Needs.{needs}
 use Rattle.columns.proofs.ColumnLaws.{Storing, none-stored, next-stored, all-stored}
 use Rattle.columns.proofs.layout.store.Statement.{statement}
 use Rattle.columns.proofs.layout.store.Tie as tie

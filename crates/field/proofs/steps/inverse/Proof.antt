@@ -1,5 +1,5 @@
 -- `field::steps::inverse` meets its contract: the table's entry before the number's remainder, or 0.
-use Prim.Native.Nat.{ℕ, _+_}
+use Prim.Native.Nat.{_+_}
 use native.Mathlib.Nat.{mod-lt}
 use native.Mathlib.Omega.{arith}
 use lib.ListN.{length}

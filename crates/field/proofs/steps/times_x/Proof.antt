@@ -1,6 +1,6 @@
 -- `field::steps::times_x` meets its contract: one exclusive or with the polynomial where the degree is reached.
-use Prim.Native.Nat.{ℕ, suc, _*_, _/_, _^_, _<_, _≤_}
-use mathlib.Core.Path.{_≡_, sym}
+use Prim.Native.Nat.{suc, _*_, _/_, _^_, _≤_}
+use mathlib.Core.Path.{sym}
 use native.Mathlib.Omega.{arith}
 use lib.Pow.{pow-mono}
 use borrow.Author.Needs.{needs}

@@ -1,0 +1,98 @@
+-- `cloaking::cloaks` meets its contract: each refusal is that of its question, and where all are passed the pairs are
+-- compared.
+use Prim.Native.Nat.{ℕ}
+use mathlib.Core.Path.{_≡_, sym, ap, _∙_}
+use mathlib.Core.Bool.{true}
+use mathlib.Core.List.{List}
+use native.Mathlib.Omega.{arith}
+use borrow.Author.Tests.{not-true, not-false, eqb-true}
+use lib.ListN.{length}
+use Rattle.base.specs.Questions.{firstNo}
+use Rattle.base.proofs.ListLaws.{and-left}
+use Rattle.base.proofs.QuestionLaws.{fails, refused-there, granted-zero}
+use Rattle.field.specs.Fields.{operations}
+use Rattle.field.specs.declared.Field.{Field}
+use Rattle.braid.specs.Words.{codes, wordQuestions, wordAnswer}
+use Rattle.key.specs.declared.Key.{Key}
+use Rattle.key.specs.Keys.{keyQuestions, keyAnswer, keyOf}
+use Rattle.key.proofs.KeyFacts.{key-field}
+use Rattle.verify.specs.Cloaking.{comesBack, cloakQuestions}
+use Rattle.verify.proofs.CloakLaws.{isList, afterKey, past-key, past-list, refused, answered}
+use borrow.Author.Needs.{needs}
+use Rattle.cloaking.proofs.cloaks.Statement.{statement}
+use Rattle.cloaking.proofs.cloaks.Tie as tie
+
+module _ (s : tie.Start) where
+  abbrev key : List ℕ
+  key = s .args .key .now
+
+  abbrev order : List ℕ
+  order = s .args .labels .now
+
+  abbrev word : List ℕ
+  word = s .args .word .now
+
+abbrev at-1 : tie.Else1 → tie.Start
+at-1 c = c .before .before .before .before .before
+
+abbrev at-2 : tie.Else2 → tie.Start
+at-2 c = at-1 (c .before .before)
+
+abbrev at-3 : tie.Else3 → tie.Start
+at-3 c = at-2 (c .before .before)
+
+key-passed : (c : tie.Else1) → keyAnswer (key (at-1 c)) ≡ 0
+key-passed c = sym (c .before .read-key .ensures .answer-is) ∙ c .if1 .left
+
+list-passed : (c : tie.Else2) → isList (order (at-2 c)) ≡ true
+list-passed c = sym (c .before .is-list .ensures) ∙ not-false _ (c .if2 .left)
+
+word-passed : (c : tie.Else3) → wordAnswer (word (at-3 c)) ≡ 0
+word-passed c = sym (c .before .read-word .ensures .answer-is) ∙ c .if3 .left
+
+past-2 : (c : tie.Else2) → let s = at-2 c in firstNo (cloakQuestions (key s) (order s) (word s)) ≡ wordAnswer (word s)
+past-2 c = let s = at-2 c in past-list (key s) (order s) (word s) (key-passed (c .before .before)) (list-passed c)
+
+returns : tie.Need-returns
+unfolding keyAnswer
+returns c =
+    let s = c .before .before .before .before .before in
+    let e = c .before .read-key .ensures .answer-is in
+    refused (key s) (order s) (word s)
+    (refused-there (keyQuestions (key s)) (afterKey (order s) (word s)) tt (λ z. c .if1 .taken (e ∙ z)) ∙ sym e) (c .if1 .taken)
+
+returns-2 : tie.Need-returns-2
+returns-2 c =
+    let l = c .before in
+    let s = at-1 (l .before) in
+    refused (key s) (order s) (word s)
+    (past-key (key s) (order s) (word s) (key-passed (l .before)) ∙ fails 25 (wordQuestions (word s)) (sym (l .is-list .ensures) ∙ not-true _ (c .if2 .taken)))
+    (omega arith)
+
+returns-3 : tie.Need-returns-3
+returns-3 c =
+    let w = c .before in
+    let s = at-2 (w .before) in
+    refused (key s) (order s) (word s) (past-2 (w .before) ∙ sym (w .read-word .ensures .answer-is)) (c .if3 .taken)
+
+comes-back-requires : tie.Need-comes-back-requires
+comes-back-requires c κs =
+    let e = c .before .before .before in
+    let w = e .before in
+    (eqb-true (length (order (at-3 e))) 8 (and-left _ _ (list-passed (w .before))), word-passed e, w .read-word .ensures .count-is)
+
+returns-4 : tie.Need-returns-4
+returns-4 c =
+    let e = c .before .before .before .before in
+    let l = e .before .before in
+    let k = l .before .before in
+    let s = at-3 e in
+    let key-is = k .before .read-key .ensures .key-is ∙ granted-zero _ _ (key-passed k) in
+    answered (key s) (order s) (word s) (past-2 l ∙ word-passed e)
+    (c .comes-back .ensures ∙ ap (λ (q : Key). comesBack (operations (q .field)) (q .«t_values») (order s) (codes (word s))) key-is
+    ∙ ap (λ (f : Field). comesBack (operations f) (keyOf (key s) .«t_values») (order s) (codes (word s))) (key-field (key s)))
+
+pub cloaks-spec : {M : Type 1} → statement M
+cloaks-spec =
+    tie.close
+    (tie.spec (λ c κs. search needs) returns (λ c κs. search needs) returns-2 (λ c κs. search needs) returns-3 comes-back-requires returns-4)

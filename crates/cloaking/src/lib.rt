@@ -1,0 +1,99 @@
+// Cloaking: does a word bring the identity matrix with a list back unchanged?
+use action::Pair;
+use field::Field;
+ghost use mathlib.Core.Path.{_≡_};
+ghost use mathlib.Core.Bool.{_&&_};
+ghost use lib.Dec.{eqb};
+ghost use lib.ListN.{length};
+ghost use Rattle.field.specs.Fields.{operations};
+ghost use Rattle.braid.specs.Words.{codes, letters, wordAnswer};
+ghost use Rattle.braid.specs.Strands.{isOrder};
+ghost use Rattle.verify.specs.Cloaking.{comesBack, Cloaks};
+
+// An answer, and yes or no: no on a refusal.
+#[repr(C)]
+pub struct Cloak {
+    pub answer: u8,
+    pub yes: bool,
+}
+
+// Is the list 8 bytes, 0 to 7 each once?
+fn is_list(labels: &[u8]) -> bool
+    ensures { λ r. ⌜ r ≡ (eqb (length (now (labels .entry))) 8 && isOrder (now (labels .entry))) ⌝ }
+{
+    if labels.len() != Pair::STRANDS {
+        return false;
+    }
+    operands::is_order(labels)
+}
+
+// Eight labels as an array.
+fn eight(labels: &[u8]) -> [u8; 8]
+    requires { ⌜ length (now labels) ≡ 8 ⌝ }
+    ensures { λ r. ⌜ r ≡ now (labels .entry) ⌝ }
+{
+    [
+        labels[0],
+        labels[1],
+        labels[2],
+        labels[3],
+        labels[4],
+        labels[5],
+        labels[6],
+        labels[7],
+    ]
+}
+
+// Does an accepted word of n letters bring the identity matrix with the list back, list included?
+fn comes_back(t_values: &[u8; 8], labels: &[u8], word: &[u8], n: usize, f: Field) -> bool
+    requires { ⌜ (length (now labels) ≡ 8) × (wordAnswer (now word) ≡ 0) × (n ≡ length (letters (now word))) ⌝ }
+    ensures { λ r. ⌜ r ≡ comesBack (operations f) (now («t_values» .entry)) (now (labels .entry)) (codes (now (word .entry))) ⌝ }
+{
+    let start = Pair::start();
+    let identity = start.matrix;
+    let order = eight(labels);
+    let before = Pair::with(identity, order);
+    let after = carrying::carry_file(before, t_values, word, n, f);
+    let matrix = after.matrix;
+    let list = after.labels;
+    if !base::equal(&matrix, &identity) {
+        return false;
+    }
+    base::equal(&list, labels)
+}
+
+// Cloaking: the key's questions, 25, the word's.
+pub fn cloaks(key: &[u8], labels: &[u8], word: &[u8]) -> Cloak
+    ensures { λ r. ⌜ Cloaks (now (key .entry)) (now (labels .entry)) (now (word .entry)) (r .answer) (r .yes) ⌝ }
+{
+    let read = key_reader::read_key(key);
+    let refusal = read.answer;
+    if refusal != 0 {
+        return Cloak {
+            answer: refusal,
+            yes: false,
+        };
+    }
+    if !is_list(labels) {
+        return Cloak {
+            answer: 25,
+            yes: false,
+        };
+    }
+    let word_read = braid::read_word(word);
+    let refused = word_read.answer;
+    if refused != 0 {
+        return Cloak {
+            answer: refused,
+            yes: false,
+        };
+    }
+    let held = read.key;
+    let f = held.field;
+    let t_values = held.t_values;
+    let n = word_read.letters;
+    Cloak {
+        answer: 0,
+        yes: comes_back(&t_values, labels, word, n, f),
+    }
+}

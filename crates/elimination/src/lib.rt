@@ -1,0 +1,176 @@
+// Elimination: has a matrix an inverse? The last column is cleared first, in place.
+use field::Field;
+use field::inverse;
+use logarithms::logarithm;
+use logarithms::product_of;
+use logarithms::times;
+use matrix::SIZE;
+use matrix::place;
+ghost use mathlib.Core.Path.{_≡_};
+ghost use mathlib.Core.Bool.{_&&_};
+ghost use Prim.Native.Nat.{_+_, _<_, _≤_};
+ghost use lib.ListN.{length};
+ghost use Rattle.field.specs.Fields.{bits, modulus, operations};
+ghost use Rattle.field.specs.Reciprocals.{reciprocals};
+ghost use Rattle.logarithms.specs.Logarithms.{ProductsBy, LogarithmsOf};
+ghost use Rattle.matrix.specs.Layout.{entry};
+ghost use Rattle.matrix.specs.Elimination.{pivot, invertible};
+ghost use Rattle.matrix.specs.Sweeping.{Raised, RowGained, gain, Swept};
+
+// The last of the rows 0 to n whose entry in column n is not zero; 0 if there is none.
+fn pivot_row(m: &[u8; 64], n: usize) -> usize
+    requires { ⌜ n < 8 ⌝ }
+    ensures { λ r. ⌜ (r ≡ pivot (λ i. entry (now (m .entry)) i n) n) × (r ≤ n) ⌝ }
+{
+    let mut p = n;
+    while 0 < p {
+        let x = m[place(p, n)];
+        if x != 0 {
+            return p;
+        }
+        p -= 1;
+    }
+    p
+}
+
+// Rows p and n change places. Gives the logarithms of the row that was row p.
+fn raise(m: &mut [u8; 64], table: &[u16], p: usize, n: usize, f: Field) -> [usize; 8]
+    requires { ⌜ (length (now m) ≡ 64) × ProductsBy f (now table) × (p ≤ n) × (n < 8) ⌝ }
+    ensures { λ r.
+        ⌜
+        Raised n p (n + 1) (now (m .entry)) (now (m .exit))
+        × (length r ≡ 8)
+        × LogarithmsOf (now (table .entry)) (entry (now (m .entry)) p) (n + 1) r
+        ⌝ }
+{
+    let mut logs = [0usize; 8];
+    let mut j = 0;
+    while j <= n {
+        let own = place(p, j);
+        let last = place(n, j);
+        let x = m[own];
+        logs[j] = logarithm(x, table, f);
+        m[own] = m[last];
+        m[last] = x;
+        j += 1;
+    }
+    logs
+}
+
+// Row i gains q times its entry of column n times row n, whose logarithms are lent, in the columns before n.
+fn sweep_row(m: &mut [u8; 64], table: &[u16], row: &[usize; 8], q: u8, i: usize, n: usize, f: Field)
+    requires { ⌜
+        (length (now m) ≡ 64)
+        × ProductsBy f (now table)
+        × LogarithmsOf (now table) (entry (now m) n) n (now row)
+        × (i < n)
+        × (n < 8)
+        ⌝ }
+    ensures { λ _. ⌜ RowGained (operations f) (gain (operations f) q n (now (m .entry)) i) i n (now (m .entry)) (now (m .exit)) ⌝ }
+{
+    let x = m[place(i, n)];
+    let factor = times(q, x, table, f);
+    let k = logarithm(factor, table, f);
+    let mut j = 0;
+    while j < n {
+        let at = place(i, j);
+        let y = row[j];
+        m[at] = m[at] ^ product_of(k, y, table, f);
+        j += 1;
+    }
+}
+
+// So do all rows before row n.
+fn sweep(m: &mut [u8; 64], table: &[u16], row: &[usize; 8], q: u8, n: usize, f: Field)
+    requires { ⌜
+        (length (now m) ≡ 64)
+        × ProductsBy f (now table)
+        × LogarithmsOf (now table) (entry (now m) n) n (now row)
+        × (n < 8)
+        ⌝ }
+    ensures { λ _. ⌜ Swept (operations f) q n n (now (m .entry)) (now (m .exit)) ⌝ }
+{
+    let mut i = 0;
+    while i < n {
+        sweep_row(m, table, row, q, i, n, f);
+        i += 1;
+    }
+}
+
+// Column n cleared by its pivot's row, which goes; false where it has no pivot.
+fn clear(m: &mut [u8; 64], table: &[u16], inverses: &[u8], n: usize, f: Field) -> bool
+    requires { ⌜
+        (length (now m) ≡ 64)
+        × ProductsBy f (now table)
+        × (now inverses ≡ reciprocals (bits f) (modulus f))
+        × (n < 8)
+        ⌝ }
+    ensures { λ r.
+        ⌜
+        (length (now (m .exit)) ≡ 64)
+        × (invertible (operations f) (n + 1) (entry (now (m .entry))) ≡ r && invertible (operations f) n (entry (now (m .exit))))
+        ⌝ }
+{
+    let p = pivot_row(m, n);
+    let x = m[place(p, n)];
+    if x == 0 {
+        return false;
+    }
+    let q = inverse(x, inverses);
+    let row = raise(m, table, p, n, f);
+    sweep(m, table, &row, q, n, f);
+    true
+}
+
+// Has the matrix an inverse? By the lent tables of the field.
+fn eliminated(m: [u8; 64], table: &[u16], inverses: &[u8], f: Field) -> bool
+    requires { ⌜ ProductsBy f (now table) × (now inverses ≡ reciprocals (bits f) (modulus f)) ⌝ }
+    ensures { λ r. ⌜ r ≡ invertible (operations f) 8 (entry m) ⌝ }
+{
+    let mut a = m;
+    let mut n = SIZE;
+    while 0 < n {
+        n -= 1;
+        let found = clear(&mut a, table, inverses, n, f);
+        if !found {
+            return false;
+        }
+    }
+    true
+}
+
+// Has each of two matrices an inverse?
+fn both_eliminated(
+    first: [u8; 64],
+    second: [u8; 64],
+    table: &[u16],
+    inverses: &[u8],
+    f: Field,
+) -> bool
+    requires { ⌜ ProductsBy f (now table) × (now inverses ≡ reciprocals (bits f) (modulus f)) ⌝ }
+    ensures { λ r. ⌜ r ≡ (invertible (operations f) 8 (entry first) && invertible (operations f) 8 (entry second)) ⌝ }
+{
+    if !eliminated(first, table, inverses, f) {
+        return false;
+    }
+    eliminated(second, table, inverses, f)
+}
+
+// Has each of two matrices an inverse? The tables are copied once for both. Of a number past the field's size products
+// and reciprocals read the low bits, sums and the test for zero all.
+pub fn both_invertible(first: [u8; 64], second: [u8; 64], f: Field) -> bool
+    ensures { λ r. ⌜ r ≡ (invertible (operations f) 8 (entry first) && invertible (operations f) 8 (entry second)) ⌝ }
+{
+    match f {
+        Field::Gf32 => {
+            let table = logarithms::small_logarithms();
+            let inverses = field::small_reciprocals();
+            both_eliminated(first, second, &table, &inverses, f)
+        }
+        Field::Gf256 => {
+            let table = logarithms::large_logarithms();
+            let inverses = field::large_reciprocals();
+            both_eliminated(first, second, &table, &inverses, f)
+        }
+    }
+}

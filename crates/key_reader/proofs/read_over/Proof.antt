@@ -1,0 +1,122 @@
+-- `key_reader::read_over` meets its contract: the questions that ask no more than the bits of an element, then 26 of
+-- the matrices that were read; the key, or zeros.
+use Prim.Native.Nat.{ℕ}
+use mathlib.Core.Path.{_≡_, sym, ap, _∙_}
+use mathlib.Core.List.{List, [], _∷_, _++_}
+use native.Mathlib.Omega.{arith}
+use borrow.Author.Tests.{not-true, not-false}
+use lib.ListN.{length}
+use Rattle.base.specs.Questions.{Question, _else_, firstNo}
+use Rattle.base.proofs.QuestionLaws.{all-passed, refused-there, passes, fails, granted-zero, granted-refused}
+use Rattle.field.specs.Fields.{bits, keyBytes}
+use Rattle.field.specs.declared.Field.{Field}
+use Rattle.key.specs.declared.Key.{Key}
+use Rattle.key.specs.Keys.{keyField, entries, firstBytes, secondBytes, wholeMatrix, bothInvertible, partQuestions, keyQuestionsOver, keyAnswer, keyParts, keyOf, zeroKey}
+use Rattle.key.proofs.Widths.{told-width, told-bytes, eitherLength, length-passes}
+use borrow.Author.Needs.{needs}
+use Rattle.key_reader.proofs.read_over.Statement.{statement}
+use Rattle.key_reader.proofs.read_over.Tie as tie
+
+-- the last question
+abbrev last : Field → List ℕ → List Question
+last f file =
+    let b = bits f in (bothInvertible f (wholeMatrix (entries b (firstBytes b file))) (wholeMatrix (entries b (secondBytes b file))) else 26) ∷ []
+
+-- the length is the field's: the answer is that of the rest
+asked : (f : Field) (file : List ℕ) → f ≡ keyField file → length file ≡ keyBytes f → keyAnswer file ≡ firstNo (partQuestions (bits f) file ++ last f file)
+unfolding keyAnswer
+asked f file e l =
+    ap (λ (g : Field). firstNo (keyQuestionsOver g file)) (sym e)
+    ∙ passes 1 (partQuestions (bits f) file ++ last f file) (ap (λ (n : ℕ). eitherLength n) l ∙ length-passes f)
+
+-- where the function was entered, and what was found
+abbrev start : tie.After-bits-of → tie.Start
+start b = b .before .before
+
+abbrev field : tie.After-bits-of → Field
+field b = start b .args .f
+
+abbrev file : tie.After-bits-of → List ℕ
+file b = start b .args .file .now
+
+answer-is : (a : tie.After-answer) → let b = a .before in a .answer .result ≡ firstNo (partQuestions (bits (field b)) (file b))
+answer-is a =
+    let b = a .before in a .answer .ensures ∙ ap (λ (n : ℕ). firstNo (partQuestions n (file b))) (b .bits-of .ensures)
+
+asked-here : (b : tie.After-bits-of) → keyAnswer (file b) ≡ firstNo (partQuestions (bits (field b)) (file b) ++ last (field b) (file b))
+asked-here b = asked (field b) (file b) (start b .pre .0) (start b .pre .1)
+
+held : (b : tie.After-bits-of) → keyParts (field b) (bits (field b)) (file b) ≡ keyOf (file b)
+unfolding keyOf
+held b = ap (λ (f : Field). keyParts f (bits f) (file b)) (start b .pre .0)
+
+past-7 : (c : tie.Else1) → let b = c .before .before in keyAnswer (file b) ≡ firstNo (last (field b) (file b))
+past-7 c =
+    let b = c .before .before in
+    asked-here b ∙ all-passed (partQuestions (bits (field b)) (file b)) (last (field b) (file b)) tt (sym (answer-is (c .before)) ∙ c .if1 .left)
+
+abbrev at-7 : tie.After-both-invertible → tie.Else1
+at-7 c = c .before .before .before .before .before
+
+key-is : (k : tie.After-key-of) → let b = k .before .before .before in k .key-of .result ≡ keyParts (field b) (bits (field b)) (file b)
+key-is k =
+    let b = k .before .before .before in
+    k .key-of .ensures ∙ ap (λ (n : ℕ). keyParts (field b) n (file b)) (b .bits-of .ensures)
+
+found : (c : tie.After-both-invertible) → let b = at-7 c .before .before in let n = bits (field b) in
+    bothInvertible (field b) (wholeMatrix (entries n (firstBytes n (file b)))) (wholeMatrix (entries n (secondBytes n (file b)))) ≡ c .both-invertible .result
+found c =
+    let b = at-7 c .before .before in
+    sym (c .both-invertible .ensures ∙ ap (λ (k : Key). bothInvertible (field b) (k .pair .matrix) (k .second)) (key-is (c .before .before .before .before)))
+
+answer-requires : tie.Need-answer-requires
+answer-requires c κs = (told-width (field c) (c .bits-of .ensures), told-bytes (field c) (c .bits-of .ensures) (start c .pre .1))
+
+returns : tie.Need-returns
+returns c =
+    let a = c .before .before in
+    let b = a .before in
+    let f = field b in
+    let is : a .answer .result ≡ keyAnswer (file b) =
+    answer-is a
+    ∙ sym (asked-here b ∙ refused-there (partQuestions (bits f) (file b)) (last f (file b)) tt (λ z. c .before .if1 .taken (answer-is a ∙ z))) in
+    record {
+      answer-is = is;
+      key-is = c .zero-key .ensures ∙ sym (granted-refused (keyOf (file b)) zeroKey (λ z. c .before .if1 .taken (is ∙ z)));
+    }
+
+key-of-requires : tie.Need-key-of-requires
+key-of-requires c κs =
+    let b = c .before .before in (told-width (field b) (b .bits-of .ensures), told-bytes (field b) (b .bits-of .ensures) (start b .pre .1))
+
+returns-2 : tie.Need-returns-2
+returns-2 c =
+    let i = c .before .before in
+    let b = at-7 i .before .before in
+    let is : 26 ≡ keyAnswer (file b) = sym (past-7 (at-7 i) ∙ fails 26 [] (found i ∙ not-true _ (c .before .if2 .taken))) in
+    record { answer-is = is; key-is = c .zero-key2 .ensures ∙ sym (granted-refused (keyOf (file b)) zeroKey (λ z. omega arith)) }
+
+returns-3 : tie.Need-returns-3
+unfolding firstNo
+returns-3 c =
+    let i = c .before in
+    let b = at-7 i .before .before in
+    let zero : keyAnswer (file b) ≡ 0 = past-7 (at-7 i) ∙ passes 26 [] (found i ∙ not-false _ (c .if2 .left)) in
+    record {
+      answer-is = at-7 i .if1 .left ∙ sym zero;
+      key-is = key-is (i .before .before .before .before) ∙ held b ∙ sym (granted-zero (keyOf (file b)) zeroKey zero);
+    }
+
+pub read-over-spec : {M : Type 1} → statement M
+read-over-spec =
+    tie.close
+    (tie.spec
+    (λ c κs. search needs)
+    answer-requires
+    (λ c κs. search needs)
+    returns
+    key-of-requires
+    (λ c κs. search needs)
+    (λ c κs. search needs)
+    returns-2
+    returns-3)
