@@ -3,7 +3,7 @@
 
 # what is counted
 declare -A refusals=()
-slips=0 opened=0 unread=0 unwritten=0 unjudged=0 before=0 after=0 ended=yes
+slips=0 opened=0 unread=0 unwritten=0 unjudged=0 before=0 after=0 ended=yes on_disk=yes
 
 # on a terminal, how far it is
 progress() { [ -t 2 ] && printf '\r%s: %s of %s slips' "$name" "$slips" "$1" >&2; }
@@ -31,6 +31,11 @@ slip() { # NAME
     slips=$((slips + 1))
     no_progress
     put "$1: $line"
+    # what is wrong with the key is told once, in the end
+    case $line in
+        'answer '[1-7] | 'answer 26' | 'no'*) ;;
+        *) about_slip "$answer" "$key" "$folder/$1.digest" "$folder/$1.sig" ;;
+    esac
     [ ! -f "$folder/$1.new" ] || say "an older $1.new is still there"
     return 0
 }
@@ -41,7 +46,7 @@ some() { # ALL NAME..
     shift
     for each in "$@"; do
         new=$folder/$each.new
-        fault_of "$new" || { say "$fault"; new+=/.; }
+        fault_of "$new" "$key" || { say "$fault"; new+=/.; }
         arguments+=("$folder/$each.digest" "$folder/$each.sig" "$new")
     done
     local done=0 line
@@ -67,12 +72,15 @@ summary() {
     for number in $(printf '%s\n' "${!refusals[@]}" | sort -n); do
         put "refused with $number: ${refusals[$number]}"
         told "$number"
+        case $number in [1-7] | 26) about_key "$number" "$key"; hex_hint "$key" ;; esac
     done
+    [ "$on_disk" = yes ] || say "'$folder' could not be written to its disk: make room, and shorten again"
     if [ "$unjudged" -ne 0 ] || [ "$ended" = no ]; then
         say "$unjudged slips were not judged: the program did not run to its end"
         exit 3
     fi
     [ $((unread + unwritten)) -eq 0 ] || { say "some files could not be read or written: see above"; exit 1; }
+    [ "$on_disk" = yes ] || exit 1
     [ "$refused" -eq 0 ] || exit 4
 }
 
@@ -88,12 +96,13 @@ slip_names() {
 
 shorten_all() { # FOLDER KEY
     folder=$1 key=$2
+    [ ! -f "$1" ] || [ ! -d "$2" ] || say "the names look to be in the wrong order; the order is FOLDER KEY"
     if [ ! -d "$folder" ] || [ ! -r "$folder" ]; then
-        say "'$folder' is no folder that can be read"
+        say "'$folder' is no folder that can be read: mend the name"
         exit 1
     fi
     if [ ! -f "$key" ] || [ ! -r "$key" ]; then
-        say "'$key' is no file that can be read"
+        say "'$key' is no file that can be read: mend the name, or fetch the key again"
         exit 1
     fi
     need programs
@@ -102,7 +111,7 @@ shorten_all() { # FOLDER KEY
         names+=("$each")
     done < <(slip_names | LC_ALL=C sort -zu)
     if [ ${#names[@]} -eq 0 ]; then
-        say "'$folder' holds no NAME.digest and NAME.sig"
+        say "'$folder' holds no NAME.digest and NAME.sig: name the folder that the slips are in"
         exit 1
     fi
     beside_place "$folder/"
@@ -119,6 +128,6 @@ shorten_all() { # FOLDER KEY
     done
     [ ${#some[@]} -eq 0 ] || some "${#names[@]}" "${some[@]}"
     # the program waits for no file of many: all of them reach the disk before the summary
-    sync -f -- "$folder" || { say "'$folder' could not be written to its disk"; exit 1; }
+    sync -f -- "$folder" || on_disk=no
     summary
 }

@@ -60,17 +60,27 @@ hex_hint() {
     done
 }
 
+# a file that looks to be of another kind than the one wanted: a key, a word, or moves
+kind_hint() { # WANTED FILE
+    local kind
+    for kind in key word moves; do
+        if [ "$kind" != "$1" ] && ! "is_$1" "$2" && "is_$kind" "$2"; then
+            say "'$2' is as long as a file of the kind '$kind': ./walnut show $kind ${2@Q}"
+        fi
+    done
+}
+
 # ---- which file an answer is about
 
 about_key() { # ANSWER KEY
     local n told
     n=$(size "$2") || return 0
     case $1 in
-        2) told="byte 0: $(($(first_two "$2") / 256)) strands, and not 8" ;;
-        3) told="bytes 1 and 2: q is $(first_two "$2" 1); a key of $n bytes has q = ${elements[$n]-}" ;;
-        *) told="$(count "$n" byte); a key has $(key_sizes)" ;;
+        2) told="; byte 0: $(($(first_two "$2") / 256)) strands, and not 8" ;;
+        3) told="; bytes 1 and 2: q is $(first_two "$2" 1); a key of $n bytes has q = ${elements[$n]-}" ;;
+        *) told="; a key has $(key_sizes)" ;;
     esac
-    say "the key is '$2', $told; for more: ./walnut show key ${2@Q}"
+    say "the key is '$2', $(count "$n" byte)$told; for more: ./walnut show key ${2@Q}"
 }
 
 about_digest() { # KEY DIGEST
@@ -97,6 +107,13 @@ about_moves() { # MOVES WORD
     about_stated 'move list' "$1" move moves_bytes "for which fails: ./walnut show moves ${1@Q} ${2@Q}"
 }
 
+# which files were judged
+about_all() { # KEY DIGEST SIGNATURE
+    local key digest word
+    key=$(size "$1") && digest=$(size "$2") && word=$(size "$3") || return 0
+    say "the key is '$1', $key bytes, the digest '$2', $digest bytes, and the word '$3', $word bytes"
+}
+
 # three files that are key, digest and word in another order
 slip_order() {
     is_key "$1" && is_digest "$2" && is_word "$3" && return 0
@@ -119,6 +136,7 @@ about_slip() { # ANSWER KEY DIGEST SIGNATURE
         [1-7] | 26) about_key "$answer" "$1" ;;
         8) about_digest "$1" "$2" ;;
         9 | 1[0-3]) about_word "$3" ;;
+        14) about_all "$@" ;;
     esac
     hex_hint "$@"
     slip_order "$@"
@@ -139,4 +157,12 @@ about_rewrite() { # ANSWER WORD MOVES
 about_reduce() { # ANSWER WORD
     about_word "$2"
     hex_hint "$2"
+    kind_hint word "$2"
+}
+
+# a refused slip end to end on standard input, where that is a file
+about_input() {
+    local n
+    n=$(size /dev/stdin) || return 0
+    say "standard input has $(count "$n" byte); a slip has a key, $(key_sizes), its digest, $(digest_sizes), and a word"
 }

@@ -1,5 +1,5 @@
-//! The key reader, the verdict, cloaking, the lent multiplier, the rewriter, free reduction and crossings in plain Rust,
-//! as one would write them by hand: for the library's times to stand beside.
+//! The key reader, the verdict, cloaking, the lent multiplier, the rewriter, free reduction and crossings in plain
+//! Rust, as one would write them by hand: for the library's times to stand beside.
 
 use std::hint::black_box;
 

@@ -208,8 +208,8 @@ fn slip(random: &mut Random, field: Field, letters: usize) -> Work {
     Work::Verdict(accepted(random, field, &codes))
 }
 
-/// A word of 10,000 letters that cloaks: 5,000 letters, and the way back. The C goes over rows of bytes, or over columns
-/// of 64 bits as the library does.
+/// A word of 10,000 letters that cloaks: 5,000 letters, and the way back. The C goes over rows of bytes, or over
+/// columns of 64 bits as the library does.
 fn cloaking(random: &mut Random, field: Field, by_columns: bool) -> Work {
     let there = random.word(LONGEST / 2);
     let back = there.iter().rev().map(|code| code ^ 8);

@@ -138,6 +138,7 @@ class Crossings(Case):
         self.raised(ValueError, "b: -1 is no byte", walnut.crossings, bytes(2), 0, -1)
         self.raised(TypeError, "word: bytes are needed", walnut.crossings, "0000", 0, 1)
         self.raised(TypeError, "b: a whole number is needed, not str", walnut.crossings, bytes(2), 0, "1")
+        self.raised(TypeError, "row: a whole number is needed, not str", walnut.place, "1", 2)
 
 
 class Moves(Case):

@@ -395,6 +395,7 @@ def _moves_asked(file: bytes) -> bytes:
 def place(row: int, column: int) -> int:
     """Where the entry in a row and a column of a matrix stands, both counted from 1 to 8: every matrix lies column by
     column, the first one first."""
+    row, column = _index(row, "row"), _index(column, "column")
     if not (1 <= row <= 8 and 1 <= column <= 8):
         raise ValueError(f"rows and columns count from 1 to 8, not {row} and {column}")
     return 8 * (column - 1) + (row - 1)

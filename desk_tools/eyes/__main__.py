@@ -1,6 +1,6 @@
 """Files for people: shown in words, spelled back, drawn. Called by ./walnut, which checks the arguments.
 
-Every fact comes from the proved library, through its binding; what is printed and drawn is not proved.
+Every answer comes from the proved library, through its binding; what is printed and drawn is not proved.
 Exit status: 0 done; 4 a refusal; 1 a file could not be read or written; 3 the library could not be loaded.
 """
 
@@ -13,7 +13,7 @@ sys.path.insert(0, os.path.join(ROOT, "bindings", "python"))
 try:
     import walnut
 except OSError as error:
-    print(f"walnut: the library could not be loaded: {error}", file=sys.stderr)
+    print(f"walnut: the library could not be loaded: {error}; './library' builds it again", file=sys.stderr)
     sys.exit(3)
 
 import draw
@@ -50,6 +50,7 @@ def main(verb, *arguments):
         # nothing more can be written where standard output was closed
         sys.stdout = None
         say(f"{error.filename or 'standard output'}: {error.strerror}")
+        say("what is named above could not be read or written: mend the name, choose another place, or make room")
         return 1
 
 

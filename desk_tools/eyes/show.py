@@ -44,7 +44,8 @@ def word(path):
 def word_fault(path, file, size, answer):
     """Where a refused word fails, and what stands there."""
     letters = int.from_bytes(file[:2], "big")
-    stated = f"'{path}', bytes 0 and 1: {file[:2].hex(' ')}, so it states {count(letters, 'letter')}"
+    at = f"'{path}', {count(size, 'byte')}, "
+    stated = at + f"bytes 0 and 1: {file[:2].hex(' ')}, so it states {count(letters, 'letter')}"
     if answer == 9:
         return [f"'{path}' has {count(size, 'byte')}"]
     if answer == 10:
@@ -55,7 +56,7 @@ def word_fault(path, file, size, answer):
         place = next(k for k in range(letters) if files.half(file[2:], k) % 8 == 7)
         code, byte = files.half(file[2:], place), 2 + place // 2
         told = f"so the letter at place {place} has the code {code}; 7 and 15 are no letters"
-        return [f"'{path}', byte {byte}: {file[byte]:02x}, {told}"]
+        return [at + f"byte {byte}: {file[byte]:02x}, {told}"]
     return [f"{stated}; byte {size - 1}: {file[-1]:02x}, whose low half is no letter's and must be 0"]
 
 
@@ -91,7 +92,7 @@ def show_key(path):
 
 def key_fault(path, file, size, answer):
     """Where a refused key fails, and what stands there."""
-    at = f"'{path}', "
+    at = f"'{path}', {count(size, 'byte')}, "
     if answer == 1:
         return [f"'{path}' has {size} bytes; a key has {' or '.join(map(str, sorted(files.FIELDS)))}"]
     if answer == 2:
@@ -158,7 +159,8 @@ def show_moves(path, on=None):
 
 def unknown_kind(path, moves, number):
     place, kind = moves[number - 1]
-    return f"'{path}', byte {2 + 2 * len(moves) + number - 1}: {kind}, the kind of move {number}, at place {place}"
+    at = f"'{path}', {count(2 + 3 * len(moves), 'byte')}, byte {2 + 2 * len(moves) + number - 1}"
+    return f"{at}: {kind}, the kind of move {number}, at place {place}"
 
 
 def made(listed, moves, on):
@@ -173,7 +175,9 @@ def made(listed, moves, on):
             codes = walnut.codes(file)
             there = " ".join(map(letter_text, codes[place : place + 3])) or "no letter"
             told = f"{there} stands there, in a word of {count(len(codes), 'letter')} by then"
-            raise Refused(refusal.number, f"move {number}, at {place} {move_text(kind)}: {told}") from None
+            first, last = 2 * number, 2 + 2 * len(moves) + number - 1
+            at = f"'{listed}', {count(2 + 3 * len(moves), 'byte')}, bytes {first} and {first + 1}, and byte {last}"
+            raise Refused(refusal.number, f"{at}: move {number}, at {place} {move_text(kind)}: {told}") from None
 
 
 def move_text(kind):
@@ -197,7 +201,8 @@ def list_fault(path, file, size, answer):
     moves = int.from_bytes(file[:2], "big")
     if answer == 18:
         return f"'{path}' has {count(size, 'byte')}"
-    stated = f"'{path}', bytes 0 and 1: {file[:2].hex(' ')}, so it states {count(moves, 'move')}"
+    at = f"'{path}', {count(size, 'byte')}, "
+    stated = at + f"bytes 0 and 1: {file[:2].hex(' ')}, so it states {count(moves, 'move')}"
     if answer == 19:
         return f"{stated}; a list has at most {walnut.MOVES}"
     return f"{stated}, which take {2 + 3 * moves} bytes; the file has {size}"

@@ -39,7 +39,8 @@ pub fn winding(codes: &[u8], from: [usize; 2]) -> i32 {
     number
 }
 
-/// The winding of each two labels, the smaller before the larger, in increasing order. Label a begins at position a + 1.
+/// The winding of each two labels, the smaller before the larger, in increasing order. Label a begins at position a +
+/// 1.
 pub fn windings(codes: &[u8]) -> Vec<(usize, usize, i32)> {
     let pairs = (0..STRANDS).flat_map(|a| (a + 1..STRANDS).map(move |b| (a, b)));
     pairs.map(|(a, b)| (a, b, winding(codes, [a + 1, b + 1]))).collect()

@@ -156,20 +156,20 @@ module _ (n p : ℕ) (degree : Degree n p) (cs : List ℕ) (at t : ℕ) (constan
 
 -- T-values whose constants are at hand: those of the number that the letter takes stand at its place
 taken : (F : Operations) (bits : ℕ) (ts cs labels : List ℕ) (g : ℕ) → Constants F bits ts cs → ((k : ℕ) → getD labels k 0 < 8) → (inverse : Bool)
-    → Multiples F bits cs (cond inverse (64 + 8 * getD labels (g + 1) 0) (8 * getD labels g 0)) (takenBy F ts labels inverse g)
+    → Multiples F bits cs (cond inverse (64 + 8 * getD labels (g + 1) 0) (8 * getD labels g 0)) (takenBy (F .inv) ts labels inverse g)
 unfolding takenBy tValue
 taken F bits ts cs labels g constants below true = constants .of-reciprocal (getD labels (g + 1) 0) (below (g + 1))
 taken F bits ts cs labels g constants below false = constants .of-value (getD labels g 0) (below g)
 
 -- it gives the letter's share
-pub share-taken : (F : Operations) (ts labels : List ℕ) (inverse : Bool) (g : ℕ) → shareBy F inverse (takenBy F ts labels inverse g) ≡ shareOf F ts labels inverse g
+pub share-taken : (F : Operations) (ts labels : List ℕ) (inverse : Bool) (g : ℕ) → shareBy F inverse (takenBy (F .inv) ts labels inverse g) ≡ shareOf F ts labels inverse g
 unfolding shareBy shareOf takenBy
 share-taken F ts labels true g = refl
 share-taken F ts labels false g = refl
 
 -- a letter that was crossed with what it takes
 pub crossed-letter : (bits p : ℕ) → Degree bits p → (ts cs columns labels columns′ labels′ : List ℕ) (c at : ℕ) → isLetter c ≡ true
-    → Multiples (polynomials bits p) bits cs at (takenBy (polynomials bits p) ts labels (leb 8 c) (c % 8))
+    → Multiples (polynomials bits p) bits cs at (takenBy (polynomials bits p .inv) ts labels (leb 8 c) (c % 8))
     → Crossed bits cs at (c % 8) (leb 8 c) columns labels columns′ labels′
     → heldPair columns′ labels′ ≡ letterOn (polynomials bits p) ts c (heldPair columns labels)
 unfolding letterOn
@@ -177,7 +177,7 @@ crossed-letter bits p degree ts cs columns labels columns′ labels′ c at lett
     let F : Operations = polynomials bits p in
     let g = c % 8 in
     ap₂ pairOf
-    (crossed .crossed p degree (takenBy F ts labels (leb 8 c) g) constants
+    (crossed .crossed p degree (takenBy (F .inv) ts labels (leb 8 c) g) constants
     ∙ ap (λ (s : Share). rowsOn F s g (columnsMatrix columns))
     (share-taken F ts labels (leb 8 c) g ∙ ap (λ (b : Bool). shareOf F ts labels b g) (sign c letter)))
     (crossed .exchanged)

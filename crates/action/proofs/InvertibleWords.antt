@@ -11,7 +11,7 @@ use Rattle.matrix.specs.Layout.{entry, Matrix}
 use Rattle.matrix.specs.Product.{identity, matrixProduct}
 use Rattle.matrix.specs.Elimination.{invertible, HasInverse}
 use Rattle.matrix.proofs.ProductLaws.{product-elements, identity-elements, product-assoc, identity-right}
-use Rattle.matrix.proofs.Invertible.{invertible-iff, identity-invertible}
+use Rattle.matrix.proofs.Invertible.{invertible-iff}
 use Rattle.braid.specs.Letters.{isLetter, generator, inverse}
 use Rattle.braid.proofs.LetterLaws.{Lettered, lettered-cons, inverse-letter}
 use Rattle.action.specs.declared.Pair.{Pair}
@@ -114,8 +114,3 @@ module _ {F : Operations} (L : BinaryField F) (ts : List ℕ) (tv : TValues F ts
       equal : (a b : Bool) → (a ≡ true → b ≡ true) → (b ≡ true → a ≡ true) → a ≡ b
       equal true b f g = sym (f refl)
       equal false b f g = sym (not-true-false b (λ t. false≢true (g t)))
-
-  -- what a word makes of the identity
-  pub from-identity : (w : List ℕ) → Lettered w → (labels : List ℕ) → GoodPair F (identityWith labels)
-      → invertible F 8 (entry (wordOn F ts w (identityWith labels) .matrix)) ≡ true
-  from-identity w e labels good = word-invertible w e (identityWith labels) good ∙ identity-invertible L

@@ -1,13 +1,14 @@
 -- A pair as the loop over letters holds it, for the contracts of functions that are no operation of the papers: the
 -- matrix by columns of 64 bits, behind a spare one.
-use Prim.Native.Nat.{ℕ, _+_, _<_, _≤_}
+use Prim.Native.Nat.{ℕ, _+_, _*_, _<_, _≤_}
 use mathlib.Core.Path.{_≡_}
 use mathlib.Core.Bool.{Bool, cond}
 use mathlib.Core.List.{List}
 use mathlib.Core.Logic.{_⊎_}
 use lib.Bits.{bitXor}
-use lib.ListN.{length, getD}
+use lib.ListN.{length, take, getD}
 use Rattle.base.specs.Lists.{values}
+use Rattle.base.specs.Digits.{halves}
 use Rattle.field.specs.Binary.{Operations}
 use Rattle.field.specs.Polynomial.{Degree, polynomials}
 use Rattle.columns.specs.Lanes.{columnsMatrix}
@@ -50,10 +51,10 @@ pub record Spread (x y z g : ℕ) (columns after : List ℕ) : Type 0 where
 unfoldable pub shareBy : Operations → Bool → ℕ → Share
 shareBy F inverse t = cond inverse (inverseShare F t) (positiveShare F t)
 
--- the number that a letter takes: the T-value of its own label, or for an inverse letter the reciprocal of the next
--- one's
-unfoldable pub takenBy : Operations → List ℕ → List ℕ → Bool → ℕ → ℕ
-takenBy F ts labels inverse g = cond inverse (F .inv (tValue ts labels (g + 1))) (tValue ts labels g)
+-- the number that a letter takes, by a way to reciprocals: the T-value of its own label, or for an inverse letter the
+-- reciprocal of the next one's
+unfoldable pub takenBy : (ℕ → ℕ) → List ℕ → List ℕ → Bool → ℕ → ℕ
+takenBy inv ts labels inverse g = cond inverse (inv (tValue ts labels (g + 1))) (tValue ts labels g)
 
 -- columns and labels after a letter whose own column is g, over every field, whatever number t it takes: the constants
 -- of t stand from a place on
@@ -67,3 +68,12 @@ pub record Crossed (bits : ℕ) (constants : List ℕ) (at g : ℕ) (inverse : B
 pub record Carried (bits : ℕ) (constants w columns labels columns′ labels′ : List ℕ) : Type 0 where
   pub holds : Held bits constants columns′ labels′
   pub carries : OverFields bits constants (λ F ts. heldPair columns′ labels′ ≡ wordOn F ts w (heldPair columns labels))
+
+-- what the first n packed letters leave, and what those of the first r bytes do, after which under sixteen are left
+abbrev pub PackedCarried : ℕ → ℕ → List ℕ → List ℕ → List ℕ → List ℕ → List ℕ → List ℕ → Type 0
+PackedCarried bits n part constants columns labels columns′ labels′ =
+    Carried bits constants (take n (halves part)) columns labels columns′ labels′
+
+abbrev pub WholeCarried : ℕ → ℕ → ℕ → List ℕ → List ℕ → List ℕ → List ℕ → List ℕ → List ℕ → Type 0
+WholeCarried bits n r part constants columns labels columns′ labels′ =
+    (2 * r ≤ n) × (n < 2 * r + 16) × Carried bits constants (halves (take r part)) columns labels columns′ labels′

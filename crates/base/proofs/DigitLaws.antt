@@ -112,25 +112,11 @@ digits-add-multiple b (suc n) v w p =
     (ap (λ (d : ℕ). d % b) (add-mul-div-right v (w * b) (positive-pow p n)) ∙ add-mul-mod-self-right (v / b ^ n) w b)
     (digits-add-multiple b n v (w * b) p))
 
-pub digits-mod : (b n v : ℕ) → 0 < b → digits b n (v % b ^ n) ≡ digits b n v
-digits-mod b n v p =
-    sym (digits-add-multiple b n (v % b ^ n) (v / b ^ n) p)
-    ∙ ap (digits b n) (add-comm (v % b ^ n) (v / b ^ n * b ^ n) ∙ div-add-mod' v (b ^ n))
-
 pub digits-below : (b n v : ℕ) → 0 < b → (k : ℕ) → getD (digits b n v) k 0 < b
 unfolding digits
 digits-below b zero v p k = p
 digits-below b (suc n) v p zero = mod-lt (v / b ^ n) p
 digits-below b (suc n) v p (suc k) = digits-below b n v p k
-
-pub getD-digits : (b n v k : ℕ) → k < n → getD (digits b n v) k 0 ≡ v / b ^ (n - (k + 1)) % b
-unfolding digits
-getD-digits b zero v k h = absurd (omega arith)
-getD-digits b (suc n) v zero h = let e : n ≡ suc n - (0 + 1) = omega arith in ap (λ (j : ℕ). v / b ^ j % b) e
-getD-digits b (suc n) v (suc k) h =
-    let e : n - (k + 1) ≡ suc n - (suc k + 1) = omega arith in
-    let l : k < n = omega arith in
-    getD-digits b n v k l ∙ ap (λ (j : ℕ). v / b ^ j % b) e
 
 -- ---- one of the other
 

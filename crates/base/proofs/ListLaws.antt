@@ -124,13 +124,6 @@ module _ (f : ℕ → Bool) where
       go (x ∷ xs) zero = and-true (f x)
       go (x ∷ xs) (suc k) = ap (λ (b : Bool). f x && b) (go xs k) ∙ sym (and-assoc (f x) (every f (take k xs)) (f (getD xs k 0)))
 
--- two tests that agree on the elements
-pub every-ext : (f g : ℕ → Bool) (xs : List ℕ) → ((k : ℕ) → k < length xs → f (getD xs k 0) ≡ g (getD xs k 0)) → every f xs ≡ every g xs
-unfolding every
-every-ext f g [] h = refl
-every-ext f g (x ∷ xs) h =
-    ap₂ (λ (a b : Bool). a && b) (h zero (zero-lt-suc (length xs))) (every-ext f g xs (λ k l. h (suc k) (suc-le-suc l)))
-
 -- ---- values in a row
 
 pub length-values : (f : ℕ → ℕ) (i n : ℕ) → length (valuesFrom f i n) ≡ n

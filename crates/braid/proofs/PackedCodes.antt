@@ -1,5 +1,5 @@
--- The first n packed codes, by the word: those of the first bytes and those that are left, the sixteen of the next eight
--- bytes, and the last ones, unpacked to the front of a row.
+-- The first n packed codes, by the word: those of the first bytes and those that are left, the sixteen of the next
+-- eight bytes, and the last ones, unpacked to the front of a row.
 use Prim.Native.Nat.{ℕ, _+_, _-_, _*_, _/_, _≤_}
 use mathlib.Core.Path.{_≡_, sym, ap, ap₂, _∙_}
 use mathlib.Core.Bool.{true, _&&_}

@@ -62,9 +62,6 @@ packed-halves (x ∷ xs) (suc (suc n)) l m e =
 -- ---- from letters to a file and back
 
 module _ (cs : List ℕ) (few : length cs ≤ 10000) where
-  pub file-short : length (wordFile cs) ≤ 5002
-  file-short = omega (arith, length-wordFile cs)
-
   stated-wordFile : stated (wordFile cs) ≡ length cs
   unfolding wordFile
   stated-wordFile =

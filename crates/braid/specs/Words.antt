@@ -1,7 +1,7 @@
 -- Word files (signatures): the number of letters in 2 bytes, the codes two to a byte with the earlier in the high half,
 -- and 0 in an odd word's last half byte. The questions of the reader and of the writer from codes, in the paper's
 -- order.
-use Prim.Native.Nat.{ℕ, _+_, _*_, _/_}
+use Prim.Native.Nat.{ℕ, _+_, _*_, _/_, _≤_, _<_}
 use mathlib.Core.Path.{_≡_}
 use mathlib.Core.Bool.{Bool}
 use mathlib.Core.List.{List, [], _∷_, _++_}
@@ -98,3 +98,8 @@ pub record Read (file : List ℕ) (answer count : ℕ) : Type 0 where
 pub record LetterAt (file : List ℕ) (place : ℕ) (left : Bool) (code : ℕ) : Type 0 where
   pub left-is : left ≡ ltb place (length (letters file))
   pub code-is : code ≡ getD (letters file) place 0
+
+-- for private contracts: the codes of the first r bytes go to the front of a row of codes, and under eight bytes are
+-- left
+abbrev pub WholeWords : ℕ → List ℕ → List ℕ → List ℕ → Type 0
+WholeWords r bytes before after = (r ≤ length bytes) × (length bytes < r + 8) × (after ≡ overlaid (halves (take r bytes)) before)

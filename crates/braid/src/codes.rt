@@ -1,10 +1,11 @@
-// The codes of a word out of its bytes: eight bytes are read as one number, and sixteen codes are taken from it; the last
-// bytes, under eight, give theirs singly.
+// The codes of a word out of its bytes: eight bytes are read as one number, and sixteen codes are taken from it; the
+// last bytes, under eight, give theirs singly.
 ghost use Prim.Native.Nat.{_+_, _*_, _≤_, _<_};
 ghost use mathlib.Core.Path.{_≡_};
-ghost use lib.ListN.{length, take};
+ghost use lib.ListN.{length};
 ghost use Rattle.base.specs.Lists.{overlaid};
 ghost use Rattle.base.specs.Digits.{digits, part, halves};
+ghost use Rattle.braid.specs.Words.{WholeWords};
 
 // The sixteen codes of a number, the first from its highest bits.
 fn sixteen(number: u64) -> [u8; 16]
@@ -42,12 +43,7 @@ pub fn sixteen_at(bytes: &[u8], at: usize) -> [u8; 16]
 // The codes of the whole words go to the front of the row of codes: how many bytes these are. Under eight are left.
 fn whole_words(bytes: &[u8], codes: &mut [u8]) -> usize
     requires { ⌜ 2 * length (now bytes) ≤ length (now codes) ⌝ }
-    ensures { λ r.
-        ⌜
-        (r ≤ length (now (bytes .entry)))
-        × (length (now (bytes .entry)) < r + 8)
-        × (now (codes .exit) ≡ overlaid (halves (take r (now (bytes .entry)))) (now (codes .entry)))
-        ⌝ }
+    ensures { λ r. ⌜ WholeWords r (now (bytes .entry)) (now (codes .entry)) (now (codes .exit)) ⌝ }
 {
     let mut k = 0;
     while k + 8 <= bytes.len() {

@@ -3,12 +3,11 @@
 use action::Pair;
 use field::inverse;
 ghost use mathlib.Core.Path.{_≡_};
-ghost use mathlib.Core.List.{_∷_};
-ghost use Prim.Native.Nat.{ℕ, suc, _%_, _<_};
+ghost use Prim.Native.Nat.{ℕ, _<_};
 ghost use lib.ListN.{length, getD};
 ghost use Rattle.base.specs.Lists.{values};
 ghost use Rattle.field.specs.Polynomial.{polynomials};
-ghost use Rattle.field.specs.Reciprocals.{LentField};
+ghost use Rattle.field.specs.Reciprocals.{lookedUp, LentField};
 ghost use Rattle.columns.specs.Lanes.{columnsMatrix};
 ghost use Rattle.columns.specs.Constants.{Constants};
 ghost use Rattle.action.specs.Action.{pairOf};
@@ -31,7 +30,7 @@ fn values_at(t_values: &[u8], labels: &[u8; 8]) -> [u8; 8]
 // Eight reciprocals, by the lent table; 0 for 0.
 fn reciprocals_of(numbers: &[u8; 8], table: &[u8]) -> [u8; 8]
     requires { ⌜ length (now table) < 256 ⌝ }
-    ensures { λ r. ⌜ r ≡ values (λ k. getD (0 ∷ now (table .entry)) (getD (now (numbers .entry)) k 0 % suc (length (now (table .entry)))) 0) 8 ⌝ }
+    ensures { λ r. ⌜ r ≡ values (λ k. lookedUp (now (table .entry)) (getD (now (numbers .entry)) k 0)) 8 ⌝ }
 {
     let mut list = [0u8; 8];
     let mut i = 0;

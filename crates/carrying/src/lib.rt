@@ -18,7 +18,7 @@ ghost use Rattle.field.specs.Fields.{operations};
 ghost use Rattle.braid.specs.Letters.{isLetter};
 ghost use Rattle.braid.specs.Words.{codes, letters, wordAnswer};
 ghost use Rattle.action.specs.Action.{wordOn, codesOn};
-ghost use Rattle.action.specs.Columns.{Held, Carried};
+ghost use Rattle.action.specs.Columns.{Held, Carried, PackedCarried, WholeCarried};
 
 mod held; // held.rt: a pair as the loop over letters holds it
 
@@ -61,9 +61,7 @@ fn words(
         ⌝ }
     ensures { λ r.
         ⌜
-        (2 * r ≤ n)
-        × (n < 2 * r + 16)
-        × Carried bits (now (constants .entry)) (halves (take r (now (part .entry)))) (now (columns .entry)) (now (labels .entry)) (now (columns .exit)) (now (labels .exit))
+        WholeCarried bits n r (now (part .entry)) (now (constants .entry)) (now (columns .entry)) (now (labels .entry)) (now (columns .exit)) (now (labels .exit))
         ⌝ }
 {
     let mut k = 0;
@@ -91,7 +89,7 @@ fn letters(
         ⌝ }
     ensures { λ _.
         ⌜
-        Carried bits (now (constants .entry)) (take n (halves (now (part .entry)))) (now (columns .entry)) (now (labels .entry)) (now (columns .exit)) (now (labels .exit))
+        PackedCarried bits n (now (part .entry)) (now (constants .entry)) (now (columns .entry)) (now (labels .entry)) (now (columns .exit)) (now (labels .exit))
         ⌝ }
 {
     let done = words(columns, labels, constants, bits, part, n);

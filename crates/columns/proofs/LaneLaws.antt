@@ -26,10 +26,6 @@ pub lane-next : (j x : ℕ) → lane (suc j) x ≡ lane j (x / 256)
 unfolding lane
 lane-next j x = ap (λ (y : ℕ). y % 256) (ap (λ (y : ℕ). x / y) (pow-succ' 256 j) ∙ sym (div-div-eq-div-mul x 256 (256 ^ j)))
 
-pub lane-below : (j x : ℕ) → lane j x < 256
-unfolding lane
-lane-below j x = mod-lt (x / 256 ^ j) byte-pos
-
 -- a number from its first lane and the rest
 module _ (x b : ℕ) (h : b < 256) where
   pub joined-first : lane 0 (x * 256 + b) ≡ b

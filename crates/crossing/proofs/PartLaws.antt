@@ -24,6 +24,10 @@ pub record Alike (x y : List ℕ) : Type 0 where
       → tally isPositive (swapping a b labels y) + tally isInverse (swapping a b labels x)
       ≡ tally isPositive (swapping a b labels x) + tally isInverse (swapping a b labels y)
 
+-- either way round
+pub alike-turned : {x y : List ℕ} → Alike x y → Alike y x
+alike-turned alike = record { lists = λ labels l. sym (alike .lists labels l); counts = λ labels l a b. sym (alike .counts labels l a b) }
+
 -- the signed number of crossings of every two labels is the same in v and w, from any list of eight
 abbrev pub SameCrossings : List ℕ → List ℕ → Type 0
 SameCrossings w v = (labels : List ℕ) → length labels ≡ 8 → (a b : ℕ) → crossingsFrom labels a b v ≡ crossingsFrom labels a b w
@@ -176,15 +180,6 @@ module _ (c : ℕ) (e : isLetter c ≡ true) where
   alike-cancelled =
       record {
         lists = λ labels l. sym (list-cancelled labels l);
-        counts = λ labels l a b. omega (arith, signs-cancelled labels l a b);
-      }
-
-  -- kinds 16 + c
-  pub alike-inserted : Alike [] (c ∷ inverse c ∷ [])
-  unfolding listAfter tally swapping
-  alike-inserted =
-      record {
-        lists = λ labels l. list-cancelled labels l;
         counts = λ labels l a b. omega (arith, signs-cancelled labels l a b);
       }
 

@@ -1,5 +1,5 @@
--- Free reduction keeps every crossing number: cancellations, moves of kind 1 one after another, leave each of them as it
--- was, and so does the word that free reduction writes.
+-- Free reduction keeps every crossing number: cancellations, moves of kind 1 one after another, leave each of them as
+-- it was, and so does the word that free reduction writes.
 use Prim.Native.Nat.{ℕ, _+_}
 use mathlib.Core.Path.{_≡_, refl, ap, subst₂, _∙_}
 use mathlib.Core.List.{List, [], _∷_, _++_}

@@ -4,7 +4,7 @@
 use Prim.Native.Nat.{ℕ, _+_, _*_, _/_, _≤_, _<_}
 use mathlib.Core.Path.{_≡_}
 use mathlib.Core.List.{List, [], _∷_}
-use lib.ListN.{length, getD}
+use lib.ListN.{length, getD, set}
 use Rattle.base.specs.Lists.{count}
 use Rattle.braid.specs.Letters.{generator}
 use Rattle.braid.specs.Strands.{swapped}
@@ -36,6 +36,11 @@ pub record Table (counts : List ℕ) : Type 0 where
 pub record Counts (labels w counts : List ℕ) : Type 0 where
   pub table : Table counts
   pub counted : (k : ℕ) → getD counts k 0 ≡ count k (slots labels w)
+
+-- a letter counted: one more at its place, and the labels that it finds change places
+abbrev pub OneCounted : ℕ → List ℕ → List ℕ → List ℕ → List ℕ → Type 0
+OneCounted c labels counts labels′ counts′ =
+    (labels′ ≡ swapped (generator c) labels) × (counts′ ≡ set counts (slotOf labels c) (getD counts (slotOf labels c) 0 + 1))
 
 -- how often a table counts two labels, either way round, for each sign
 pub record Found (counts : List ℕ) (a b generators inverses : ℕ) : Type 0 where

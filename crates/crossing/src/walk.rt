@@ -4,12 +4,12 @@ use crate::Signs;
 ghost use Prim.Native.Nat.{_+_, _≤_, _<_};
 ghost use mathlib.Core.Path.{_≡_};
 ghost use mathlib.Core.Bool.{true};
-ghost use lib.ListN.{length, getD, set};
+ghost use lib.ListN.{length};
 ghost use Rattle.base.specs.Lists.{every};
-ghost use Rattle.braid.specs.Letters.{generator, isLetter};
-ghost use Rattle.braid.specs.Strands.{inOrder, swapped};
+ghost use Rattle.braid.specs.Letters.{isLetter};
+ghost use Rattle.braid.specs.Strands.{inOrder};
 ghost use Rattle.braid.specs.Words.{codes, letters, wordAnswer};
-ghost use Rattle.crossing.specs.Counting.{slot, slotOf, Labelled, Table, Counts, Found};
+ghost use Rattle.crossing.specs.Counting.{slot, OneCounted, Labelled, Table, Counts, Found};
 
 // The place of a sign, 0 for a generator and 1 for an inverse, and two labels.
 fn slot(sign: u8, p: u8, q: u8) -> usize
@@ -22,11 +22,7 @@ fn slot(sign: u8, p: u8, q: u8) -> usize
 // One letter: it is counted by its sign and the labels that it finds, and these change places.
 fn letter(labels: &mut [u8; 8], counts: &mut [u32; 128], code: u8)
     requires { ⌜ Labelled (now labels) × Table (now counts) × (isLetter code ≡ true) ⌝ }
-    ensures { λ _.
-        ⌜
-        (now (labels .exit) ≡ swapped (generator code) (now (labels .entry)))
-        × (now (counts .exit) ≡ set (now (counts .entry)) (slotOf (now (labels .entry)) code) (getD (now (counts .entry)) (slotOf (now (labels .entry)) code) 0 + 1))
-        ⌝ }
+    ensures { λ _. ⌜ OneCounted code (now (labels .entry)) (now (counts .entry)) (now (labels .exit)) (now (counts .exit)) ⌝ }
 {
     let at = (code % 8) as usize;
     let own = labels[at];

@@ -3,7 +3,7 @@ ghost use lib.ListN.{length, take};
 ghost use Rattle.desk_line.specs.Desk.{answerLine, TellsIn};
 ghost use Rattle.crossing_lines.specs.Lines.{crossingText, textSize, EnoughOfWord};
 
-mod line; // line.rt: the line of a pair
+mod line; // line.rt: the lines of all pairs
 mod number; // number.rt: numbers in decimal
 
 // The bytes to read: one more than a word may have, so that a longer one is told from a full one.

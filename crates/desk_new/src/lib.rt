@@ -14,8 +14,8 @@ fn saved(fd: i32, bytes: &[u8], alone: bool) -> bool {
     !alone || libc::fsync(fd) == 0
 }
 
-// A new file at `beside` gets the bytes, and then the name `new`. Where that fails, `new` is what it was, and nothing of
-// ours is left at `beside`: what stood there before stays, and no file is made.
+// A new file at `beside` gets the bytes, and then the name `new`. Where that fails, `new` is what it was, and nothing
+// of ours is left at `beside`: what stood there before stays, and no file is made.
 fn put(beside: &[u8], new: &[u8], bytes: &[u8], alone: bool) -> bool {
     let fd = os::create(beside);
     if fd < 0 {

@@ -11,7 +11,7 @@ use Rattle.base.specs.Lists.{overlaid}
 use Rattle.base.proofs.QuestionLaws.{granted-zero, granted-refused, granted-ap}
 use Rattle.base.proofs.ListLaws.{true-false, take-overlaid}
 use Rattle.braid.specs.Words.{Wrote}
-use Rattle.desk_words.specs.Making.{toWrite, Makes, Shortens, Rewrites}
+use Rattle.desk_words.specs.Making.{toWrite, MakesNew, Shortens, Rewrites}
 use Rattle.desk_words.specs.declared.Made.{Made}
 
 -- nothing is written: what is made is the answer alone
@@ -26,7 +26,7 @@ pub bare-of : {read : Bool} {answer : ℕ} {made : Made}
 bare-of p = record { read-is = p .0; answer-is = p .1; bytes-are = p .2; file-is = p .3 }
 
 bare-makes : {read : Bool} {n : ℕ} {made : Made} (answer : ℕ) (new : List ℕ) → Bare read n made → n ≡ cond read answer 0 → toWrite read answer new ≡ []
-    → Makes read answer new made
+    → MakesNew read answer new made
 unfolding overlaid
 bare-makes answer new b a e =
     record {
@@ -37,18 +37,18 @@ bare-makes answer new b a e =
     }
 
 -- a file could not be read
-pub unread : {read : Bool} {made : Made} (answer : ℕ) (new : List ℕ) → read ≡ false → Bare false 0 made → Makes read answer new made
+pub unread : {read : Bool} {made : Made} (answer : ℕ) (new : List ℕ) → read ≡ false → Bare false 0 made → MakesNew read answer new made
 unfolding toWrite
 unread answer new e b = rw e (bare-makes answer new b refl refl)
 
 -- the answer is a refusal
-pub refused : {made : Made} (answer : ℕ) (new : List ℕ) → (answer ≡ 0 → ⊥) → Bare true answer made → Makes true answer new made
+pub refused : {made : Made} (answer : ℕ) (new : List ℕ) → (answer ≡ 0 → ⊥) → Bare true answer made → MakesNew true answer new made
 unfolding toWrite
 refused answer new h b = bare-makes answer new b refl (granted-refused new [] h)
 
 -- what a writer of words wrote to zeros
 pub wrote-makes : {questions : List Question} {new : List ℕ} {made : Made} (answer : ℕ) → made .read ≡ true
-    → Wrote questions new (replicate 5002 0) (made .file) (made .answer) (made .bytes) → firstNo questions ≡ answer → Makes true answer new made
+    → Wrote questions new (replicate 5002 0) (made .file) (made .answer) (made .bytes) → firstNo questions ≡ answer → MakesNew true answer new made
 unfolding toWrite overlaid
 wrote-makes {questions} {new} {made} answer r w e =
     record {
@@ -61,18 +61,18 @@ wrote-makes {questions} {new} {made} answer r w e =
     }
 
 -- the same with another name for the answer
-pub makes-as : {read : Bool} {a b : ℕ} {new : List ℕ} {made : Made} → a ≡ b → Makes read a new made → Makes read b new made
+pub makes-as : {read : Bool} {a b : ℕ} {new : List ℕ} {made : Made} → a ≡ b → MakesNew read a new made → MakesNew read b new made
 makes-as e m = rw (sym e) m
 
 -- on answer 0 the bytes to write are the new word's file
-pub made-file : {answer : ℕ} {new : List ℕ} {made : Made} → Makes true answer new made → made .answer ≡ 0 → take (made .bytes) (made .file) ≡ new
+pub made-file : {answer : ℕ} {new : List ℕ} {made : Made} → MakesNew true answer new made → made .answer ≡ 0 → take (made .bytes) (made .file) ≡ new
 unfolding toWrite
 made-file {answer} {new} m z =
     let g : granted answer new [] ≡ new = granted-zero new [] (sym (m .answer-is) ∙ z) in
     rw (m .bytes-are, m .file-is, g) (take-overlaid new (replicate 5002 0))
 
 -- the bytes counted lie within the file
-pub bytes-within : {read : Bool} {answer : ℕ} {new : List ℕ} {made : Made} → Makes read answer new made → made .bytes ≤ length (made .file)
+pub bytes-within : {read : Bool} {answer : ℕ} {new : List ℕ} {made : Made} → MakesNew read answer new made → made .bytes ≤ length (made .file)
 unfolding overlaid
 bytes-within m = rw (m .bytes-are, m .file-is) (simp length-append (omega arith))
 

@@ -19,7 +19,7 @@ toWrite read answer new = cond read (granted answer new []) []
 
 -- what such a verb gives: could every file be read? Its answer, 0 where one could not; the bytes to write, and zeros
 -- after them
-pub record Makes (read : Bool) (answer : ℕ) (new : List ℕ) (made : Made) : Type 0 where
+pub record MakesNew (read : Bool) (answer : ℕ) (new : List ℕ) (made : Made) : Type 0 where
   pub read-is : made .read ≡ read
   pub answer-is : made .answer ≡ cond read answer 0
   pub bytes-are : made .bytes ≡ length (toWrite read answer new)
@@ -31,7 +31,7 @@ shortFile word = wordFile (reduced (codes word))
 
 -- shortening a slip: the verdict's answer, and the file of the freely reduced word, which opens the slip too
 pub record Shortens (read : Bool) (key digest word : List ℕ) (made : Made) : Type 0 where
-  pub makes : Makes read (verdict key digest word) (shortFile word) made
+  pub makes : MakesNew read (verdict key digest word) (shortFile word) made
   pub opens : read ≡ true → made .answer ≡ 0 → verdict key digest (take (made .bytes) (made .file)) ≡ 0
 
 -- the rewriter's answer, where its output has room
@@ -40,12 +40,12 @@ rewriteAnswer word moves = firstNo (rewriterQuestions maxBytes word moves)
 
 -- rewriting a word: the rewriter's answer, and the file of the new word, which means what the old one means
 pub record Rewrites (read : Bool) (word moves : List ℕ) (made : Made) : Type 0 where
-  pub makes : Makes read (rewriteAnswer word moves) (wordFile (rewritten word moves)) made
+  pub makes : MakesNew read (rewriteAnswer word moves) (wordFile (rewritten word moves)) made
   pub keeps : read ≡ true → made .answer ≡ 0 → SameMeaning word (take (made .bytes) (made .file))
 
 -- reducing a word freely: the word's answer, and the file of the reduced word
 abbrev pub Reduces : Bool → List ℕ → Made → Type 0
-Reduces read word made = Makes read (wordAnswer word) (shortFile word) made
+Reduces read word made = MakesNew read (wordAnswer word) (shortFile word) made
 
 -- what is written of a part of each file is what is written of the whole files, of any length: so much of a slip is
 -- enough to shorten it, so much of a word and a move list to rewrite it, so much of a word to reduce it

@@ -17,8 +17,8 @@ use Rattle.field.specs.Fields.{digestBytes}
 use Rattle.field.specs.declared.Field.{Field}
 use Rattle.field.specs.declared.Field.the-variants.{Gf32, Gf256}
 use Rattle.braid.specs.Letters.{isLetter}
-use Rattle.braid.specs.Words.{wordFile, wordAnswer, letters}
-use Rattle.braid.proofs.RoundTrip.{wordFile-accepted, letters-wordFile}
+use Rattle.braid.specs.Words.{wordFile, wordAnswer}
+use Rattle.braid.proofs.RoundTrip.{wordFile-accepted}
 use Rattle.digest.specs.Digest.{halfByteBraid, braidOf, encoded, isDigest}
 use Rattle.digest.proofs.HalfByte.{braid-short, braid-letters}
 
@@ -72,6 +72,3 @@ encoded-letters digest b = lettered (halves digest) (halves-below digest b)
 -- what the encoder writes is an accepted word, with the digest's braid as its letters
 pub encoded-accepted : (digest : List ℕ) → ((k : ℕ) → getD digest k 0 < 256) → length digest ≤ 64 → wordAnswer (wordFile (encoded digest)) ≡ 0
 encoded-accepted digest b e = wordFile-accepted (encoded digest) (omega (arith, encoded-short digest b e)) (encoded-letters digest b)
-
-pub encoded-read : (digest : List ℕ) → ((k : ℕ) → getD digest k 0 < 256) → length digest ≤ 64 → letters (wordFile (encoded digest)) ≡ encoded digest
-encoded-read digest b e = letters-wordFile (encoded digest) (omega (arith, encoded-short digest b e)) (encoded-letters digest b)

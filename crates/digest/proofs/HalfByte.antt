@@ -1,5 +1,5 @@
--- The braid of a half byte in three runs: down, the power, and up again; how long it is, and that every code is a letter.
--- Each rule is one test that antt computes over the sixteen half bytes.
+-- The braid of a half byte in three runs: down, the power, and up again; how long it is, and that every code is a
+-- letter. Each rule is one test that antt computes over the sixteen half bytes.
 use Prim.Native.Nat.{ℕ, _+_, _*_, _-_, _/_, _%_, _<_, _≤_}
 use mathlib.Core.Path.{_≡_, refl}
 use mathlib.Core.Bool.{Bool, true, _&&_}

@@ -1,4 +1,5 @@
--- Codes in steps: one more of them, the first of them, and three runs one over the other's end: the braid of a half byte.
+-- Codes in steps: one more of them, the first of them, and three runs one over the other's end: the braid of a half
+-- byte.
 use Prim.Native.Nat.{ℕ, suc, _+_, _-_, _*_, _%_, _≤_, _<_}
 use mathlib.Core.Path.{_≡_, sym, ap, ap₂, _∙_}
 use mathlib.Core.List.{List, [], _∷_, _++_, append-assoc}

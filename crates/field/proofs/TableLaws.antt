@@ -16,7 +16,7 @@ use Rattle.base.proofs.ListLaws.{and-left, and-right, length-values, getD-value
 use Rattle.field.specs.Polynomial.{Degree, times, first, reciprocalOf}
 use Rattle.field.specs.Fields.{bits, modulus}
 use Rattle.field.specs.Gf32.{gf32, products}
-use Rattle.field.specs.Reciprocals.{reciprocals, LentField}
+use Rattle.field.specs.Reciprocals.{reciprocals, lookedUp, LentField}
 use Rattle.field.specs.declared.Field.{Field}
 use Rattle.field.specs.declared.Field.the-variants.{Gf32}
 use Rattle.field.proofs.Laws.{times-low, times-low-both}
@@ -67,17 +67,17 @@ module _ {n p : ℕ} (d : Degree n p) where
       getD-values (λ k. reciprocalOf n p (suc k)) (2 ^ n - 1) k b
 
   -- read from the table
-  pub inverse-at : (table : List ℕ) → table ≡ reciprocals n p → (a : ℕ) → getD (0 ∷ table) (a % suc (length table)) 0 ≡ reciprocalOf n p a
+  pub inverse-at : (table : List ℕ) → table ≡ reciprocals n p → (a : ℕ) → lookedUp table a ≡ reciprocalOf n p a
   inverse-at table e a =
       ap₂ (λ (l : List ℕ) (m : ℕ). getD (0 ∷ l) (a % m) 0) e (reciprocals-size n p table e) ∙ at-low (a % 2 ^ n) (mod-lt a (pow-pos n)) ∙ inv-low a
 
 -- the entry before a number's remainder
 module _ (table : List ℕ) (a : ℕ) where
-  pub none-before : a % (length table + 1) ≡ 0 → 0 ≡ getD (0 ∷ table) (a % suc (length table)) 0
+  pub none-before : a % (length table + 1) ≡ 0 → 0 ≡ lookedUp table a
   none-before e = sym (ap (λ (k : ℕ). getD (0 ∷ table) k 0) (sym (ap (λ (m : ℕ). a % m) (add-one (length table))) ∙ e))
 
   pub one-before : (a % (length table + 1) ≡ 0 → ⊥)
-      → getD table (a % (length table + 1) - 1) 0 ≡ getD (0 ∷ table) (a % suc (length table)) 0
+      → getD table (a % (length table + 1) - 1) 0 ≡ lookedUp table a
   one-before d = before (a % (length table + 1)) d ∙ ap (λ (m : ℕ). getD (0 ∷ table) (a % m) 0) (add-one (length table))
     where
       before : (k : ℕ) → (k ≡ 0 → ⊥) → getD table (k - 1) 0 ≡ getD (0 ∷ table) k 0

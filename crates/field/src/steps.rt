@@ -1,9 +1,9 @@
 // Products and reciprocals in any field of polynomials whose elements are bytes, by what is lent of the field.
 ghost use mathlib.Core.Path.{_≡_};
-ghost use mathlib.Core.List.{_∷_};
-ghost use Prim.Native.Nat.{suc, _%_, _^_, _<_, _≤_};
-ghost use lib.ListN.{length, getD};
+ghost use Prim.Native.Nat.{_%_, _^_, _<_, _≤_};
+ghost use lib.ListN.{length};
 ghost use Rattle.field.specs.Polynomial.{Degree, timesX, times};
+ghost use Rattle.field.specs.Reciprocals.{lookedUp};
 
 // x times a: where the degree reaches the polynomial's, the polynomial is taken away.
 pub fn times_x(a: u64, bits: usize, modulus: u64) -> u64
@@ -45,7 +45,7 @@ pub(crate) fn times(a: u8, b: u8, bits: usize, modulus: u64) -> u8
 // A reciprocal by the lent table, whose entry a - 1 is that of a; 0 for zero. A number counts by its low bits.
 pub fn inverse(a: u8, table: &[u8]) -> u8
     requires { ⌜ length (now table) < 256 ⌝ }
-    ensures { λ r. ⌜ r ≡ getD (0 ∷ now (table .entry)) (a % suc (length (now (table .entry)))) 0 ⌝ }
+    ensures { λ r. ⌜ r ≡ lookedUp (now (table .entry)) a ⌝ }
 {
     let at = (a as usize) % (table.len() + 1);
     if at == 0 { 0 } else { table[at - 1] }

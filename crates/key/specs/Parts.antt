@@ -35,3 +35,8 @@ pub record Sizes (ts order first second : List ℕ) : Type 0 where
   pub order-size : length order ≡ 8
   pub first-size : length first ≡ 57
   pub second-size : length second ≡ 57
+
+-- all of this, and an output of the file's size
+abbrev pub Fillable : ℕ → List ℕ → List ℕ → List ℕ → List ℕ → List ℕ → Type 0
+Fillable b ts order first second out =
+    Width b × Parts b ts order first second × Sizes ts order first second × (length out ≡ fileBytes b)

@@ -1,5 +1,5 @@
-// Key files: N, q, eight T-values, the matrix of Pub(S), its list and the matrix of Pub(S'), in 83 bytes over GF(32) and
-// in 128 over GF(256); and what their reader and their writer share.
+// Key files: N, q, eight T-values, the matrix of Pub(S), its list and the matrix of Pub(S'), in 83 bytes over GF(32)
+// and in 128 over GF(256); and what their reader and their writer share.
 use action::Pair;
 use field::Field;
 ghost use mathlib.Core.Path.{_≡_};

@@ -8,7 +8,7 @@ ghost use Rattle.base.specs.Questions.{firstNo};
 ghost use Rattle.field.specs.Fields.{bits};
 ghost use Rattle.operands.specs.Operands.{fit};
 ghost use Rattle.key.specs.Keys.{matrixBytes, packedMatrix, keyFile, keyWriterQuestions, WroteKey};
-ghost use Rattle.key.specs.Parts.{Width, fileBytes, Parts, Sizes};
+ghost use Rattle.key.specs.Parts.{Width, fileBytes, Parts, Fillable};
 
 // Does every T-value and entry fit so many bits?
 fn all_fit(ts: &[u8; 8], first: &[u8; 57], second: &[u8; 57], bits: usize) -> bool
@@ -82,7 +82,7 @@ fn put_matrix(entries: &[u8], dst: &mut [u8], bits: usize)
 
 // The file in an output of its size.
 fn fill(out: &mut [u8], ts: &[u8], order: &[u8], first: &[u8], second: &[u8], bits: usize)
-    requires { ⌜ Width bits × Parts bits (now ts) (now order) (now first) (now second) × Sizes (now ts) (now order) (now first) (now second) × (length (now out) ≡ fileBytes bits) ⌝ }
+    requires { ⌜ Fillable bits (now ts) (now order) (now first) (now second) (now out) ⌝ }
     ensures { λ r. ⌜ now (out .exit) ≡ keyFile bits (now (ts .entry)) (now (order .entry)) (now (first .entry)) (now (second .entry)) ⌝ }
 {
     let size = key::power(bits);

@@ -28,7 +28,7 @@ fn logarithms_of(m: &[u8; 64], table: &[u16], f: Field) -> [usize; 64]
     logs
 }
 
-// Those of a column's.
+// The logarithms of a column.
 fn column_logarithms(m: &[u8; 64], table: &[u16], column: usize, f: Field) -> [usize; 8]
     requires { ⌜ ProductsBy f (now table) × (column < 8) ⌝ }
     ensures { λ r. ⌜ (length r ≡ 8) × LogarithmsOf (now (table .entry)) (λ k. entry (now (m .entry)) k column) 8 r ⌝ }
@@ -104,7 +104,7 @@ fn multiplied(table: &[u16], a: &[u8; 64], b: &[u8; 64], f: Field) -> [u8; 64]
     m
 }
 
-// Entries count by their low bits, as many as an element has.
+// The product of two matrices. Entries count by their low bits, as many as an element has.
 pub fn matrix_product(a: &[u8; 64], b: &[u8; 64], f: Field) -> [u8; 64]
     ensures { λ r. ⌜ r ≡ matrixProduct (operations f) (now (a .entry)) (now (b .entry)) ⌝ }
 {

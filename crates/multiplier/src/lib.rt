@@ -13,17 +13,16 @@ use operands::all_fit;
 use operands::all_nonzero;
 use operands::is_order;
 ghost use mathlib.Core.Path.{_≡_};
-ghost use mathlib.Core.Bool.{true, cond};
-ghost use mathlib.Core.List.{_∷_};
-ghost use Prim.Native.Nat.{suc, _+_, _%_, _^_, _<_};
-ghost use lib.ListN.{length, getD};
+ghost use mathlib.Core.Bool.{true};
+ghost use Prim.Native.Nat.{_+_, _%_, _^_, _<_};
+ghost use lib.ListN.{length};
 ghost use Rattle.base.specs.Questions.{firstNo};
 ghost use Rattle.field.specs.Polynomial.{polynomials};
-ghost use Rattle.field.specs.Reciprocals.{LentField};
+ghost use Rattle.field.specs.Reciprocals.{lookedUp, LentField};
 ghost use Rattle.field.specs.Fields.{operations};
 ghost use Rattle.braid.specs.Letters.{isLetter};
 ghost use Rattle.columns.specs.Constants.{Bytes, Multiples};
-ghost use Rattle.action.specs.Action.{tValue, letterOn};
+ghost use Rattle.action.specs.Action.{letterOn};
 ghost use Rattle.action.specs.Columns.{takenBy};
 ghost use Rattle.action.specs.Multiplier.{multiplierQuestions, Multiplies};
 
@@ -61,13 +60,7 @@ fn multiplier_answer(pair: Pair, t_values: &[u8; 8], letter: u8, bits: usize, f:
 // The number that a letter takes, whose own column is g, by the lent table of reciprocals.
 fn taken(t_values: &[u8], labels: &[u8; 8], negative: bool, g: usize, table: &[u8]) -> u8
     requires { ⌜ (length (now «t_values») ≡ 8) × (g < 7) × (length (now table) < 256) ⌝ }
-    ensures { λ r.
-        ⌜
-        r
-        ≡ cond negative
-        (getD (0 ∷ now (table .entry)) (tValue (now («t_values» .entry)) (now (labels .entry)) (g + 1) % suc (length (now (table .entry)))) 0)
-        (tValue (now («t_values» .entry)) (now (labels .entry)) g)
-        ⌝ }
+    ensures { λ r. ⌜ r ≡ takenBy (lookedUp (now (table .entry))) (now («t_values» .entry)) (now (labels .entry)) negative g ⌝ }
 {
     if negative {
         let value = value_of(t_values, labels[g + 1]);
@@ -91,7 +84,7 @@ fn constants_taken(
     ensures { λ r.
         ⌜
         Bytes r
-        × Multiples (polynomials bits modulus) bits r 0 (takenBy (polynomials bits modulus) (now («t_values» .entry)) (now (labels .entry)) negative g)
+        × Multiples (polynomials bits modulus) bits r 0 (takenBy (polynomials bits modulus .inv) (now («t_values» .entry)) (now (labels .entry)) negative g)
         ⌝ }
 {
     let number = taken(t_values, labels, negative, g, table);

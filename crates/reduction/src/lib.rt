@@ -18,7 +18,7 @@ ghost use Rattle.base.specs.Lists.{every};
 ghost use Rattle.base.specs.Digits.{halves};
 ghost use Rattle.braid.specs.Letters.{isLetter, inverse};
 ghost use Rattle.braid.specs.Reduction.{reduced, Irreducible};
-ghost use Rattle.reduction.specs.Reducer.{WroteReduced};
+ghost use Rattle.reduction.specs.Reducer.{MayCome, WroteReduced};
 
 // Is the letter the inverse of the last of the stack's n?
 fn cancels(stack: &[u8], n: usize, c: u8) -> bool
@@ -47,12 +47,7 @@ fn push(stack: &mut [u8], n: usize, c: u8) -> usize
 
 // Codes come to the end of the stack's n one by one: how many there are then.
 fn pushes(stack: &mut [u8], n: usize, codes: &[u8]) -> usize
-    requires { ⌜
-        (n + length (now codes) ≤ length (now stack))
-        × Irreducible (take n (now stack))
-        × (every isLetter (take n (now stack)) ≡ true)
-        × (every isLetter (now codes) ≡ true)
-        ⌝ }
+    requires { ⌜ MayCome n (now stack) (now codes) ⌝ }
     ensures { λ r.
         ⌜
         (r ≤ n + length (now (codes .entry)))

@@ -1,7 +1,7 @@
 -- What is kept by one move, whatever its kind and its place, where all its questions are passed.
 use Prim.Native.Nat.{ℕ, suc, _+_, _-_, _≤_}
-use mathlib.Core.Path.{_≡_, refl, sym, ap, subst}
-use mathlib.Core.Bool.{Bool, true, false, cond, _&&_, _||_, Bool·beq}
+use mathlib.Core.Path.{_≡_, refl, ap, subst}
+use mathlib.Core.Bool.{Bool, true, false, cond, _&&_, _||_}
 use mathlib.Core.List.{List, [], _∷_, _++_}
 use mathlib.Core.Logic.{_⊎_, inl, inr}
 use native.Mathlib.Omega.{arith}
@@ -12,7 +12,7 @@ use lib.ListN.{length, take, drop, getD, take-append-drop}
 use lib.Seq.{drop-cons}
 use Rattle.base.specs.Questions.{firstNo}
 use Rattle.base.proofs.QuestionLaws.{answers-passed}
-use Rattle.base.proofs.ListLaws.{and-left, and-right, every-take, every-drop, every-getD}
+use Rattle.base.proofs.ListLaws.{and-left, and-right, every-take, every-drop, every-getD, beq-true}
 use Rattle.braid.specs.Letters.{isLetter, isInverse, generator, inverse, far, neighbours, sameSign}
 use Rattle.braid.specs.Cancellation.{Move, removal}
 use Rattle.braid.proofs.LetterLaws.{Lettered, Apart, Neighbours}
@@ -39,12 +39,6 @@ beside j k e = go (either (eqb (generator j + 1) (generator k)) (eqb (generator 
     go : (eqb (generator j + 1) (generator k) ≡ true) ⊎ (eqb (generator k + 1) (generator j) ≡ true) → Neighbours j k
     go (inl h) = inl (eqb-true (generator j + 1) (generator k) h)
     go (inr h) = inr (eqb-true (generator k + 1) (generator j) h)
-
-signs-agree : (a b : Bool) → Bool·beq a b ≡ true → a ≡ b
-signs-agree true true e = refl
-signs-agree true false e = sym e
-signs-agree false true e = e
-signs-agree false false e = refl
 
 -- ---- a word about two or three letters at a place
 
@@ -112,7 +106,7 @@ module _ (w : List ℕ) (e : Lettered w) (few : length w ≤ 10000) where
         let fits : place + 3 ≤ length w = leb-true (place + 3) (length w) (p .0) in
         let shape : neighbours j k && sameSign j k ≡ true = and-left (neighbours j k && sameSign j k) (eqb l j) (p .1 .0) in
         let again : l ≡ j = eqb-true l j (and-right (neighbours j k && sameSign j k) (eqb l j) (p .1 .0)) in
-        let signs : isInverse j ≡ isInverse k = signs-agree (isInverse j) (isInverse k) (and-right (neighbours j k) (sameSign j k) shape) in
+        let signs : isInverse j ≡ isInverse k = beq-true (isInverse j) (isInverse k) (and-right (neighbours j k) (sameSign j k) shape) in
         let near : Neighbours j k = beside j k (and-left (neighbours j k) (sameSign j k) shape) in
         let part : StandsFor (j ∷ k ∷ l ∷ []) (k ∷ j ∷ k ∷ []) =
         rw again (braided j k (letter place (omega arith)) (letter (place + 1) (omega arith)) signs near) in

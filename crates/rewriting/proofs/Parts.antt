@@ -11,7 +11,7 @@ use Rattle.braid.proofs.LetterLaws.{Lettered, cons-lettered, inverse-letter, Ap
 use Rattle.action.proofs.WordLaws.{same-cancelled, same-far, same-braid}
 use Rattle.braid.specs.Exponent.{tally}
 use Rattle.braid.proofs.ExponentLaws.{positive-not-inverse, tally-exchanged, tally-braided, tally-cancelled}
-use Rattle.crossing.proofs.PartLaws.{alike-cancelled, alike-inserted, alike-exchanged, alike-braided}
+use Rattle.crossing.proofs.PartLaws.{alike-turned, alike-cancelled, alike-exchanged, alike-braided}
 use Rattle.rewriting.proofs.Kept.{StandsFor}
 
 no-letters : Lettered []
@@ -38,7 +38,7 @@ module _ (c : ℕ) (e : isLetter c ≡ true) where
         lettered = cons-lettered c (inverse c ∷ []) e (cons-lettered (inverse c) [] (inverse-letter c e) no-letters);
         carried = λ F L ts tv. same-cancelled L ts c tv e;
         exponent = omega (arith, tally-cancelled c e);
-        crossed = alike-inserted c e;
+        crossed = alike-turned (alike-cancelled c e);
       }
 
 module _ (c d : ℕ) (e : isLetter c ≡ true) (e' : isLetter d ≡ true) where

@@ -99,8 +99,8 @@ pub struct Outcome {
     /// The element, the letters, the bytes written, 1 for yes, or 1 for a key over the larger field; 0 where there is
     /// none.
     pub number: usize,
-    /// The returned key or pair, the four bytes of a number that may be below zero, the lent pair, or the output between
-    /// its guards, after the call.
+    /// The returned key or pair, the four bytes of a number that may be below zero, the lent pair, or the output
+    /// between its guards, after the call.
     pub bytes: Vec<u8>,
 }
 

@@ -140,8 +140,8 @@ impl Run {
         self.check_over(operation, Field::Gf32, parts, expected)
     }
 
-    /// Words of each number of letters up to 66, four times eight bytes and two letters more: accepted slips, judged over
-    /// either field, freely reduced, and rewritten by no moves.
+    /// Words of each number of letters up to 66, four times eight bytes and two letters more: accepted slips, judged
+    /// over either field, freely reduced, and rewritten by no moves.
     fn every_number_of_letters(&mut self) -> Checked {
         for letters in 0..=66 {
             let codes = self.maker.random.tangled_word(letters);

@@ -60,8 +60,8 @@ const VARIANTS: usize = 10;
 /// The letters of words drawn at random, short of the longest.
 const LETTERS: usize = 300;
 
-/// Refused words, with each two faults that a word can have and each by itself; then words with letters that cancel, each
-/// of them damaged too.
+/// Refused words, with each two faults that a word can have and each by itself; then words with letters that cancel,
+/// each of them damaged too.
 fn odd_words(maker: &mut Maker) -> Vec<Vec<u8>> {
     let random = &mut maker.random;
     let mut words = Vec::new();

@@ -1,4 +1,5 @@
--- `crossing_lines::word_text` meets its contract: a refusal's line, or the lines of all pairs; and its buffer is enough.
+-- `crossing_lines::word_text` meets its contract: a refusal's line, or the lines of all pairs; and its buffer is
+-- enough.
 use mathlib.Core.Path.{_≡_, sym, _∙_}
 use native.Mathlib.Omega.{arith}
 use denote.Ref.{now}

@@ -1,5 +1,5 @@
--- `desk_io::fill` is safe and ends. The invariant: the buffer keeps its length, and the bytes counted lie within it. The
--- measure is what is left of it.
+-- `desk_io::fill` is safe and ends. The invariant: the buffer keeps its length, and the bytes counted lie within it.
+-- The measure is what is left of it.
 use Prim.Native.Nat.{_-_, _≤_}
 use mathlib.Core.Path.{_≡_}
 use lib.ListN.{length}

@@ -8,7 +8,7 @@ use borrow.Author.Needs.{needs}
 use lib.ListN.{take}
 use lib.Seq.{length-take-le}
 use Rattle.verify.specs.Verdict.{verdict}
-use Rattle.desk_words.specs.Making.{Makes, shortFile}
+use Rattle.desk_words.specs.Making.{MakesNew, shortFile}
 use Rattle.desk_words.proofs.MakingLaws.{bare-of, refused, makes-as, made-file, bytes-within}
 use Rattle.desk_words.proofs.Shortening.{opened-word, short-opens}
 use Rattle.desk_words.proofs.shortened.Statement.{statement}
@@ -31,7 +31,7 @@ module _ (c : tie.After-reduced) where
   opened : verdict key digest word ≡ 0
   opened = sym (c .before .before .verify .ensures) ∙ c .before .if1 .left
 
-  makes : Makes true (verdict key digest word) (shortFile word) (c .reduced .result)
+  makes : MakesNew true (verdict key digest word) (shortFile word) (c .reduced .result)
   makes = makes-as (opened-word key digest word opened ∙ sym opened) (c .reduced .ensures)
 
   file : take (c .reduced .result .bytes) (c .reduced .result .file) ≡ shortFile word

@@ -17,7 +17,7 @@ multiples-of-requires c κs = let lent = c .before .before .before .pre .2 in (l
 
 -- the number, over the field
 number-is : (c : tie.After-taken) → let a = c .before .before .before .args in
-    c .taken .result ≡ takenBy (polynomials (a .bits) (a .modulus)) (a .t-values .now) (a .labels .now) (a .negative) (a .g)
+    c .taken .result ≡ takenBy (polynomials (a .bits) (a .modulus) .inv) (a .t-values .now) (a .labels .now) (a .negative) (a .g)
 unfolding takenBy
 number-is c =
     let s = c .before .before .before in

@@ -1,24 +1,23 @@
 -- `multiplier::taken` meets its contract: each sign reads its own label.
 use mathlib.Core.Path.{ap, _∙_}
 use borrow.Author.Needs.{needs}
-use Prim.Native.Nat.{ℕ, suc, _%_}
-use mathlib.Core.List.{_∷_}
-use lib.ListN.{length, getD}
+use Rattle.field.specs.Reciprocals.{lookedUp}
 use Rattle.action.specs.Action.{tValue}
+use Rattle.action.specs.Columns.{takenBy}
 use Rattle.multiplier.proofs.taken.Statement.{statement}
 use Rattle.multiplier.proofs.taken.Tie as tie
 
 returns : tie.Need-returns
-unfolding tValue
+unfolding takenBy tValue
 returns c =
     let value = c .before in
     let s = value .before .before .before .before .before in
     let a = s .args in
     rw (value .before .before .if1 .taken)
-    (c .inverse .ensures ∙ ap (λ (v : ℕ). getD (0 ∷ a .table .now) (v % suc (length (a .table .now))) 0) (value .value-of .ensures))
+    (c .inverse .ensures ∙ ap (lookedUp (a .table .now)) (value .value-of .ensures))
 
 returns-2 : tie.Need-returns-2
-unfolding tValue
+unfolding takenBy tValue
 returns-2 c = rw (c .before .before .if1 .left) (c .value-of2 .ensures)
 
 pub taken-spec : {M : Type 1} → statement M

@@ -19,8 +19,8 @@ fn of_the_paper() -> Vec<Fixed> {
     pairs.map(named).collect()
 }
 
-/// b1 brings label 0 to the second position, so b2 swaps 0 and 2, and b1 then 1 and 2. Of the seven letters each swaps 0,
-/// which goes to the right, and the next label.
+/// b1 brings label 0 to the second position, so b2 swaps 0 and 2, and b1 then 1 and 2. Of the seven letters each swaps
+/// 0, which goes to the right, and the next label.
 fn by_hand() -> Vec<Fixed> {
     let mut cases = Vec::new();
     for (a, b) in [(0, 1), (0, 2), (1, 2)] {

@@ -60,8 +60,8 @@ fn repeated(programs: &Programs, counts: &mut Counts) -> Checked {
     Ok(())
 }
 
-/// Words of each length up to 40, of some hundred letters and as long as can be, longer inputs, refused ones, with faults in
-/// pairs, and damaged ones.
+/// Words of each length up to 40, of some hundred letters and as long as can be, longer inputs, refused ones, with
+/// faults in pairs, and damaged ones.
 pub fn check(folder: &Path, maker: &mut Maker) -> Checked<String> {
     let programs = &Programs { input: folder.join("crossings"), file: folder.join("crossings_file") };
     let counts = &mut Counts::default();

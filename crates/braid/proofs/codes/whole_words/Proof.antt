@@ -1,5 +1,5 @@
--- `braid::codes::whole_words` meets its contract. The loop's invariant: the codes of the first k bytes stand in front, the
--- others are as they were.
+-- `braid::codes::whole_words` meets its contract. The loop's invariant: the codes of the first k bytes stand in front,
+-- the others are as they were.
 use Prim.Native.Nat.{ℕ, _+_, _-_, _*_, _≤_}
 use mathlib.Core.Path.{_≡_, refl, sym, ap, _∙_}
 use mathlib.Core.List.{List, _++_}

@@ -1,10 +1,11 @@
 -- `carrying::held::constants_by_place` meets its contract: the constants of the T-values by place.
-use Prim.Native.Nat.{ℕ, suc, _%_}
+use Prim.Native.Nat.{ℕ}
 use mathlib.Core.Path.{sym, ap, _∙_}
-use mathlib.Core.List.{List, _∷_}
-use lib.ListN.{length, getD}
+use mathlib.Core.List.{List}
+use lib.ListN.{getD}
 use borrow.Author.Needs.{needs}
 use Rattle.base.proofs.ListLaws.{getD-values}
+use Rattle.field.specs.Reciprocals.{lookedUp}
 use Rattle.field.proofs.TableLaws.{inverse-at, lent-short}
 use Rattle.carrying.proofs.held.constants_by_place.Statement.{statement}
 use Rattle.carrying.proofs.held.constants_by_place.Tie as tie
@@ -22,7 +23,7 @@ constants-of-requires c κs =
       lent .narrow,
       lent .degree,
       λ a h. ap (λ (l : List ℕ). getD l a 0) (r .reciprocals-of .ensures)
-          ∙ getD-values (λ k. getD (0 ∷ table) (getD numbers k 0 % suc (length table)) 0) 8 a h
+          ∙ getD-values (λ k. lookedUp table (getD numbers k 0)) 8 a h
           ∙ inverse-at (lent .degree) table (lent .reciprocals-are) (getD numbers a 0),
     )
 

@@ -1,17 +1,18 @@
 -- `carrying::held::reciprocals_of` meets its contract. The loop's invariant: the first i reciprocals.
-use Prim.Native.Nat.{ℕ, suc, _-_, _%_, _≤_, _<_}
-use mathlib.Core.List.{List, _∷_}
+use Prim.Native.Nat.{ℕ, _-_, _≤_, _<_}
+use mathlib.Core.List.{List}
 use mathlib.Core.Path.{_≡_, refl, _∙_}
 use native.Mathlib.Omega.{arith}
 use borrow.Author.Needs.{needs}
 use lib.ListN.{length, getD, length-set}
 use Rattle.base.proofs.ListLaws.{values-of, one-more}
+use Rattle.field.specs.Reciprocals.{lookedUp}
 use Rattle.carrying.proofs.held.reciprocals_of.Statement.{statement}
 use Rattle.carrying.proofs.held.reciprocals_of.Tie as tie
 
 -- the reciprocal at a place, by the table
 abbrev reciprocal : List ℕ → List ℕ → ℕ → ℕ
-reciprocal table numbers k = getD (0 ∷ table) (getD numbers k 0 % suc (length table)) 0
+reciprocal table numbers k = lookedUp table (getD numbers k 0)
 
 abbrev Inv-loop : tie.InvT-loop
 Inv-loop numbers table list₀ i₀ list i = (i ≤ 8) × (length list ≡ 8) × ((k : ℕ) → k < i → getD list k 0 ≡ reciprocal table numbers k)

@@ -1,5 +1,5 @@
--- `crossing_lines::line::lines` meets its contract. The loop's invariant: the lines of the first k pairs are written, of
--- at most 11 bytes each.
+-- `crossing_lines::line::lines` meets its contract. The loop's invariant: the lines of the first k pairs are written,
+-- of at most 11 bytes each.
 use Prim.Native.Nat.{_-_, _*_, _≤_, _<_}
 use mathlib.Core.Path.{_≡_, refl, _∙_}
 use native.Mathlib.Omega.{arith}
