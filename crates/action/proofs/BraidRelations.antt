@@ -24,10 +24,10 @@ pub good-matrix : {F : Operations} {p : Pair} → GoodPair F p → Matrix (F .si
 good-matrix good = record { size = good .entries; below = good .entry-below }
 
 module _ {F : Operations} (L : BinaryField F) (ts : List ℕ) where
-  -- a letter keeps a pair good
-  pub letter-good : (c : ℕ) (p : Pair) → isLetter c ≡ true → GoodPair F p → GoodPair F (letterOn F ts c p)
+  -- any code, letter or not, keeps a pair good
+  pub letter-good : (c : ℕ) (p : Pair) → GoodPair F p → GoodPair F (letterOn F ts c p)
   unfolding letterOn
-  letter-good c p e good =
+  letter-good c p good =
       let g = generator c in
       let l = p .labels in
       let m = rows-good L (shareOf F ts l (isInverse c) g) g (p .matrix) (share-keeps L ts l (isInverse c) g) (good .entry-below) in
@@ -35,7 +35,7 @@ module _ {F : Operations} (L : BinaryField F) (ts : List ℕ) where
         entries = m .size;
         entry-below = m .below;
         strands = length-swapped g l ∙ good .strands;
-        label-below = swapped-below g l (omega (arith, generator-below c e, good .strands)) (good .label-below);
+        label-below = swapped-below g l (good .label-below);
       }
 
   -- a letter, then its inverse. With an inverse letter for c this is the other order

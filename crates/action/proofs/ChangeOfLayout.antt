@@ -54,7 +54,8 @@ module _ (f : Field) (p : Pair) (ts : List ℕ) (c : ℕ) (size : length (p .mat
   pub answer-turned : firstNo (multiplierQuestions f (turnedPair p) ts c) ≡ firstNo (multiplierQuestions f p ts c)
   unfolding turnedPair
   answer-turned =
-      ap (λ (b : Bool). firstNo ((elements f ts && b else 17) ∷ drop 1 (multiplierQuestions f p ts c))) (every-turned (isElement f) (p .matrix) size)
+      ap (λ (b : Bool). firstNo ((elements f ts && b && elements f [] else 17) ∷ drop 1 (multiplierQuestions f p ts c)))
+      (every-turned (isElement f) (p .matrix) size)
 
   pub given-turned : (q : Pair)
       → granted (firstNo (multiplierQuestions f (turnedPair p) ts c)) (letterOn (operations f) ts c (turnedPair p)) (turnedPair q)

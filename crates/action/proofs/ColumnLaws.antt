@@ -195,7 +195,7 @@ letter-carried bits cs columns labels columns′ labels′ c at held letter e cr
         bytes = held .bytes;
         nine = crossed .nine;
         eight = ap length (crossed .exchanged) ∙ length-swapped g labels ∙ held .eight;
-        below = λ k. rw (crossed .exchanged) (swapped-below g labels (omega (arith, held .eight)) (held .below) k);
+        below = λ k. rw (crossed .exchanged) (swapped-below g labels (held .below) k);
       };
       carries = λ p degree ts constants.
           crossed-letter bits p degree ts cs columns labels columns′ labels′ c at letter

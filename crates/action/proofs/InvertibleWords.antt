@@ -20,7 +20,7 @@ use Rattle.action.specs.Action.{pairOf, identityWith, letterOn, wordOn}
 use Rattle.action.specs.Good.{TValues, GoodPair}
 use Rattle.action.proofs.LinearLaws.{letter-product}
 use Rattle.action.proofs.BraidRelations.{good-matrix, letter-good, letter-inverse}
-use Rattle.action.proofs.WordLaws.{word-good}
+use Rattle.action.proofs.WordLaws.{codes-good}
 
 -- another matrix of elements with a good pair's labels
 good-with : {F : Operations} {p : Pair} → GoodPair F p → (m : List ℕ) → Matrix (F .size) m → GoodPair F (pairOf m (p .labels))
@@ -43,7 +43,7 @@ module _ {F : Operations} (L : BinaryField F) (ts : List ℕ) (tv : TValues F ts
     back = letterOn F ts (inverse c) (identityWith (swapped (generator c) (p .labels))) .matrix
 
     there-elements : Matrix (F .size) there
-    there-elements = good-matrix (letter-good L ts c (identityWith (p .labels)) e (good-with good identity (identity-elements L)))
+    there-elements = good-matrix (letter-good L ts c (identityWith (p .labels)) (good-with good identity (identity-elements L)))
 
     there-back : matrixProduct F there back ≡ identity
     there-back =
@@ -83,7 +83,7 @@ module _ {F : Operations} (L : BinaryField F) (ts : List ℕ) (tv : TValues F ts
       → HasInverse F (letterOn F ts c p .matrix) ↔ HasInverse F (p .matrix)
   letter-has-inverse c e p good = (
     letter-back c e p good,
-    λ h. letter-back (inverse c) (inverse-letter c e) (letterOn F ts c p) (letter-good L ts c p e good)
+    λ h. letter-back (inverse c) (inverse-letter c e) (letterOn F ts c p) (letter-good L ts c p good)
         (rw (letter-inverse L ts c p tv e good) h),
   )
 
@@ -93,7 +93,7 @@ module _ {F : Operations} (L : BinaryField F) (ts : List ℕ) (tv : TValues F ts
   word-has-inverse [] e p good = (λ h. h, λ h. h)
   word-has-inverse (c ∷ w) e p good =
       let l = lettered-cons c w e in
-      let rest = word-has-inverse w (l .1) (letterOn F ts c p) (letter-good L ts c p (l .0) good) in
+      let rest = word-has-inverse w (l .1) (letterOn F ts c p) (letter-good L ts c p good) in
       let first = letter-has-inverse c (l .0) p good in
       (λ h. first .0 (rest .0 h), λ h. rest .1 (first .1 h))
 
@@ -103,7 +103,7 @@ module _ {F : Operations} (L : BinaryField F) (ts : List ℕ) (tv : TValues F ts
   word-invertible w e p good = equal _ _ (λ t. there-iff .1 (both .0 (after-iff .0 t))) (λ t. after-iff .1 (both .1 (there-iff .0 t)))
     where
       after-iff : (invertible F 8 (entry (wordOn F ts w p .matrix)) ≡ true) ↔ HasInverse F (wordOn F ts w p .matrix)
-      after-iff = invertible-iff L (wordOn F ts w p .matrix) (good-matrix (word-good L ts w p e good))
+      after-iff = invertible-iff L (wordOn F ts w p .matrix) (good-matrix (codes-good L ts w p good))
 
       there-iff : (invertible F 8 (entry (p .matrix)) ≡ true) ↔ HasInverse F (p .matrix)
       there-iff = invertible-iff L (p .matrix) (good-matrix good)

@@ -3,7 +3,6 @@ pub mod RowBraid
 pub mod ShareLaws
 pub mod BraidRelations
 pub mod WordLaws
-pub mod CancelLaws
 pub mod GoodLaws
 pub mod CarryLaws
 pub mod ColumnLaws

@@ -1,27 +1,39 @@
--- The multiplier: what its answer tells, and what it gives.
+-- The multiplier: which question decides, and what is given.
 use Prim.Native.Nat.{ℕ}
 use mathlib.Core.Path.{_≡_, sym, _∙_}
-use mathlib.Core.Bool.{true}
-use mathlib.Core.List.{List, []}
-use Rattle.base.specs.Questions.{firstNo}
-use Rattle.base.proofs.QuestionLaws.{granted-zero, granted-refused, answers-passed}
+use mathlib.Core.Bool.{true, false}
+use mathlib.Core.List.{List, [], _∷_}
+use Rattle.base.specs.Questions.{Question, _else_, firstNo}
+use Rattle.base.proofs.QuestionLaws.{passes, fails, all-passed, refused-there, granted-zero, granted-refused}
 use Rattle.field.specs.Fields.{operations}
 use Rattle.field.specs.declared.Field.{Field}
 use Rattle.braid.specs.Letters.{isLetter}
 use Rattle.action.specs.declared.Pair.{Pair}
 use Rattle.action.specs.Action.{letterOn}
-use Rattle.action.specs.Multiplier.{multiplierQuestions, zeroPair, Multiplies}
+use Rattle.action.specs.Multiplier.{pairQuestions, multiplierQuestions, zeroPair, Multiplies}
 
 module _ (f : Field) (p : Pair) (ts : List ℕ) (c : ℕ) where
-  -- answer 0: the code is a letter
-  pub granted-letter : firstNo (multiplierQuestions f p ts c) ≡ 0 → isLetter c ≡ true
-  granted-letter e = answers-passed (multiplierQuestions f p ts c) tt e .1 .1 .1 .0
+  -- the last question
+  abbrev last : List Question
+  last = (isLetter c else 12) ∷ []
 
-  -- what is given
-  pub multiplied : {answer : ℕ} {after : Pair} → answer ≡ firstNo (multiplierQuestions f p ts c) → answer ≡ 0 → after ≡ letterOn (operations f) ts c p
-      → Multiplies f p ts c answer after
-  multiplied a z e = record { answer-is = a; pair-is = e ∙ sym (granted-zero (letterOn (operations f) ts c p) zeroPair (sym a ∙ z)) }
+  -- the T-values or the pair are refused; they are passed, and the code is no letter, or is one
+  pub pair-refused : (firstNo (pairQuestions f ts p []) ≡ 0 → ⊥) → firstNo (multiplierQuestions f p ts c) ≡ firstNo (pairQuestions f ts p [])
+  pair-refused h = refused-there (pairQuestions f ts p []) last tt h
 
-  pub refused : {answer : ℕ} {after : Pair} → answer ≡ firstNo (multiplierQuestions f p ts c) → (answer ≡ 0 → ⊥) → after ≡ zeroPair
+  pub letter-refused : firstNo (pairQuestions f ts p []) ≡ 0 → isLetter c ≡ false → firstNo (multiplierQuestions f p ts c) ≡ 12
+  letter-refused z e = all-passed (pairQuestions f ts p []) last tt z ∙ fails 12 [] e
+
+  pub none-refused : firstNo (pairQuestions f ts p []) ≡ 0 → isLetter c ≡ true → firstNo (multiplierQuestions f p ts c) ≡ 0
+  unfolding firstNo
+  none-refused z e = all-passed (pairQuestions f ts p []) last tt z ∙ passes 12 [] e
+
+  -- what is given where no question is failed
+  pub multiplied : {after : Pair} → firstNo (multiplierQuestions f p ts c) ≡ 0 → after ≡ letterOn (operations f) ts c p → Multiplies f p ts c 0 after
+  multiplied z e = record { answer-is = sym z; pair-is = e ∙ sym (granted-zero (letterOn (operations f) ts c p) zeroPair z) }
+
+  -- and on a refusal, as `Multiplied::refused` makes it
+  pub refused : {answer : ℕ} {after : Pair} (n : ℕ) → (answer ≡ n) × (after ≡ zeroPair) → firstNo (multiplierQuestions f p ts c) ≡ n → (n ≡ 0 → ⊥)
       → Multiplies f p ts c answer after
-  refused a n e = record { answer-is = a; pair-is = e ∙ sym (granted-refused (letterOn (operations f) ts c p) zeroPair (λ z. n (a ∙ z))) }
+  refused n r e h =
+      record { answer-is = r .0 ∙ sym e; pair-is = r .1 ∙ sym (granted-refused (letterOn (operations f) ts c p) zeroPair (λ z. h (sym e ∙ z))) }

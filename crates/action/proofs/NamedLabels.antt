@@ -94,7 +94,7 @@ module _ (names : List ℕ) where
         let letter = and-left (isLetter c) (every isLetter w) e in
         let g = generator c in
         word-named w (letterOn F (valuesAt ts names) c (pairOf m places) .matrix) (swapped g places) (and-right (isLetter c) (every isLetter w) e)
-        (length-swapped g places ∙ l) (swapped-below g places (omega (arith, generator-below c letter)) b)
+        (length-swapped g places ∙ l) (swapped-below g places b)
         ∙ ap (wordOn F ts w) (sym (letter-named c m places letter l b))
 
 -- ---- the loop begins with every label at its own place

@@ -1,16 +1,17 @@
 -- Wrong multipliers are shut out by the contract, each by a witness: one that leaves its pair, one that takes the
 -- T-value at a place and not that of the label there, one that exchanges two labels wherever they are and not two
 -- places, and one that changes a letter's own column before a neighbour has read it. Each is refuted for positive
--- letters alone and for inverse ones alone, on the identity matrix with eight labels, each once.
+-- letters alone and for inverse ones alone, on the identity matrix with eight labels, each once. And one that asks 6
+-- before 4.
 use Prim.Native.Nat.{ℕ, _+_}
 use mathlib.Core.Path.{_≡_, refl, sym, ap, _∙_}
 use mathlib.Core.Bool.{Bool, true, false, cond}
 use mathlib.Core.List.{List, [], _∷_, map}
 use native.Mathlib.Omega.{arith}
 use lib.Dec.{eqb}
-use lib.ListN.{length, getD}
+use lib.ListN.{length, getD, replicate}
 use Rattle.base.specs.Questions.{firstNo}
-use Rattle.base.specs.Lists.{every, count, values, valuesFrom, eachOnce}
+use Rattle.base.specs.Lists.{every, values, valuesFrom, eachOnce, tally}
 use Rattle.base.proofs.QuestionLaws.{granted-zero}
 use Rattle.field.specs.Polynomial.{timesX, horner, times, first, reciprocalOf}
 use Rattle.field.specs.Gf32.{gf32}
@@ -103,12 +104,12 @@ module _ (f : Multiplier) (meets : Meets f) where
 
   -- b3: row 3 has 2, 2, 1 in columns 2, 3, 4. Its inverse: 1, 28, 28 (document 01's slips)
   pub leaves-its-pair : (inverse : Bool) → Gives inverse (λ ts c p. p) → ⊥
-  unfolding identity place rowOf columnOf entry matrixOf valuesFrom firstNo every count eachOnce tValue shareOf rowAfter letterOn times horner timesX
+  unfolding identity place rowOf columnOf entry matrixOf valuesFrom firstNo every tally eachOnce tValue shareOf rowAfter letterOn times horner timesX
   leaves-its-pair true wrong = let e : _≡_ {A = ℕ} 1 0 = shows (at 2 1) in-order 10 wrong refl refl refl in omega arith
   leaves-its-pair false wrong = let e : _≡_ {A = ℕ} 2 0 = shows (at 2 1) in-order 2 wrong refl refl refl in omega arith
 
   pub own-column-first : (before inverse : Bool) → Gives inverse (ownFirst before) → ⊥
-  unfolding identity place rowOf columnOf entry matrixOf valuesFrom firstNo every count eachOnce tValue shareOf rowAfter letterOn times horner timesX first reciprocalOf
+  unfolding identity place rowOf columnOf entry matrixOf valuesFrom firstNo every tally eachOnce tValue shareOf rowAfter letterOn times horner timesX first reciprocalOf
   own-column-first true true wrong = let e : _≡_ {A = ℕ} 1 28 = shows (at 2 1) in-order 10 wrong refl refl refl in omega arith
   own-column-first true false wrong = let e : _≡_ {A = ℕ} 2 4 = shows (at 2 1) in-order 2 wrong refl refl refl in omega arith
   own-column-first false true wrong = let e : _≡_ {A = ℕ} 28 23 = shows (at 2 3) in-order 10 wrong refl refl refl in omega arith
@@ -117,11 +118,18 @@ module _ (f : Multiplier) (meets : Meets f) where
   -- labels 2 and 3 stand at the first two places: b1 takes 2 and not 1, its inverse 28 and not 1, and label 3 comes
   -- first
   pub value-of-the-place : (inverse : Bool) → Gives inverse ofPlace → ⊥
-  unfolding identity place rowOf columnOf entry matrixOf valuesFrom firstNo every count eachOnce tValue shareOf rowAfter letterOn times horner timesX first reciprocalOf
+  unfolding identity place rowOf columnOf entry matrixOf valuesFrom firstNo every tally eachOnce tValue shareOf rowAfter letterOn times horner timesX first reciprocalOf
   value-of-the-place true wrong = let e : _≡_ {A = ℕ} 28 1 = shows (at 0 0) crossed 8 wrong refl refl refl in omega arith
   value-of-the-place false wrong = let e : _≡_ {A = ℕ} 2 1 = shows (at 0 0) crossed 0 wrong refl refl refl in omega arith
 
   pub labels-by-value : (inverse : Bool) → Gives inverse byValue → ⊥
-  unfolding firstNo every count eachOnce valuesFrom identity rowOf columnOf matrixOf swapped letterOn
+  unfolding firstNo every tally eachOnce valuesFrom identity rowOf columnOf matrixOf swapped letterOn
   labels-by-value true wrong = let e : _≡_ {A = ℕ} 3 2 = shows first-label crossed 8 wrong refl refl refl in omega arith
   labels-by-value false wrong = let e : _≡_ {A = ℕ} 3 2 = shows first-label crossed 0 wrong refl refl refl in omega arith
+
+-- ---- the order of the questions
+
+-- eight T-values 0 and eight labels 0: 4, and not 6
+pub no-6-before-4 : {answer : ℕ} {after : Pair} → Multiplies Gf32 (identityWith (replicate 8 0)) (replicate 8 0) 0 answer after → answer ≡ 6 → ⊥
+unfolding identity rowOf columnOf matrixOf valuesFrom firstNo every
+no-6-before-4 m wrong = let e : _≡_ {A = ℕ} 6 4 = sym wrong ∙ m .answer-is in omega arith

@@ -6,11 +6,10 @@ use mathlib.Core.Bool.{Bool, cond}
 use mathlib.Core.List.{List, [], _∷_}
 use lib.Dec.{eqb}
 use lib.ListN.{getD}
-use Rattle.base.specs.Lists.{every}
 use Rattle.field.specs.Binary.{Operations}
 use Rattle.matrix.specs.Layout.{entry, matrixOf}
 use Rattle.matrix.specs.Product.{identity}
-use Rattle.braid.specs.Letters.{generator, isInverse, isLetter}
+use Rattle.braid.specs.Letters.{generator, isInverse}
 use Rattle.action.specs.declared.Pair.{Pair}
 use Rattle.braid.specs.Strands.{inOrder, swapped}
 
@@ -67,10 +66,6 @@ letterOn F ts c p =
 unfoldable pub wordOn : Operations → List ℕ → List ℕ → Pair → Pair
 wordOn F ts [] p = p
 wordOn F ts (c ∷ w) p = wordOn F ts w (letterOn F ts c p)
-
--- a row of codes on a pair: the word that they are, where every one is a letter; otherwise the pair as it was
-unfoldable pub codesOn : Operations → List ℕ → List ℕ → Pair → Pair
-codesOn F ts cs p = cond (every isLetter cs) (wordOn F ts cs p) p
 
 -- the identity matrix with a list
 abbrev pub identityWith : List ℕ → Pair

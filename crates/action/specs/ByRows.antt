@@ -11,7 +11,7 @@ use Rattle.action.specs.Action.{shareOf, rowAfter, pairOf}
 
 -- the change of layout of a pair's matrix; its list stays
 unfoldable pub turnedPair : Pair → Pair
-turnedPair p = pairOf (turned (p .matrix)) (p .labels)
+turnedPair p = record { matrix = turned (p .matrix); labels = p .labels }
 
 -- one letter on a pair
 unfoldable pub letterByRows : Operations → List ℕ → ℕ → Pair → Pair

@@ -5,9 +5,11 @@ ghost use Rattle.action.specs.Action.{pairOf, start};
 ghost use Rattle.action.specs.Multiplier.{zeroPair};
 
 mod letter; // letter.rt: one letter, in place
+mod questions; // questions.rt: what is asked of T-values and a pair
 
 pub use letter::cross;
 pub use letter::one_letter;
+pub use questions::pair_answer;
 
 // An 8 by 8 matrix, column by column, and a list of eight labels.
 #[repr(C)]
@@ -21,6 +23,16 @@ pub struct Pair {
 pub struct Multiplied {
     pub answer: u8,
     pub pair: Pair,
+}
+
+impl Multiplied {
+    // A refusal: its number, and zeros.
+    pub fn refused(answer: u8) -> Multiplied
+        ensures { λ r. ⌜ (r .answer ≡ answer) × (r .pair ≡ zeroPair) ⌝ }
+    {
+        let pair = Pair::zeros();
+        Multiplied { answer, pair }
+    }
 }
 
 impl Pair {
@@ -41,7 +53,9 @@ impl Pair {
     pub fn zeros() -> Pair
         ensures { λ r. ⌜ r ≡ zeroPair ⌝ }
     {
-        Pair::with([0u8; 64], [0u8; 8])
+        let matrix = [0u8; 64];
+        let labels = [0u8; 8];
+        Pair { matrix, labels }
     }
 
     // The starting pair: the identity matrix with the list 0 to 7.

@@ -5,11 +5,12 @@ use Prim.Native.Nat.{ℕ, zero, suc, _+_, _-_, _*_, _/_, _%_, _^_, _≤_, _<_}
 use mathlib.Core.Path.{_≡_, refl, sym, ap, ap₂, _∙_}
 use mathlib.Core.Bool.{Bool, true, _&&_}
 use mathlib.Core.List.{List, [], _∷_, _++_}
-use native.Mathlib.Nat.{add-assoc, add-comm, add-zero, zero-add, suc-add, mul-comm, mul-assoc, add-mul, mul-one, one-mul, zero-mul, pow-zero, pow-suc, pow-succ', one-le-pow, mul-le-mul-right, suc-mul, zero-lt-suc, mod-lt, mod-eq-of-lt, mod-one, div-eq-of-lt, div-add-mod', div-div-eq-div-mul, add-mul-div-right, add-mul-mod-self-right, mul-add-mod-self-right, mul-add-div-right}
+use native.Mathlib.Nat.{add-assoc, add-comm, add-zero, zero-add, suc-add, mul-comm, mul-assoc, add-mul, mul-one, one-mul, zero-mul, pow-zero, pow-suc, pow-succ', one-le-pow, zero-lt-suc, mod-lt, mod-eq-of-lt, mod-one, div-add-mod', div-div-eq-div-mul, add-mul-div-right, add-mul-mod-self-right}
 use native.Mathlib.Numerals.{add-one}
 use native.Mathlib.Omega.{arith}
 use borrow.Author.Tests.{ltb-true, lt-ltb}
 use lib.Dec.{ltb}
+use lib.Arith.{digits-lt, digits-div, mod-mul}
 use lib.Pow.{pow-add}
 use lib.ListN.{length, take, drop, getD, length-append}
 use lib.Seq.{take-suc, take-nil, take-add, getD-drop}
@@ -78,18 +79,12 @@ value-first-two b [] h = absurd (omega arith)
 value-first-two b (x ∷ []) h = absurd (omega arith)
 value-first-two b (x ∷ y ∷ xs) h = value-two b x y
 
-top-below : (x b q w : ℕ) → x < b → w < q → x * q + w < b * q
-top-below x b q w l m =
-    let g : suc x * q ≤ b * q = mul-le-mul-right q l in
-    let e : suc x * q ≡ x * q + q = suc-mul x q in
-    omega arith
-
 -- digits below b write a number below b to the power of their number
 pub value-below : (b : ℕ) (xs : List ℕ) → ((k : ℕ) → getD xs k 0 < b) → value b xs < b ^ length xs
 unfolding value
 value-below b [] h = rw (pow-zero b) (zero-lt-suc 0)
 value-below b (x ∷ xs) h =
-    rw (pow-succ' b (length xs)) (top-below x b (b ^ length xs) (value b xs) (h 0) (value-below b xs (λ k. h (suc k))))
+    rw (pow-succ' b (length xs)) (digits-lt (h 0) (value-below b xs (λ k. h (suc k))))
 
 -- ---- digits
 
@@ -112,6 +107,13 @@ digits-add-multiple b (suc n) v w p =
     (ap (λ (d : ℕ). d % b) (add-mul-div-right v (w * b) (positive-pow p n)) ∙ add-mul-mod-self-right (v / b ^ n) w b)
     (digits-add-multiple b n v (w * b) p))
 
+-- the digits of a number in two parts
+pub digits-join : (b m n v w : ℕ) → 0 < b → w < b ^ n → digits b (m + n) (v * b ^ n + w) ≡ digits b m v ++ digits b n w
+digits-join b m n v w p h =
+    digits-append b m n (v * b ^ n + w)
+    ∙ ap₂ (λ (d : ℕ) (r : List ℕ). digits b m d ++ r) (digits-div v h)
+    (ap (digits b n) (add-comm (v * b ^ n) w) ∙ digits-add-multiple b n w v p)
+
 pub digits-below : (b n v : ℕ) → 0 < b → (k : ℕ) → getD (digits b n v) k 0 < b
 unfolding digits
 digits-below b zero v p k = p
@@ -120,32 +122,14 @@ digits-below b (suc n) v p (suc k) = digits-below b n v p k
 
 -- ---- one of the other
 
--- a remainder in two parts
-pub mod-mul : (v q b : ℕ) → 0 < q → 0 < b → v % (q * b) ≡ v / q % b * q + v % q
-mod-mul v q b p r =
-    ap (λ (n : ℕ). n % (q * b)) whole
-    ∙ mul-add-mod-self-right (v / q / b) (q * b) (v / q % b * q + v % q)
-    ∙ mod-eq-of-lt (rw (mul-comm q b) (top-below (v / q % b) b q (v % q) (mod-lt (v / q) r) (mod-lt v p)))
-  where
-    whole : v ≡ v / q / b * (q * b) + (v / q % b * q + v % q)
-    whole =
-        sym (div-add-mod' v q)
-        ∙ ap (λ (d : ℕ). d * q + v % q) (sym (div-add-mod' (v / q) b))
-        ∙ simp (add-mul, mul-assoc, add-assoc, mul-comm q b)
-
 pub value-digits : (b n v : ℕ) → 0 < b → value b (digits b n v) ≡ v % b ^ n
 unfolding value digits
 value-digits b zero v p = rw (pow-zero b) (sym (mod-one v))
 value-digits b (suc n) v p =
-    rw (length-digits b n v, value-digits b n v p, pow-suc b n) (sym (mod-mul v (b ^ n) b (positive-pow p n) p))
+    rw (length-digits b n v, value-digits b n v p, pow-succ' b n) (sym (mod-mul v p (positive-pow p n)))
 
 pub value-digits-below : (b n v : ℕ) → 0 < b → v < b ^ n → value b (digits b n v) ≡ v
 value-digits-below b n v p h = value-digits b n v p ∙ mod-eq-of-lt h
-
-head-digit : (x b q w : ℕ) → x < b → w < q → (x * q + w) / q % b ≡ x
-head-digit x b q w l m =
-    let p : 0 < q = omega arith in
-    ap (λ (d : ℕ). d % b) (mul-add-div-right p x w ∙ ap (λ (d : ℕ). x + d) (div-eq-of-lt m) ∙ add-zero x) ∙ mod-eq-of-lt l
 
 pub digits-value : (b : ℕ) (xs : List ℕ) → ((k : ℕ) → getD xs k 0 < b) → digits b (length xs) (value b xs) ≡ xs
 unfolding value digits
@@ -153,7 +137,7 @@ digits-value b [] h = refl
 digits-value b (x ∷ xs) h =
     let p : 0 < b = omega (arith, h 0) in
     ap₂ (λ (y : ℕ) (ys : List ℕ). y ∷ ys)
-    (head-digit x b (b ^ length xs) (value b xs) (h 0) (value-below b xs (λ k. h (suc k))))
+    (ap (λ (d : ℕ). d % b) (digits-div x (value-below b xs (λ k. h (suc k)))) ∙ mod-eq-of-lt (h 0))
     (ap (digits b (length xs)) (add-comm (x * b ^ length xs) (value b xs))
     ∙ digits-add-multiple b (length xs) (value b xs) x p
     ∙ digits-value b xs (λ k. h (suc k)))

@@ -1,9 +1,9 @@
 -- Laws of lists of numbers: a test on every element and its elements one by one, lists of values, two lists compared,
--- how often a number occurs, and what a writer leaves of its output.
+-- how many elements pass a test, and what a writer leaves of its output.
 use Prim.Native.Nat.{ℕ, zero, suc, _+_, _≤_, _<_, zero-le, suc-le-suc}
 use mathlib.Core.Path.{_≡_, refl, sym, ap, ap₂, _∙_}
 use mathlib.Core.Bool.{Bool, true, false, cond, _&&_, Bool·beq, true≢false, false≢true}
-use mathlib.Core.List.{List, [], _∷_, _++_, append-assoc}
+use mathlib.Core.List.{List, [], _∷_, _++_, append-assoc, append-nil}
 use native.Mathlib.Nat.{not-suc-le-zero, le-of-suc-le-suc, zero-lt-suc, add-zero, add-suc, zero-add, suc-add}
 use native.Mathlib.Numerals.{add-one}
 use native.Mathlib.Omega.{arith}
@@ -11,8 +11,8 @@ use native.Mathlib.Decide.{ℕ-discrete}
 use borrow.Author.Tests.{eqb-true, eq-eqb}
 use lib.Dec.{eqb}
 use lib.ListN.{length, take, drop, getD, set, length-append, length-take, length-drop, take-append-drop}
-use lib.Seq.{take-suc, drop-cons, length-take-le, drop-nil, drop-drop, take-length, take-all, take-at, drop-at, set-at, append-snoc, take-append-seam, drop-append-seam, drop-append-le, ext-getD, getD-set-same, getD-set-other}
-use Rattle.base.specs.Lists.{every, count, valuesFrom, values, equal, overlaid}
+use lib.Seq.{take-suc, drop-cons, length-take-le, drop-nil, drop-drop, drop-length, take-length, take-all, take-at, drop-at, set-at, append-snoc, take-append-seam, drop-append-seam, drop-append-le, ext-getD, getD-set-same, getD-set-other}
+use Rattle.base.specs.Lists.{every, valuesFrom, values, equal, overlaid, tally}
 
 -- ---- two tests at once
 
@@ -190,37 +190,38 @@ equal-false xs ys h = not-true-false (equal xs ys) (λ t. h (equal-true xs ys t)
 pub equal-refuted : (xs ys : List ℕ) (k : ℕ) → (getD xs k 0 ≡ getD ys k 0 → ⊥) → equal xs ys ≡ false
 equal-refuted xs ys k h = equal-false xs ys (λ e. h (ap (λ (l : List ℕ). getD l k 0) e))
 
--- ---- how often a number occurs
+-- ---- how many elements pass a test
 
-pub count-append : (a : ℕ) (xs ys : List ℕ) → count a (xs ++ ys) ≡ count a xs + count a ys
-unfolding count
-count-append a [] ys = sym (zero-add (count a ys))
-count-append a (x ∷ xs) ys = go (eqb x a) (count-append a xs ys)
-  where
-    go : (b : Bool) → count a (xs ++ ys) ≡ count a xs + count a ys
-        → cond b (suc (count a (xs ++ ys))) (count a (xs ++ ys)) ≡ cond b (suc (count a xs)) (count a xs) + count a ys
-    go true e = omega arith
-    go false e = e
+module _ (f : ℕ → Bool) where
+  pub tally-append : (xs ys : List ℕ) → tally f (xs ++ ys) ≡ tally f xs + tally f ys
+  unfolding tally
+  tally-append [] ys = sym (zero-add (tally f ys))
+  tally-append (x ∷ xs) ys = go (f x) (tally-append xs ys)
+    where
+      go : (b : Bool) → tally f (xs ++ ys) ≡ tally f xs + tally f ys
+          → cond b (suc (tally f (xs ++ ys))) (tally f (xs ++ ys)) ≡ cond b (suc (tally f xs)) (tally f xs) + tally f ys
+      go true e = omega arith
+      go false e = e
 
--- one more element
-pub count-more : (a : ℕ) (xs : List ℕ) (k : ℕ) → k < length xs
-    → count a (take (k + 1) xs) ≡ cond (eqb (getD xs k 0) a) (count a (take k xs) + 1) (count a (take k xs))
-unfolding count
-count-more a xs k h = rw (add-one k, take-suc xs k 0 h) (count-append a (take k xs) (getD xs k 0 ∷ []) ∙ go (eqb (getD xs k 0) a))
-  where
-    go : (b : Bool) → count a (take k xs) + cond b 1 0 ≡ cond b (count a (take k xs) + 1) (count a (take k xs))
-    go true = refl
-    go false = omega arith
+  -- one more element
+  pub tally-more : (xs : List ℕ) (k : ℕ) → k < length xs
+      → tally f (take (k + 1) xs) ≡ cond (f (getD xs k 0)) (tally f (take k xs) + 1) (tally f (take k xs))
+  unfolding tally
+  tally-more xs k h = rw (add-one k, take-suc xs k 0 h) (tally-append (take k xs) (getD xs k 0 ∷ []) ∙ go (f (getD xs k 0)))
+    where
+      go : (b : Bool) → tally f (take k xs) + cond b 1 0 ≡ cond b (tally f (take k xs) + 1) (tally f (take k xs))
+      go true = refl
+      go false = omega arith
 
--- no number occurs more often than the list is long
-pub count-le : (a : ℕ) (xs : List ℕ) → count a xs ≤ length xs
-unfolding count
-count-le a [] = zero-le
-count-le a (x ∷ xs) = go (eqb x a) (count-le a xs)
-  where
-    go : (b : Bool) → count a xs ≤ length xs → cond b (suc (count a xs)) (count a xs) ≤ suc (length xs)
-    go true e = omega arith
-    go false e = omega arith
+  -- no more than there are
+  pub tally-le : (xs : List ℕ) → tally f xs ≤ length xs
+  unfolding tally
+  tally-le [] = zero-le
+  tally-le (x ∷ xs) = go (f x) (tally-le xs)
+    where
+      go : (b : Bool) → tally f xs ≤ length xs → cond b (suc (tally f xs)) (tally f xs) ≤ suc (length xs)
+      go true e = omega arith
+      go false e = omega arith
 
 -- ---- what a writer leaves
 
@@ -256,21 +257,31 @@ overlaid-append xs ys out =
     ∙ ap (λ (l : List ℕ). xs ++ (ys ++ l))
     (ap (λ (n : ℕ). drop n out) (length-append xs ys) ∙ sym (drop-drop (length ys) (length xs) out))
 
+-- a part behind them is lent, and comes back as ys
+pub laid-more : (xs ys out now : List ℕ) (i n : ℕ) → now ≡ overlaid xs out → length xs ≡ i → length ys ≡ n
+    → take i now ++ (ys ++ drop n (drop i now)) ≡ overlaid (xs ++ ys) out
+unfolding overlaid
+laid-more xs ys out now i n o lx ly =
+    let rest = drop (length xs) out in
+    rw (o, take-at xs rest i lx, drop-at xs rest i lx, ← ly) (sym (overlaid-append xs ys out))
+
 -- n places behind them are lent, and come back with bytes in front
 pub overlaid-more : (xs ys out now : List ℕ) (i n : ℕ) → i ≡ length xs → length ys ≤ n → i + length ys ≤ length out → now ≡ overlaid xs out
     → take i now ++ (overlaid ys (take n (drop i now)) ++ drop n (drop i now)) ≡ overlaid (xs ++ ys) out
 unfolding overlaid
 overlaid-more xs ys out now i n e h l o =
-    let rest : List ℕ = drop (length xs) out in
-    let few : length ys ≤ length (take n rest) = omega (arith, length-take n rest, length-drop (length xs) out) in
-    ap (λ (w : List ℕ). take i w ++ (overlaid ys (take n (drop i w)) ++ drop n (drop i w))) o
-    ∙ ap₂ (λ (p q : List ℕ). p ++ (overlaid ys (take n q) ++ drop n q)) (take-at xs rest i (sym e)) (drop-at xs rest i (sym e))
-    ∙ ap (λ (w : List ℕ). xs ++ w)
+    let rest = drop i now in
+    let few : length ys ≤ length (take n rest) =
+    omega (arith, length-take n rest, length-drop i now, ap length o, length-overlaid xs out (omega arith)) in
+    ap (λ (w : List ℕ). take i now ++ w)
     (append-assoc ys (drop (length ys) (take n rest)) (drop n rest)
-    ∙ ap (λ (w : List ℕ). ys ++ w)
-    (sym (drop-append-le (length ys) (take n rest) (drop n rest) few) ∙ ap (drop (length ys)) (take-append-drop n rest)))
-    ∙ sym (overlaid-append xs ys out)
+    ∙ ap (λ (w : List ℕ). ys ++ w) (sym (drop-append-le (length ys) (take n rest) (drop n rest) few) ∙ ap (drop (length ys)) (take-append-drop n rest)))
+    ∙ laid-more xs ys out now i (length ys) o (sym e) refl
 
 -- bytes that fill the output
 pub overlaid-all : (bytes out : List ℕ) → length bytes ≡ length out → overlaid (take (length out) bytes) out ≡ overlaid bytes out
 overlaid-all bytes out e = ap (λ (l : List ℕ). overlaid l out) (take-all (length out) bytes (omega arith))
+
+pub overlaid-whole : (bytes out : List ℕ) → length bytes ≡ length out → overlaid bytes out ≡ bytes
+unfolding overlaid
+overlaid-whole bytes out e = rw (e, drop-length out) (append-nil bytes)

@@ -1,17 +1,18 @@
 -- Digits read one by one, written one by one from the last, and regrouped group by group: the steps of the loops that
--- pack and unpack; and that they are each the other's way back.
+-- pack and unpack.
 use Prim.Native.Nat.{ℕ, suc, _+_, _-_, _*_, _/_, _%_, _^_, _≤_, _<_}
 use mathlib.Core.Path.{_≡_, sym, ap, ap₂, _∙_, subst}
-use mathlib.Core.List.{List, [], _∷_, _++_, append-assoc, append-nil}
-use native.Mathlib.Nat.{le-trans, lt-of-lt-of-le, add-comm, suc-mul, one-mul, mul-le-mul-right, pow-zero, pow-suc, pow-le-pow-right, div-one, div-div-eq-div-mul}
+use mathlib.Core.List.{List, _∷_, _++_}
+use native.Mathlib.Nat.{le-trans, lt-of-lt-of-le, suc-mul, mul-le-mul-right, pow-zero, pow-suc, pow-le-pow-right, div-one, div-div-eq-div-mul}
 use native.Mathlib.Numerals.{add-one}
 use native.Mathlib.Omega.{arith}
-use lib.ListN.{length, take, drop, getD, set, length-drop}
-use lib.Seq.{take-all, take-suc, take-add, take-at, drop-at, drop-drop, take-length, drop-length, length-take-le, set-split}
-use lib.Arith.{digits-div, digits-mod}
+use lib.ListN.{length, take, drop, getD, set, length-append, length-drop}
+use lib.Seq.{take-all, take-suc, take-add, drop-at, length-take-le, set-split}
+use Rattle.base.specs.Lists.{overlaid}
 use Rattle.base.specs.Digits.{value, digits, part}
 use Rattle.base.specs.Packing.{Below}
-use Rattle.base.proofs.DigitLaws.{take-below, drop-below, length-digits, value-append, value-snoc, value-below, value-digits-below, digits-append, digits-add-multiple, digits-value}
+use Rattle.base.proofs.ListLaws.{laid-more, overlaid-whole}
+use Rattle.base.proofs.DigitLaws.{take-below, drop-below, length-digits, value-append, value-snoc, value-below, digits-join}
 
 pub below-part : (b at n : ℕ) (xs : List ℕ) → Below b xs → Below b (part at n xs)
 below-part b at n xs h = take-below n (drop at xs) (drop-below at xs h)
@@ -47,15 +48,9 @@ spelled-none b number = sym (ap (λ (x : ℕ). number / x) (pow-zero b) ∙ div-
 
 -- ---- regrouping: one group more
 
-regrouped-more : (b m to n j : ℕ) (xs ys : List ℕ) → Below b ys → length ys ≡ m → b ^ m ≡ to ^ n → 0 < to
-    → digits to (j + n) (value b (xs ++ ys)) ≡ digits to j (value b xs) ++ digits to n (value b ys)
-regrouped-more b m to n j xs ys below lm e p =
-    let w : value b (xs ++ ys) ≡ value b xs * to ^ n + value b ys =
-    value-append b xs ys ∙ ap (λ (l : ℕ). value b xs * l + value b ys) (ap (λ (l : ℕ). b ^ l) lm ∙ e) in
-    let s : value b ys < to ^ n = subst (λ (l : ℕ). value b ys < l) (ap (λ (l : ℕ). b ^ l) lm ∙ e) (value-below b ys below) in
-    ap (digits to (j + n)) w
-    ∙ digits-append to j n (value b xs * to ^ n + value b ys)
-    ∙ ap₂ _++_ (ap (digits to j) (digits-div (value b xs) s)) (ap (digits to n) (add-comm (value b xs * to ^ n) (value b ys)) ∙ digits-add-multiple to n (value b ys) (value b xs) p)
+-- as many as were asked for
+pub length-part : (at n : ℕ) (xs : List ℕ) → at + n ≤ length xs → length (part at n xs) ≡ n
+length-part at n xs h = length-take-le n (drop at xs) (rw (length-drop at xs) (omega arith))
 
 -- a whole group is left while fewer than all are done
 pub group-end : (k groups m : ℕ) → k < groups → k * m + m ≤ groups * m
@@ -64,69 +59,32 @@ group-end k groups m h = rw (← suc-mul k m) (mul-le-mul-right m h)
 pub group-next : (k m i : ℕ) → i ≡ k * m → i + m ≡ (k + 1) * m
 group-next k m i e = rw (add-one k, suc-mul k m) (ap (λ (x : ℕ). x + m) e)
 
--- as many as were asked for
-pub length-part : (at n : ℕ) (xs : List ℕ) → at + n ≤ length xs → length (part at n xs) ≡ n
-length-part at n xs h = length-take-le n (drop at xs) (rw (length-drop at xs) (omega arith))
-
--- one group is put in its place
-group-put : (b m to n i j : ℕ) (src out₀ out : List ℕ) → Below b src → i + m ≤ length src → b ^ m ≡ to ^ n → 0 < to
-    → out ≡ digits to j (value b (take i src)) ++ drop j out₀
-    → take j out ++ (digits to n (value b (part i m src)) ++ drop n (drop j out)) ≡ digits to (j + n) (value b (take (i + m) src)) ++ drop (j + n) out₀
-group-put b m to n i j src out₀ out below fits e p o =
-    let d = digits to j (value b (take i src)) in
-    let g = digits to n (value b (part i m src)) in
-    let t : take j out ≡ d = ap (take j) o ∙ take-at d (drop j out₀) j (length-digits to j (value b (take i src))) in
-    let r : drop j out ≡ drop j out₀ = ap (drop j) o ∙ drop-at d (drop j out₀) j (length-digits to j (value b (take i src))) in
-    ap₂ (λ (x y : List ℕ). x ++ (g ++ drop n y)) t r
-    ∙ ap (λ (x : List ℕ). d ++ (g ++ x)) (drop-drop n j out₀)
-    ∙ sym (append-assoc d g (drop (j + n) out₀))
-    ∙ ap (λ (x : List ℕ). x ++ drop (j + n) out₀)
-    (sym
-    (ap (λ (x : List ℕ). digits to (j + n) (value b x)) (take-add i m src)
-    ∙ regrouped-more b m to n j (take i src) (part i m src) (below-part b i m src below) (length-part i m src fits) e p))
-
--- the same, as the borrow of a part leaves it
+-- one group is put in its place, as the borrow of a part leaves it
 pub group-back : (b m to n i j v : ℕ) (src out₀ out got : List ℕ) → Below b src → i + m ≤ length src → j + n ≤ length out → b ^ m ≡ to ^ n → 0 < to
-    → out ≡ digits to j (value b (take i src)) ++ drop j out₀
+    → out ≡ overlaid (digits to j (value b (take i src))) out₀
     → v ≡ value b (part i (i + m - i) src) → got ≡ digits to (length (part j (j + n - j) out)) v
-    → take j out ++ (got ++ drop (j + n - j) (drop j out)) ≡ digits to (j + n) (value b (take (i + m) src)) ++ drop (j + n) out₀
+    → take j out ++ (got ++ drop (j + n - j) (drop j out)) ≡ overlaid (digits to (j + n) (value b (take (i + m) src))) out₀
 group-back b m to n i j v src out₀ out got below fits room e p o ev eg =
     let en : j + n - j ≡ n = omega arith in
     let em : i + m - i ≡ m = omega arith in
-    let s : got ≡ digits to n (value b (part i m src)) =
-    eg ∙ ap₂ (digits to) (ap (λ (k : ℕ). length (part j k out)) en ∙ length-part j n out room) (ev ∙ ap (λ (k : ℕ). value b (part i k src)) em) in
-    ap₂ (λ (x : List ℕ) (k : ℕ). take j out ++ (x ++ drop k (drop j out))) s en ∙ group-put b m to n i j src out₀ out below fits e p o
+    let l = length-part i m src fits in
+    let w : value b (part i m src) < to ^ n =
+    subst (λ (p : ℕ). value b (part i m src) < p) (ap (λ (k : ℕ). b ^ k) l ∙ e) (value-below b (part i m src) (below-part b i m src below)) in
+    rw (eg, ev, en, em, length-part j n out room, take-add i m src, value-append b (take i src) (part i m src), l, e, digits-join to j n (value b (take i src)) (value b (part i m src)) p w)
+    (laid-more (digits to j (value b (take i src))) (digits to n (value b (part i m src))) out₀ out j n o (length-digits to j _) (length-digits to n _))
 
--- all groups are in their places
-pub groups-all : (to b i j : ℕ) (src out₀ out : List ℕ) → i ≡ length src → j ≡ length out₀ → out ≡ digits to j (value b (take i src)) ++ drop j out₀
-    → out ≡ digits to (length out₀) (value b src)
-groups-all to b i j src out₀ out ei ej o =
-    o
-    ∙ ap₂ (λ (n m : ℕ). digits to n (value b (take m src)) ++ drop n out₀) ej ei
-    ∙ ap₂ (λ (x y : List ℕ). digits to (length out₀) (value b x) ++ y) (take-length src) (drop-length out₀)
-    ∙ append-nil (digits to (length out₀) (value b src))
+-- the last group too
+pub last-back : (b to i j v : ℕ) (src out₀ out got : List ℕ) → j ≤ length out₀ → length out ≡ length out₀
+    → out ≡ overlaid (digits to j (value b (take i src))) out₀ → got ≡ digits to (length (part j (length out - j) out)) v
+    → take j out ++ (got ++ drop (length out - j) (drop j out)) ≡ digits to j (value b (take i src)) ++ digits to (length out₀ - j) v
+last-back b to i j v src out₀ out got h l o eg =
+    let front = digits to j (value b (take i src)) in
+    let n : ℕ = length out₀ - j in
+    rw (eg, l, length-part j n out (omega arith))
+    (laid-more front (digits to n v) out₀ out j n o (length-digits to j _) (length-digits to n v)
+    ∙ overlaid-whole (front ++ digits to n v) out₀ (omega (arith, length-append front (digits to n v), length-digits to j (value b (take i src)), length-digits to n v)))
 
 -- ---- the last digit told apart
 
--- one digit more at the end
-pub digits-snoc : (b n v x : ℕ) → x < b → digits b (n + 1) (v * b + x) ≡ digits b n v ++ (x ∷ [])
-unfolding digits
-digits-snoc b n v x h =
-    let one : b ^ 1 ≡ b = pow-suc b 0 ∙ ap (λ (p : ℕ). p * b) (pow-zero b) ∙ one-mul b in
-    digits-append b n 1 (v * b + x)
-    ∙ ap₂ (λ (p q : ℕ). digits b n p ++ (q ∷ []))
-    (ap (λ (p : ℕ). (v * b + x) / p) one ∙ digits-div v h)
-    (ap (λ (p : ℕ). (v * b + x) / p % b) (pow-zero b) ∙ ap (λ (p : ℕ). p % b) (div-one (v * b + x)) ∙ digits-mod v h)
-
--- a number whose last digit is told apart
 pub value-last : (b n : ℕ) (xs : List ℕ) → length xs ≡ n + 1 → value b xs ≡ value b (take n xs) * b + getD xs n 0
 value-last b n xs l = ap (value b) (sym (take-all (n + 1) xs (omega arith))) ∙ value-more b xs n (omega arith)
-
--- ---- there and back
-
--- digits to one base, regrouped and regrouped back
-pub regrouped-back : (b c m n : ℕ) (xs : List ℕ) → Below b xs → length xs ≡ m → b ^ m ≡ c ^ n → 0 < c
-    → digits b m (value c (digits c n (value b xs))) ≡ xs
-regrouped-back b c m n xs below l e p =
-    let s : value b xs < c ^ n = subst (λ (q : ℕ). value b xs < q) (ap (λ (k : ℕ). b ^ k) l ∙ e) (value-below b xs below) in
-    ap (digits b m) (value-digits-below c n (value b xs) p s) ∙ ap (λ (k : ℕ). digits b k (value b xs)) (sym l) ∙ digits-value b xs below

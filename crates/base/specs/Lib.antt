@@ -2,3 +2,4 @@ pub mod Questions
 pub mod Lists
 pub mod Digits
 pub mod Packing
+pub mod Files

@@ -11,10 +11,14 @@ unfoldable pub every : (ℕ → Bool) → List ℕ → Bool
 every f [] = true
 every f (x ∷ xs) = f x && every f xs
 
+-- how many elements pass a test
+unfoldable pub tally : (ℕ → Bool) → List ℕ → ℕ
+tally f [] = 0
+tally f (x ∷ xs) = cond (f x) (suc (tally f xs)) (tally f xs)
+
 -- how often a number occurs
-unfoldable pub count : ℕ → List ℕ → ℕ
-count a [] = 0
-count a (x ∷ xs) = cond (eqb x a) (suc (count a xs)) (count a xs)
+abbrev pub count : ℕ → List ℕ → ℕ
+count a xs = tally (λ x. eqb x a) xs
 
 -- f i, f (i + 1), ..: n values in a row
 unfoldable pub valuesFrom : (ℕ → ℕ) → ℕ → ℕ → List ℕ

@@ -1,16 +1,22 @@
-// Bytes copied to the front of an output, two rows of bytes compared, a number in two bytes or in eight, and digits
-// regrouped.
+// Bytes copied to the front of an output, two rows of bytes compared, a number in two bytes or in eight, and rows of
+// numbers of a few bits, packed into bytes.
 ghost use Prim.Native.Nat.{_+_, _≤_, _<_};
 ghost use mathlib.Core.Path.{_≡_};
 ghost use lib.ListN.{length, take};
 ghost use Rattle.base.specs.Lists.{overlaid, equal};
 ghost use Rattle.base.specs.Digits.{value, part};
 
-mod pack; // pack.rt: digits regrouped
+mod digits; // digits.rt: the number that digits write, and the digits of a number
+mod rows; // rows.rt: rows of numbers packed into bytes
 
-pub use pack::number;
-pub use pack::regroup;
-pub use pack::spell;
+pub use digits::number;
+pub use digits::spell;
+pub use rows::filler_is_zero;
+pub use rows::pack;
+pub use rows::pack_at;
+pub use rows::power;
+pub use rows::row_bytes;
+pub use rows::unpack;
 
 // As many bytes of `from` as fit go to the front of `out`.
 pub fn put(out: &mut [u8], from: &[u8])

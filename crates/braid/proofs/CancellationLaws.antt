@@ -4,7 +4,7 @@ use Prim.Native.Nat.{ℕ, suc, _+_, _≤_}
 use mathlib.Core.Path.{_≡_, refl, sym, ap, _∙_}
 use mathlib.Core.List.{List, [], _∷_, _++_}
 use native.Mathlib.Omega.{arith}
-use native.Mathlib.Numerals.{add-one, add-two}
+use native.Mathlib.Numerals.{add-one, add-two, add-three}
 use borrow.Author.Tests.{eqb-true, eq-eqb, leb-true, le-leb}
 use lib.ListN.{length, take, drop, getD, take-append-drop}
 use lib.Seq.{drop-cons}
@@ -16,6 +16,20 @@ use Rattle.braid.specs.Cancellation.{Cancels, done, then, removal}
 use Rattle.braid.specs.Reduction.{joined, reduced, Irreducible}
 use Rattle.braid.proofs.LetterLaws.{Lettered}
 use Rattle.braid.proofs.ReductionLaws.{joined-cases, irreducible-reduced, reduced-pair}
+
+-- a word about two letters at a place, and about three
+module _ (place : ℕ) (w : List ℕ) where
+  pub around : place + 2 ≤ length w → take place w ++ (getD w place 0 ∷ getD w (place + 1) 0 ∷ drop (place + 2) w) ≡ w
+  around h =
+      let one = drop-cons w place 0 (omega arith) in
+      let two = drop-cons w (suc place) 0 (omega arith) in
+      rw (add-one, add-two, ← two, ← one) (take-append-drop place w)
+
+  pub around-three : place + 3 ≤ length w
+      → take place w ++ (getD w place 0 ∷ getD w (place + 1) 0 ∷ getD w (place + 2) 0 ∷ drop (place + 3) w) ≡ w
+  around-three h =
+      let three = drop-cons w (suc (suc place)) 0 (omega arith) in
+      rw (add-three, add-two, ← three, ← add-two) (around (omega arith))
 
 -- what an accepted removal asks
 module _ (place : ℕ) (w : List ℕ) where
@@ -33,16 +47,8 @@ module _ (place : ℕ) (w : List ℕ) where
   pub accepted-inverse : Accepted → getD w (place + 1) 0 ≡ inverse (getD w place 0)
   accepted-inverse a = eqb-true (getD w (place + 1) 0) (inverse (getD w place 0)) (answers-passed (removal place w .questions) tt a .1 .0)
 
-  -- the word about the two letters
-  pub around : Accepted → take place w ++ (getD w place 0 ∷ getD w (place + 1) 0 ∷ drop (place + 2) w) ≡ w
-  around a =
-      let l = accepted-fits a in
-      let one = drop-cons w place 0 (omega arith) in
-      let two = drop-cons w (suc place) 0 (omega arith) in
-      rw (add-one, add-two, ← two, ← one) (take-append-drop place w)
-
   -- the word that is left is of letters, and reduces to the same
-  pub removal-lettered : Lettered w → Lettered (removal place w .word)
+  removal-lettered : Lettered w → Lettered (removal place w .word)
   removal-lettered h =
       every-append isLetter (take place w) (drop (place + 2) w)
       ∙ and-both (every-take isLetter place w h) (every-drop isLetter (place + 2) w h)
@@ -52,7 +58,7 @@ module _ (place : ℕ) (w : List ℕ) where
       let l = accepted-fits a in
       let letter = every-getD isLetter w h place (omega arith) in
       sym (reduced-pair (take place w) (getD w place 0) (getD w (place + 1) 0) (drop (place + 2) w) letter (accepted-inverse a))
-      ∙ ap reduced (around a)
+      ∙ ap reduced (around place w l)
 
 -- cancellations go on after one another, and behind a letter
 cancels-on : {w v u : List ℕ} → Cancels w v → Cancels v u → Cancels w u

@@ -10,7 +10,7 @@ use borrow.Author.Tests.{leb-true, eqb-true}
 use lib.Dec.{leb, eqb}
 use Rattle.base.specs.Lists.{every, valuesFrom, values}
 use Rattle.base.proofs.ListLaws.{and-left, and-right, and-both, beq-true, every-values}
-use Rattle.braid.specs.Letters.{isLetter, isInverse, generator, inverse}
+use Rattle.braid.specs.Letters.{isLetter, isInverse, generator, inverse, far, neighbours}
 
 -- what a passed test of two ways tells
 either : (a b : Bool) → (a || b) ≡ true → (a ≡ true) ⊎ (b ≡ true)
@@ -87,8 +87,18 @@ module _ (c : ℕ) (e : isLetter c ≡ true) where
 abbrev pub Apart : ℕ → ℕ → Type 0
 Apart c d = (generator c + 2 ≤ generator d) ⊎ (generator d + 2 ≤ generator c)
 
+pub far-apart : (c d : ℕ) → far c d ≡ true → Apart c d
+far-apart c d e =
+    ⊎-elim (λ h. inl (leb-true (generator c + 2) (generator d) h)) (λ h. inr (leb-true (generator d + 2) (generator c) h))
+    (either (leb (generator c + 2) (generator d)) (leb (generator d + 2) (generator c)) e)
+
 abbrev pub Neighbours : ℕ → ℕ → Type 0
 Neighbours j k = (generator j + 1 ≡ generator k) ⊎ (generator k + 1 ≡ generator j)
+
+pub beside : (j k : ℕ) → neighbours j k ≡ true → Neighbours j k
+beside j k e =
+    ⊎-elim (λ h. inl (eqb-true (generator j + 1) (generator k) h)) (λ h. inr (eqb-true (generator k + 1) (generator j) h))
+    (either (eqb (generator j + 1) (generator k)) (eqb (generator k + 1) (generator j)) e)
 
 -- a word of letters, taken apart and put together
 abbrev pub Lettered : List ℕ → Type 0

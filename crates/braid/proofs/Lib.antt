@@ -1,5 +1,6 @@
 pub mod WordLaws
 pub mod ReadLaws
+pub mod LongWords
 pub mod WriteLaws
 pub mod UnpackedWord
 pub mod RoundTrip

@@ -82,12 +82,12 @@ module _ (file : List ℕ) where
 
   -- ---- what the reader gives
 
-  pub read-refused : (n : ℕ) → wordAnswer file ≡ n → (n ≡ 0 → ⊥) → Read file n 0
+  pub read-refused : {answer count : ℕ} (n : ℕ) → (answer ≡ n) × (count ≡ 0) → wordAnswer file ≡ n → (n ≡ 0 → ⊥) → Read file answer count
   unfolding letters
-  read-refused n e h =
+  read-refused n r e h =
       record {
-        answer-is = sym e;
-        count-is = ap length (sym (granted-refused (codes file) [] (λ z. h (sym e ∙ z))));
+        answer-is = r .0 ∙ sym e;
+        count-is = r .1 ∙ ap length (sym (granted-refused (codes file) [] (λ z. h (sym e ∙ z))));
       }
 
   pub read-accepted : wordAnswer file ≡ 0 → (n : ℕ) → n ≡ stated file → Read file 0 n

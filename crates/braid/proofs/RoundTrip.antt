@@ -2,10 +2,10 @@
 -- accepted file is the file of its letters; and what a writer of words left in its output, as many bytes as it reports,
 -- is the word's file. So, from bytes to bytes, of what the writer from codes and the word reader give: a word that was
 -- written reads back, and a file that was read is written back as its own bytes.
-use Prim.Native.Nat.{ℕ, zero, suc, _+_, _*_, _/_, _%_, _≤_, _<_}
+use Prim.Native.Nat.{ℕ, _+_, _≤_, _<_}
 use mathlib.Core.Path.{_≡_, refl, sym, ap, ap₂, _∙_}
 use mathlib.Core.Bool.{Bool, true}
-use mathlib.Core.List.{List, [], _∷_, _++_}
+use mathlib.Core.List.{List, [], _++_}
 use native.Mathlib.Omega.{arith}
 use borrow.Author.Tests.{le-leb, leb-true, eq-eqb, eqb-true}
 use lib.Dec.{eqb, ltb, lit<}
@@ -14,50 +14,16 @@ use lib.Seq.{length-take-le, take-at, ext-getD}
 use Rattle.base.specs.Questions.{Question, firstNo}
 use Rattle.base.specs.Lists.{every, overlaid}
 use Rattle.base.specs.Digits.{value, digits, halves}
+use Rattle.base.specs.Packing.{Below, rowBytes, packedRow, rowFiller}
 use Rattle.base.proofs.QuestionLaws.{passed-answers, answers-passed, granted-zero, granted-either}
-use Rattle.base.proofs.ListLaws.{and-left, and-both, take-overlaid, drop-overlaid}
-use Rattle.base.proofs.DigitLaws.{length-digits, value-digits-below, digits-value, take-below}
+use Rattle.base.proofs.ListLaws.{take-overlaid, drop-overlaid}
+use Rattle.base.proofs.DigitLaws.{length-digits, value-digits-below, digits-value, take-below, drop-below}
+use Rattle.base.proofs.RowLaws.{length-packed-row, packed-below, unpacked-packed, filler-packed, packed-unpacked, halves-row, halves-filler}
 use Rattle.braid.specs.Letters.{isLetter}
 use Rattle.braid.specs.Words.{stated, needed, codes, filler, wordQuestions, wordAnswer, letters, packed, wordFile, writerQuestions, Wrote, Read, LetterAt}
-use Rattle.braid.proofs.WordLaws.{letters-below, length-wordFile, wordFile-rest}
+use Rattle.braid.proofs.WordLaws.{letters-below, packed-row, length-wordFile, wordFile-rest}
 use Rattle.braid.proofs.WriteLaws.{writable}
 use Rattle.braid.proofs.ReadLaws.{accepted-word, letters-accepted}
-
--- ---- packed codes, and the half bytes of the packed codes
-
-high-half : (a b : ℕ) → b < 15 → (a * 16 + b) / 16 ≡ a
-high-half a b h = omega arith
-
-low-half : (a b : ℕ) → b < 15 → (a * 16 + b) % 16 ≡ b
-low-half a b h = omega arith
-
-halves-packed : (cs : List ℕ) → ((k : ℕ) → getD cs k 0 < 15) → take (length cs) (halves (packed cs)) ≡ cs
-unfolding halves packed
-halves-packed [] h = refl
-halves-packed (a ∷ []) h = let e : a * 16 / 16 ≡ a = omega arith in ap (λ (x : ℕ). x ∷ []) e
-halves-packed (a ∷ b ∷ cs) h =
-    λ i. high-half a b (h 1) i ∷ low-half a b (h 1) i ∷ halves-packed cs (λ k. h (suc (suc k))) i
-
-filler-packed : (cs : List ℕ) → every (λ h. eqb h 0) (drop (length cs) (halves (packed cs))) ≡ true
-unfolding halves packed every
-filler-packed [] = refl
-filler-packed (a ∷ []) = and-both (eq-eqb (a * 16 % 16) 0 (omega arith)) refl
-filler-packed (a ∷ b ∷ cs) = filler-packed cs
-
-packed-halves : (xs : List ℕ) (n : ℕ) → n ≤ 2 * length xs → 2 * length xs ≤ n + 1 → every (λ h. eqb h 0) (drop n (halves xs)) ≡ true
-    → packed (take n (halves xs)) ≡ xs
-unfolding halves packed every
-packed-halves [] zero l m e = refl
-packed-halves [] (suc n) l m e = refl
-packed-halves (x ∷ xs) zero l m e = absurd (omega arith)
-packed-halves (x ∷ []) (suc zero) l m e =
-    let z : x % 16 ≡ 0 = eqb-true (x % 16) 0 (and-left (eqb (x % 16) 0) true e) in
-    let w : x / 16 * 16 ≡ x = omega arith in
-    ap (λ (y : ℕ). y ∷ []) w
-packed-halves (x ∷ y ∷ xs) (suc zero) l m e = absurd (omega arith)
-packed-halves (x ∷ xs) (suc (suc n)) l m e =
-    let w : x / 16 * 16 + x % 16 ≡ x = omega arith in
-    ap₂ (λ (y : ℕ) (ys : List ℕ). y ∷ ys) w (packed-halves xs n (omega arith) (omega arith) e)
 
 -- ---- from letters to a file and back
 
@@ -68,15 +34,27 @@ module _ (cs : List ℕ) (few : length cs ≤ 10000) where
       ap (value 256) (take-at (digits 256 2 (length cs)) (packed cs) 2 (length-digits 256 2 (length cs)))
       ∙ value-digits-below 256 2 (length cs) (lit< tt) (omega arith)
 
-  pub codes-wordFile : every isLetter cs ≡ true → codes (wordFile cs) ≡ cs
-  unfolding codes
-  codes-wordFile e =
-      ap₂ (λ (n : ℕ) (l : List ℕ). take n (halves l)) stated-wordFile (wordFile-rest cs) ∙ halves-packed cs (letters-below cs e)
+  -- letters: the codes are a row of numbers of 4 bits
+  module _ (e : every isLetter cs ≡ true) where
+    below : Below 16 cs
+    below k = omega (arith, letters-below cs e k)
 
-  filler-wordFile : every (λ h. eqb h 0) (filler (wordFile cs)) ≡ true
-  unfolding filler
-  filler-wordFile =
-      ap₂ (λ (n : ℕ) (l : List ℕ). every (λ h. eqb h 0) (drop n (halves l))) stated-wordFile (wordFile-rest cs) ∙ filler-packed cs
+    row : drop 2 (wordFile cs) ≡ packedRow 4 cs
+    row = wordFile-rest cs ∙ packed-row cs below
+
+    pub codes-wordFile : codes (wordFile cs) ≡ cs
+    unfolding codes
+    codes-wordFile =
+        ap₂ (λ (n : ℕ) (l : List ℕ). take n (halves l)) stated-wordFile row
+        ∙ halves-row (length cs) (packedRow 4 cs) (packed-below 4 cs) (length-packed-row 4 cs)
+        ∙ unpacked-packed 4 cs below
+
+    filler-wordFile : every (λ h. eqb h 0) (filler (wordFile cs)) ≡ true
+    unfolding filler
+    filler-wordFile =
+        ap₂ (λ (n : ℕ) (l : List ℕ). every (λ h. eqb h 0) (drop n (halves l))) stated-wordFile row
+        ∙ halves-filler (length cs) (packedRow 4 cs) (packed-below 4 cs) (length-packed-row 4 cs)
+        ∙ eq-eqb (rowFiller 4 (length cs) (packedRow 4 cs)) 0 (filler-packed 4 cs below)
 
   -- the file is accepted
   pub wordFile-accepted : every isLetter cs ≡ true → wordAnswer (wordFile cs) ≡ 0
@@ -90,7 +68,7 @@ module _ (cs : List ℕ) (few : length cs ≤ 10000) where
           le-leb (stated (wordFile cs)) 10000 (omega arith),
           (
             eq-eqb (length (wordFile cs)) (needed (stated (wordFile cs))) (l ∙ ap needed (sym s)),
-            (ap (every isLetter) (codes-wordFile e) ∙ e, (filler-wordFile, tt)),
+            (ap (every isLetter) (codes-wordFile e) ∙ e, (filler-wordFile e, tt)),
           ),
         ),
       )
@@ -129,9 +107,13 @@ module _ (file : List ℕ) where
 
       rest : packed (codes file) ≡ drop 2 file
       rest =
-          let l = accepted-word file e .size in
-          let d = length-drop 2 file in
-          packed-halves (drop 2 file) (stated file) (omega arith) (omega arith) (accepted-word file e .filled)
+          let n = stated file in
+          let bytes = drop-below 2 file h in
+          let l : length (drop 2 file) ≡ rowBytes 4 n = omega (arith, accepted-word file e .size, length-drop 2 file) in
+          let z = eqb-true (rowFiller 4 n (drop 2 file)) 0 (sym (halves-filler n (drop 2 file) bytes l) ∙ accepted-word file e .filled) in
+          packed-row (codes file) (λ k. omega (arith, letters-below (codes file) (accepted-word file e .lettered) k))
+          ∙ ap (packedRow 4) (halves-row n (drop 2 file) bytes l)
+          ∙ packed-unpacked 4 n (drop 2 file) bytes l z
 
 -- ---- what a writer of words left
 

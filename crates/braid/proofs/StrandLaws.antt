@@ -1,19 +1,19 @@
 -- Laws of the labels: what stands where after two neighbouring labels changed places, and the braid relations of such
--- exchanges: twice is nothing, far ones commute, three in a row of neighbours go either way round. How often each label
--- stands in the list stays the same.
+-- exchanges: twice is nothing, far ones commute, three in a row of neighbours go either way round. The list after a
+-- word. How often each label stands in the list stays the same.
 use Prim.Native.Nat.{ℕ, zero, suc, _+_, _<_, _≤_}
 use mathlib.Core.Path.{_≡_, refl, sym, ap, _∙_}
 use mathlib.Core.Bool.{Bool, true, false, cond}
-use mathlib.Core.List.{List, [], _∷_}
+use mathlib.Core.List.{List, [], _∷_, _++_}
 use native.Mathlib.Omega.{arith}
 use native.Mathlib.Numerals.{add-one}
-use native.Mathlib.Decide.{ℕ-discrete}
 use borrow.Author.Tests.{eq-eqb}
 use lib.Dec.{eqb}
 use lib.ListN.{length, getD, set, length-set}
 use lib.Seq.{getD-set-same, getD-set-other}
-use Rattle.base.specs.Lists.{count}
-use Rattle.braid.specs.Strands.{swapped}
+use Rattle.base.specs.Lists.{count, tally}
+use Rattle.braid.specs.Letters.{generator}
+use Rattle.braid.specs.Strands.{swapped, listAfter}
 
 pub length-swapped : (g : ℕ) (l : List ℕ) → length (swapped g l) ≡ length l
 unfolding swapped
@@ -36,14 +36,18 @@ unfolding swapped
 swapped-other g l k n m =
     getD-set-other (set l g (getD l (g + 1) 0)) (g + 1) k (getD l g 0) 0 m ∙ getD-set-other l g k (getD l (g + 1) 0) 0 n
 
--- a bound on all labels stays
-pub swapped-below : {n : ℕ} (g : ℕ) (l : List ℕ) → g + 1 < length l → ((k : ℕ) → getD l k 0 < n) → (k : ℕ) → getD (swapped g l) k 0 < n
-swapped-below {n} g l h below k = go (ℕ-discrete k g) (ℕ-discrete k (g + 1))
+-- a bound on all labels stays, for an exchange past the end of the list too
+pub swapped-below : {n : ℕ} (g : ℕ) (l : List ℕ) → ((k : ℕ) → getD l k 0 < n) → (k : ℕ) → getD (swapped g l) k 0 < n
+unfolding swapped
+swapped-below {n} g l below =
+    set-below (set l g (getD l (g + 1) 0)) (g + 1) (getD l g 0) (below g) (set-below l g (getD l (g + 1) 0) (below (g + 1)) below)
   where
-    go : Dec (k ≡ g) → Dec (k ≡ g + 1) → getD (swapped g l) k 0 < n
-    go (yes e) d = rw e (omega (arith, swapped-first g l h, below (g + 1)))
-    go (no a) (yes e) = rw e (omega (arith, swapped-second g l h, below g))
-    go (no a) (no b) = omega (arith, swapped-other g l k a b, below k)
+    set-below : (l : List ℕ) (i v : ℕ) → v < n → ((k : ℕ) → getD l k 0 < n) → (k : ℕ) → getD (set l i v) k 0 < n
+    set-below [] i v h below k = below k
+    set-below (x ∷ l) zero v h below zero = h
+    set-below (x ∷ l) zero v h below (suc k) = below (suc k)
+    set-below (x ∷ l) (suc i) v h below zero = below zero
+    set-below (x ∷ l) (suc i) v h below (suc k) = set-below l i v h (λ j. below (suc j)) k
 
 -- the exchange by the places before it
 swapped-suc : (g a : ℕ) (l : List ℕ) → swapped (suc g) (a ∷ l) ≡ a ∷ swapped g l
@@ -89,11 +93,24 @@ swapped-braid g l h = simp add-one (go g l h)
     go zero (a ∷ b ∷ c ∷ l) h = simp (swapped-one, swapped-zero)
     go (suc g) (a ∷ l) h = simp swapped-suc (ap (λ (t : List ℕ). a ∷ t) (go g l (omega arith)))
 
+-- ---- the list after a word
+
+pub length-after : (labels w : List ℕ) → length (listAfter labels w) ≡ length labels
+unfolding listAfter
+length-after labels [] = refl
+length-after labels (c ∷ w) = length-after (swapped (generator c) labels) w ∙ length-swapped (generator c) labels
+
+-- two words in a row
+pub after-append : (labels v w : List ℕ) → listAfter labels (v ++ w) ≡ listAfter (listAfter labels v) w
+unfolding listAfter
+after-append labels [] w = refl
+after-append labels (c ∷ v) w = after-append (swapped (generator c) labels) v w
+
 -- ---- how often a label stands in the list
 
 -- as often after an exchange as before
 pub count-swapped : (a g : ℕ) (l : List ℕ) → g + 1 < length l → count a (swapped g l) ≡ count a l
-unfolding count
+unfolding tally
 count-swapped a g [] h = absurd (omega arith)
 count-swapped a zero (x ∷ []) h = absurd (omega arith)
 count-swapped a zero (x ∷ y ∷ l) h = ap (count a) (swapped-zero x y l) ∙ go (eqb x a) (eqb y a) (count a l)
@@ -108,7 +125,7 @@ count-swapped a (suc g) (x ∷ l) h =
 -- labels below n of which none stands twice: two neighbouring ones differ
 pub neighbours-differ : (n g : ℕ) (l : List ℕ) → g + 1 < length l → getD l g 0 < n → ((a : ℕ) → a < n → count a l ≤ 1)
     → getD l g 0 ≡ getD l (g + 1) 0 → ⊥
-unfolding count
+unfolding tally
 neighbours-differ n g [] h b once e = absurd (omega arith)
 neighbours-differ n zero (x ∷ []) h b once e = absurd (omega arith)
 neighbours-differ n zero (x ∷ y ∷ l) h b once e =

@@ -7,8 +7,10 @@ use native.Mathlib.Omega.{arith}
 use lib.ListN.{length, take, drop, getD}
 use lib.Seq.{take-add, getD-drop}
 use Rattle.base.specs.Lists.{every}
-use Rattle.base.specs.Digits.{digits}
+use Rattle.base.specs.Digits.{value, digits}
+use Rattle.base.specs.Packing.{Below, packedRow}
 use Rattle.base.proofs.ListLaws.{every-all}
+use Rattle.base.proofs.RowLaws.{packed-append}
 use Rattle.braid.specs.Letters.{isLetter}
 use Rattle.braid.specs.Words.{needed, packed, wordFile}
 use Rattle.braid.proofs.LetterLaws.{letter-below}
@@ -25,6 +27,16 @@ unfolding packed
 length-packed [] = refl
 length-packed (a ∷ []) = refl
 length-packed (a ∷ b ∷ cs) = let e = length-packed cs in omega arith
+
+-- they are a row of numbers of 4 bits
+pub packed-row : (cs : List ℕ) → Below 16 cs → packed cs ≡ packedRow 4 cs
+unfolding packed packedRow digits value
+packed-row [] h = refl
+packed-row (a ∷ []) h = let e : a * 16 ≡ (a * 1 + 0) * 16 / 1 % 256 = omega (arith, h 0) in ap (λ (x : ℕ). x ∷ []) e
+packed-row (a ∷ b ∷ cs) h =
+    let e : a * 16 + b ≡ (a * 16 + (b * 1 + 0)) / 1 % 256 = omega (arith, h 0, h 1) in
+    ap₂ (λ (x : ℕ) (xs : List ℕ). x ∷ xs) e (packed-row cs (λ k. h (suc (suc k))))
+    ∙ sym (packed-append 4 1 (a ∷ b ∷ []) cs refl (λ k. h (suc (suc k))))
 
 -- the byte at a place: two codes, 0 past the end
 pub getD-packed : (cs : List ℕ) (k : ℕ) → getD (packed cs) k 0 ≡ getD cs (k * 2) 0 * 16 + getD cs (k * 2 + 1) 0

@@ -17,12 +17,13 @@ use Rattle.braid.specs.Words.{packed, wordFile, writerQuestions, Wrote}
 use Rattle.braid.proofs.WordLaws.{length-packed, length-wordFile, wordFile-number, wordFile-front, wordFile-byte}
 
 module _ (questions : List Question) (file before : List ℕ) where
-  -- a refusal: no bytes, and the output as it was
-  pub wrote-refused : (n : ℕ) → firstNo questions ≡ n → (n ≡ 0 → ⊥) → Wrote questions file before before n 0
-  wrote-refused n e h =
+  -- a refusal, as `Written::refused` makes it: no bytes, and the output as it was
+  pub wrote-refused : {answer bytes : ℕ} (n : ℕ) → (answer ≡ n) × (bytes ≡ 0) → firstNo questions ≡ n → (n ≡ 0 → ⊥)
+      → Wrote questions file before before answer bytes
+  wrote-refused n r e h =
       record {
-        answer-is = sym e;
-        bytes-is = sym (granted-refused (length file) 0 (λ z. h (sym e ∙ z)));
+        answer-is = r .0 ∙ sym e;
+        bytes-is = r .1 ∙ sym (granted-refused (length file) 0 (λ z. h (sym e ∙ z)));
         output-is = sym (granted-refused (overlaid file before) before (λ z. h (sym e ∙ z)));
       }
 

@@ -2,9 +2,10 @@
 -- Places count from 0 here.
 use Prim.Native.Nat.{ℕ, _+_}
 use mathlib.Core.Bool.{Bool}
-use mathlib.Core.List.{List}
+use mathlib.Core.List.{List, [], _∷_}
 use lib.ListN.{getD, set}
 use Rattle.base.specs.Lists.{values, eachOnce}
+use Rattle.braid.specs.Letters.{generator}
 
 -- the starting list, 0 to 7
 abbrev pub inOrder : List ℕ
@@ -17,3 +18,8 @@ isOrder labels = eachOnce 8 labels
 -- the labels at two neighbouring places change places
 unfoldable pub swapped : ℕ → List ℕ → List ℕ
 swapped g labels = set (set labels g (getD labels (g + 1) 0)) (g + 1) (getD labels g 0)
+
+-- the list that a word leaves: its letters first to last, each on the list that the last one left
+unfoldable pub listAfter : List ℕ → List ℕ → List ℕ
+listAfter labels [] = labels
+listAfter labels (c ∷ w) = listAfter (swapped (generator c) labels) w

@@ -42,7 +42,7 @@ pub fn inverse(c: u8) -> u8
 }
 
 // The number of letters that a file states in its first two bytes.
-fn number(file: &[u8]) -> usize
+pub fn stated(file: &[u8]) -> usize
     requires { ⌜ 2 ≤ length (now file) ⌝ }
     ensures { λ r. ⌜ r ≡ stated (now (file .entry)) ⌝ }
 {
@@ -72,7 +72,7 @@ fn whole_letters(part: &[u8], m: usize) -> bool
 
 // Is every one of the first n half bytes, or of all if there are fewer, a letter? It is asked of the whole bytes, and
 // of the half byte left where n is odd: past the end that is 0, a letter.
-pub fn all_letters(part: &[u8], n: usize) -> bool
+fn all_letters(part: &[u8], n: usize) -> bool
     ensures { λ r. ⌜ r ≡ every isLetter (take n (halves (now (part .entry)))) ⌝ }
 {
     let bytes = if n / 2 < part.len() {
@@ -102,7 +102,7 @@ fn word_answer(file: &[u8]) -> u8
     if file.len() < 2 {
         return 9;
     }
-    let n = number(file);
+    let n = stated(file);
     if MAX_LETTERS < n {
         return 10;
     }
@@ -110,12 +110,10 @@ fn word_answer(file: &[u8]) -> u8
         return 11;
     }
     let part = &file[2..];
-    let lettered = all_letters(part, n);
-    let filled = is_filled(part, n);
-    if !lettered {
+    if !all_letters(part, n) {
         return 12;
     }
-    if !filled {
+    if !is_filled(part, n) {
         return 13;
     }
     0
@@ -127,9 +125,9 @@ pub fn read_word(file: &[u8]) -> Word
 {
     let answer = word_answer(file);
     if answer != 0 {
-        return Word { answer, letters: 0 };
+        return Word::refused(answer);
     }
-    let letters = number(file);
+    let letters = stated(file);
     Word { answer: 0, letters }
 }
 

@@ -16,8 +16,8 @@ ghost use Rattle.field.specs.Polynomial.{polynomials};
 ghost use Rattle.field.specs.Reciprocals.{LentField};
 ghost use Rattle.field.specs.Fields.{operations};
 ghost use Rattle.braid.specs.Letters.{isLetter};
-ghost use Rattle.braid.specs.Words.{codes, letters, wordAnswer};
-ghost use Rattle.action.specs.Action.{wordOn, codesOn};
+ghost use Rattle.braid.specs.Words.{codes, wordAnswer};
+ghost use Rattle.action.specs.Action.{wordOn};
 ghost use Rattle.action.specs.Columns.{Held, Carried, PackedCarried, WholeCarried};
 
 mod held; // held.rt: a pair as the loop over letters holds it
@@ -138,18 +138,6 @@ pub fn carry_letters(pair: Pair, t_values: &[u8; 8], codes: &[u8], f: Field) -> 
     }
 }
 
-// As many of n packed codes as there are.
-fn codes_in(part: &[u8], n: usize) -> usize
-    ensures { λ r.
-        ⌜
-        (r ≤ 2 * length (now (part .entry)))
-        × (take r (halves (now (part .entry))) ≡ take n (halves (now (part .entry))))
-        ⌝ }
-{
-    let all = 2 * part.len();
-    if n < all { n } else { all }
-}
-
 // The first n packed letters multiplied into the pair, by what is lent of the field.
 fn packed(
     pair: Pair,
@@ -176,32 +164,21 @@ fn packed(
     pair_of(&columns, &places, &labels)
 }
 
-// The first n packed codes, or all if there are fewer, multiplied into the pair; where one of them is no letter, the
-// pair as it was.
-fn carry(pair: Pair, t_values: &[u8; 8], part: &[u8], n: usize, f: Field) -> Pair
-    ensures { λ r. ⌜ r ≡ codesOn (operations f) (now («t_values» .entry)) (take n (halves (now (part .entry)))) pair ⌝ }
+// The letters of an accepted file, first to last, multiplied into the pair.
+pub fn carry_file(pair: Pair, t_values: &[u8; 8], file: &[u8], f: Field) -> Pair
+    requires { ⌜ wordAnswer (now file) ≡ 0 ⌝ }
+    ensures { λ r. ⌜ r ≡ wordOn (operations f) (now («t_values» .entry)) (codes (now (file .entry))) pair ⌝ }
 {
-    let end = codes_in(part, n);
-    if !braid::all_letters(part, end) {
-        return pair;
-    }
+    let n = braid::stated(file);
+    let part = &file[2..];
     match f {
         Field::Gf32 => {
             let table = field::small_reciprocals();
-            packed(pair, t_values, part, end, &table, SMALL_BITS, SMALL_MODULUS)
+            packed(pair, t_values, part, n, &table, SMALL_BITS, SMALL_MODULUS)
         }
         Field::Gf256 => {
             let table = field::large_reciprocals();
-            packed(pair, t_values, part, end, &table, LARGE_BITS, LARGE_MODULUS)
+            packed(pair, t_values, part, n, &table, LARGE_BITS, LARGE_MODULUS)
         }
     }
-}
-
-// The n letters of an accepted file, first to last, on the pair.
-pub fn carry_file(pair: Pair, t_values: &[u8; 8], file: &[u8], n: usize, f: Field) -> Pair
-    requires { ⌜ (wordAnswer (now file) ≡ 0) × (n ≡ length (letters (now file))) ⌝ }
-    ensures { λ r. ⌜ r ≡ wordOn (operations f) (now («t_values» .entry)) (codes (now (file .entry))) pair ⌝ }
-{
-    let part = &file[2..];
-    carry(pair, t_values, part, n, f)
 }

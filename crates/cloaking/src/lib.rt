@@ -2,13 +2,11 @@
 use action::Pair;
 use field::Field;
 ghost use mathlib.Core.Path.{_≡_};
-ghost use mathlib.Core.Bool.{_&&_};
-ghost use lib.Dec.{eqb};
+ghost use mathlib.Core.Bool.{false};
 ghost use lib.ListN.{length};
 ghost use Rattle.field.specs.Fields.{operations};
-ghost use Rattle.braid.specs.Words.{codes, letters, wordAnswer};
-ghost use Rattle.braid.specs.Strands.{isOrder};
-ghost use Rattle.verify.specs.Cloaking.{comesBack, Cloaks};
+ghost use Rattle.braid.specs.Words.{codes, wordAnswer};
+ghost use Rattle.verify.specs.Cloaking.{comesBack, isList, Cloaks};
 
 // An answer, and yes or no: no on a refusal.
 #[repr(C)]
@@ -17,9 +15,18 @@ pub struct Cloak {
     pub yes: bool,
 }
 
+impl Cloak {
+    // A refusal: its number, and no.
+    fn refused(answer: u8) -> Cloak
+        ensures { λ r. ⌜ (r .answer ≡ answer) × (r .yes ≡ false) ⌝ }
+    {
+        Cloak { answer, yes: false }
+    }
+}
+
 // Is the list 8 bytes, 0 to 7 each once?
 fn is_list(labels: &[u8]) -> bool
-    ensures { λ r. ⌜ r ≡ (eqb (length (now (labels .entry))) 8 && isOrder (now (labels .entry))) ⌝ }
+    ensures { λ r. ⌜ r ≡ isList (now (labels .entry)) ⌝ }
 {
     if labels.len() != Pair::STRANDS {
         return false;
@@ -44,16 +51,16 @@ fn eight(labels: &[u8]) -> [u8; 8]
     ]
 }
 
-// Does an accepted word of n letters bring the identity matrix with the list back, list included?
-fn comes_back(t_values: &[u8; 8], labels: &[u8], word: &[u8], n: usize, f: Field) -> bool
-    requires { ⌜ (length (now labels) ≡ 8) × (wordAnswer (now word) ≡ 0) × (n ≡ length (letters (now word))) ⌝ }
+// Does an accepted word bring the identity matrix with the list back, list included?
+fn comes_back(t_values: &[u8; 8], labels: &[u8], word: &[u8], f: Field) -> bool
+    requires { ⌜ (length (now labels) ≡ 8) × (wordAnswer (now word) ≡ 0) ⌝ }
     ensures { λ r. ⌜ r ≡ comesBack (operations f) (now («t_values» .entry)) (now (labels .entry)) (codes (now (word .entry))) ⌝ }
 {
     let start = Pair::start();
     let identity = start.matrix;
     let order = eight(labels);
     let before = Pair::with(identity, order);
-    let after = carrying::carry_file(before, t_values, word, n, f);
+    let after = carrying::carry_file(before, t_values, word, f);
     let matrix = after.matrix;
     let list = after.labels;
     if !base::equal(&matrix, &identity) {
@@ -69,31 +76,21 @@ pub fn cloaks(key: &[u8], labels: &[u8], word: &[u8]) -> Cloak
     let read = key_reader::read_key(key);
     let refusal = read.answer;
     if refusal != 0 {
-        return Cloak {
-            answer: refusal,
-            yes: false,
-        };
+        return Cloak::refused(refusal);
     }
     if !is_list(labels) {
-        return Cloak {
-            answer: 25,
-            yes: false,
-        };
+        return Cloak::refused(25);
     }
     let word_read = braid::read_word(word);
     let refused = word_read.answer;
     if refused != 0 {
-        return Cloak {
-            answer: refused,
-            yes: false,
-        };
+        return Cloak::refused(refused);
     }
     let held = read.key;
     let f = held.field;
     let t_values = held.t_values;
-    let n = word_read.letters;
     Cloak {
         answer: 0,
-        yes: comes_back(&t_values, labels, word, n, f),
+        yes: comes_back(&t_values, labels, word, f),
     }
 }

@@ -19,7 +19,7 @@ two-pos : 0 < 2
 two-pos = zero-lt-suc 1
 
 -- the numbers that are chosen from are read where they stand alone
-pub chosen-same : (c d : ℕ → ℕ) (n e : ℕ) → ((i : ℕ) → i < n → c i ≡ d i) → chosen c n e ≡ chosen d n e
+chosen-same : (c d : ℕ → ℕ) (n e : ℕ) → ((i : ℕ) → i < n → c i ≡ d i) → chosen c n e ≡ chosen d n e
 unfolding chosen
 chosen-same c d zero e h = refl
 chosen-same c d (suc n) e h =
@@ -31,7 +31,8 @@ module _ {n p : ℕ} (degree : Degree n p) (t : ℕ) where
 
   times-bit : (b k : ℕ) → b < 2 → times n p t (b * 2 ^ k) ≡ b * times n p t (2 ^ k)
   times-bit b k h =
-      by-digit (λ (x : ℕ). times n p t (x * 2 ^ k) ≡ x * times n p t (2 ^ k)) (ap (times n p t) (zero-mul (2 ^ k)) ∙ times-zero ∙ sym (zero-mul (times n p t (2 ^ k))))
+      by-digit (λ (x : ℕ). times n p t (x * 2 ^ k) ≡ x * times n p t (2 ^ k))
+      (ap (times n p t) (zero-mul (2 ^ k)) ∙ times-zero ∙ sym (zero-mul (times n p t (2 ^ k))))
       (ap (times n p t) (one-mul (2 ^ k)) ∙ sym (one-mul (times n p t (2 ^ k)))) b h
 
   low-product : (k e : ℕ) → chosen (λ i. times n p t (2 ^ i)) k e ≡ times n p t (e % 2 ^ k)
@@ -44,7 +45,8 @@ module _ {n p : ℕ} (degree : Degree n p) (t : ℕ) where
       ∙ xor-comm (times n p t l) (times n p t (b * 2 ^ k))
       ∙ sym (times-sum degree t (b * 2 ^ k) l)
       ∙ ap (times n p t)
-      (xor-shifted b k l (mod-lt e (pow-pos k)) ∙ sym (ap (λ (x : ℕ). e % x) (pow-succ' 2 k) ∙ mod-mul e two-pos (pow-pos k)))
+      (xor-shifted b k l (mod-lt e (pow-pos k))
+      ∙ sym (ap (λ (x : ℕ). e % x) (pow-succ' 2 k) ∙ mod-mul e two-pos (pow-pos k)))
 
   pub product-by-bits : (e : ℕ) → chosen (λ i. times n p t (2 ^ i)) n e ≡ times n p t e
   product-by-bits e =

@@ -73,9 +73,12 @@ pub next-stored : (x column r : ℕ) (m after : List ℕ) (rest : ℕ) → r < 8
 next-stored x column r m after rest hr hc s =
     record {
       size = length-set after (place r column) (rest % 256) ∙ s .size;
-      rest-is = λ j. (let e : r + suc j ≡ r + 1 + j = omega arith in sym (lane-next j rest) ∙ s .rest-is (suc j) ∙ ap (λ (k : ℕ). lane k x) e);
+      rest-is =
+          λ j. (let e : r + suc j ≡ r + 1 + j = omega arith in
+          sym (lane-next j rest) ∙ s .rest-is (suc j) ∙ ap (λ (k : ℕ). lane k x) e);
       there = λ j h. at j h (ℕ-discrete j r);
-      elsewhere = λ i c hi h n. store-other after r column (rest % 256) hr hc i c hi h (λ a b. n b) ∙ s .elsewhere i c hi h n;
+      elsewhere =
+          λ i c hi h n. store-other after r column (rest % 256) hr hc i c hi h (λ a b. n b) ∙ s .elsewhere i c hi h n;
     }
   where
     at : (j : ℕ) → j < r + 1 → Dec (j ≡ r) → lane j x ≡ entry (set after (place r column) (rest % 256)) j column
@@ -85,7 +88,8 @@ next-stored x column r m after rest hr hc s =
         ∙ sym (store-same after r column (rest % 256) hr hc (s .size))
         ∙ ap (λ (i : ℕ). entry (set after (place r column) (rest % 256)) i column) (sym e)
     at j h (no n) =
-        s .there j (omega arith) ∙ sym (store-other after r column (rest % 256) hr hc j column (omega arith) hc (λ a b. n a))
+        s .there j (omega arith)
+        ∙ sym (store-other after r column (rest % 256) hr hc j column (omega arith) hc (λ a b. n a))
 
 pub all-stored : (x column : ℕ) (m after : List ℕ) (rest : ℕ) → Storing x column 8 m after rest → Put x column m after
 all-stored x column m after rest s = record { size = s .size; there = s .there; elsewhere = s .elsewhere }
@@ -125,7 +129,8 @@ pub record Restored (cols : List ℕ) (n : ℕ) (m : List ℕ) : Type 0 where
 pub none-restored : (cols m : List ℕ) → length m ≡ 64 → Restored cols 0 m
 none-restored cols m l = record { size = l; there = λ r c hr hc. absurd (omega arith) }
 
-pub next-restored : (cols : List ℕ) (n : ℕ) (m after : List ℕ) → n < 8 → Put (getD cols (n + 1) 0) n m after → Restored cols n m
+pub next-restored : (cols : List ℕ) (n : ℕ) (m after : List ℕ) → n < 8 → Put (getD cols (n + 1) 0) n m after
+    → Restored cols n m
     → Restored cols (n + 1) after
 next-restored cols n m after h put o = record { size = put .size; there = λ r c hr hc. at r c hr hc (ℕ-discrete c n) }
   where

@@ -19,7 +19,7 @@ use Rattle.columns.specs.Constants.{Bytes, Multiples, Filled, AllFilled,
 pub size-is : (bits : ℕ) → bits ≤ 8 → 1 * 2 ^ bits % 2 ^ 64 ≡ 2 ^ bits
 size-is bits h = shl-exact 1 bits 64 (le-refl 2) (omega arith) ∙ one-mul (2 ^ bits)
 
-pub size-at-most : (bits : ℕ) → bits ≤ 8 → 2 ^ bits ≤ 256
+size-at-most : (bits : ℕ) → bits ≤ 8 → 2 ^ bits ≤ 256
 size-at-most bits h = pow-mono h
 
 -- a store of a byte
@@ -37,7 +37,8 @@ pub record Filling (bits modulus number at i : ℕ) (before after : List ℕ) (p
   pub next : i < bits → product ≡ times bits modulus number (2 ^ i)
 
 module _ {bits modulus : ℕ} (degree : Degree bits modulus) (small : bits ≤ 8) (number at : ℕ) where
-  pub none-filled : (before : List ℕ) → Bytes before → Filling bits modulus number at 0 before before (number % 2 ^ bits)
+  pub none-filled : (before : List ℕ) → Bytes before
+      → Filling bits modulus number at 0 before before (number % 2 ^ bits)
   none-filled before b =
       record {
         filled = record { size = refl; bytes = b; there = λ i h. absurd (omega arith); elsewhere = λ k h. refl };
@@ -45,13 +46,16 @@ module _ {bits modulus : ℕ} (degree : Degree bits modulus) (small : bits ≤ 8
         next = λ h. sym (times-one degree number);
       }
 
-  pub next-filled : (i : ℕ) (before after : List ℕ) (product : ℕ) → at + 8 ≤ length before → i < bits → Filling bits modulus number at i before after product
+  pub next-filled : (i : ℕ) (before after : List ℕ) (product : ℕ) → at + 8 ≤ length before → i < bits
+      → Filling bits modulus number at i before after product
       → Filling bits modulus number at (i + 1) before (set after (at + i) product) (timesX bits modulus product)
   next-filled i before after product room h f =
       record {
         filled = record {
           size = length-set after (at + i) product ∙ f .filled .size;
-          bytes = bytes-set after (at + i) product (omega (arith, f .filled .size)) (omega (arith, f .below, size-at-most bits small)) (f .filled .bytes);
+          bytes =
+              bytes-set after (at + i) product (omega (arith, f .filled .size))
+              (omega (arith, f .below, size-at-most bits small)) (f .filled .bytes);
           there = λ k l. there k l (ℕ-discrete k i);
           elsewhere = λ k l. getD-set-other after (at + i) k product 0 (apart k l) ∙ f .filled .elsewhere k l;
         };
@@ -64,9 +68,11 @@ module _ {bits modulus : ℕ} (degree : Degree bits modulus) (small : bits ≤ 8
       apart : (k : ℕ) → (k < at) ⊎ (at + bits ≤ k) → k ≡ at + i → ⊥
       apart k l e = ⊎-elim (λ (a : k < at). omega arith) (λ (a : at + bits ≤ k). omega arith) l
 
-      there : (k : ℕ) → k < i + 1 → Dec (k ≡ i) → getD (set after (at + i) product) (at + k) 0 ≡ times bits modulus number (2 ^ k)
+      there : (k : ℕ) → k < i + 1 → Dec (k ≡ i)
+          → getD (set after (at + i) product) (at + k) 0 ≡ times bits modulus number (2 ^ k)
       there k l (yes e) = rw e (getD-set-same after (at + i) product 0 (omega (arith, f .filled .size)) ∙ f .next h)
-      there k l (no n) = getD-set-other after (at + i) (at + k) product 0 (omega arith) ∙ f .filled .there k (omega arith)
+      there k l (no n) =
+          getD-set-other after (at + i) (at + k) product 0 (omega arith) ∙ f .filled .there k (omega arith)
 
 -- ---- eight numbers, eight places for each
 
@@ -81,13 +87,17 @@ module _ (F : Operations) (bits : ℕ) (numbers : List ℕ) (from : ℕ) (before
   none-row l b = record { size = l; bytes = b; there = λ a h. absurd (omega arith); elsewhere = λ k h. refl }
 
   pub next-row : (n : ℕ) (list after : List ℕ) → bits ≤ 8 → n < 8 → AllFilled F bits numbers from n before list
-      → Filled F bits (getD numbers n 0) (from + 8 * n) bits list after → AllFilled F bits numbers from (n + 1) before after
+      → Filled F bits (getD numbers n 0) (from + 8 * n) bits list after
+      → AllFilled F bits numbers from (n + 1) before after
   next-row n list after small h r f =
       record {
         size = f .size ∙ r .size;
         bytes = f .bytes;
         there = λ a l. there a l (ℕ-discrete a n);
-        elsewhere = λ k l. f .elsewhere k (⊎-elim (λ (a : k < from). inl (omega arith)) (λ (a : from + 64 ≤ k). inr (omega arith)) l) ∙ r .elsewhere k l;
+        elsewhere =
+            λ k l. f .elsewhere k
+            (⊎-elim (λ (a : k < from). inl (omega arith)) (λ (a : from + 64 ≤ k). inr (omega arith)) l)
+            ∙ r .elsewhere k l;
       }
     where
       there : (a : ℕ) → a < n + 1 → Dec (a ≡ n) → Multiples F bits after (from + 8 * a) (getD numbers a 0)

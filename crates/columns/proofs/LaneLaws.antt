@@ -2,7 +2,8 @@
 -- lane by lane, and a number masked to the low bit of each lane times a byte has in each lane that bit times the byte.
 use Prim.Native.Nat.{ℕ, zero, suc, _+_, _-_, _*_, _/_, _%_, _^_, _≤_, _<_}
 use mathlib.Core.Path.{_≡_, sym, ap, ap₂, _∙_}
-use native.Mathlib.Nat.{zero-lt-suc, mod-lt, mul-le-mul, mul-comm, div-div-eq-div-mul, pow-succ', add-mul, mul-assoc, div-add-mod', le-of-suc-le-suc, div-one}
+use native.Mathlib.Nat.{zero-lt-suc, mod-lt, mul-le-mul, mul-comm, div-div-eq-div-mul, pow-succ', add-mul, mul-assoc}
+use native.Mathlib.Nat.{div-add-mod', le-of-suc-le-suc, div-one}
 use native.Mathlib.Omega.{arith}
 use lib.Arith.{digits-div, digits-mod}
 use lib.Pow.{mod-mod-pow, field}
@@ -24,7 +25,8 @@ lane-first x = ap (λ (y : ℕ). y % 256) (div-one x)
 
 pub lane-next : (j x : ℕ) → lane (suc j) x ≡ lane j (x / 256)
 unfolding lane
-lane-next j x = ap (λ (y : ℕ). y % 256) (ap (λ (y : ℕ). x / y) (pow-succ' 256 j) ∙ sym (div-div-eq-div-mul x 256 (256 ^ j)))
+lane-next j x =
+    ap (λ (y : ℕ). y % 256) (ap (λ (y : ℕ). x / y) (pow-succ' 256 j) ∙ sym (div-div-eq-div-mul x 256 (256 ^ j)))
 
 -- a number from its first lane and the rest
 module _ (x b : ℕ) (h : b < 256) where
@@ -52,7 +54,8 @@ lane-xor (suc j) x y =
 low-bits : (y i : ℕ) → i < 8 → y % 256 / 2 ^ i % 2 ≡ y / 2 ^ i % 2
 low-bits y i h =
     let e : 8 ≡ 7 - i + 1 + i = omega arith in
-    ap (λ (k : ℕ). y % 2 ^ k / 2 ^ i % 2) e ∙ ap (λ (z : ℕ). z % 2) (field y (7 - i + 1) i) ∙ mod-mod-pow (y / 2 ^ i) (7 - i) 1
+    ap (λ (k : ℕ). y % 2 ^ k / 2 ^ i % 2) e ∙ ap (λ (z : ℕ). z % 2) (field y (7 - i + 1) i)
+    ∙ mod-mod-pow (y / 2 ^ i) (7 - i) 1
 
 -- masked, the first lane is a number's low bit, and the rest that of the rest
 mask-join : (n y : ℕ) → bitAnd y (ones (suc n)) ≡ bitAnd (y / 256) (ones n) * 256 + y % 2
@@ -70,15 +73,18 @@ module _ (c : ℕ) (h : c < 256) where
   mask-times n y =
       let a = bitAnd (y / 256) (ones n) in
       ap (λ (z : ℕ). z * c) (mask-join n y) ∙ add-mul (a * 256) (y % 2) c
-      ∙ ap (λ (z : ℕ). z + y % 2 * c) (mul-assoc a 256 c ∙ ap (λ (z : ℕ). a * z) (mul-comm 256 c) ∙ sym (mul-assoc a c 256))
+      ∙ ap (λ (z : ℕ). z + y % 2 * c)
+      (mul-assoc a 256 c ∙ ap (λ (z : ℕ). a * z) (mul-comm 256 c) ∙ sym (mul-assoc a c 256))
 
   masked-bit : (j n y : ℕ) → j < n → lane j (bitAnd y (ones n) * c) ≡ y / 256 ^ j % 2 * c
   masked-bit j zero y l = absurd (omega arith)
   masked-bit zero (suc n) y l =
-      ap (lane 0) (mask-times n y) ∙ joined-first (bitAnd (y / 256) (ones n) * c) (y % 2 * c) (bit-below (y % 2) (mod-lt y two-pos))
+      ap (lane 0) (mask-times n y)
+      ∙ joined-first (bitAnd (y / 256) (ones n) * c) (y % 2 * c) (bit-below (y % 2) (mod-lt y two-pos))
       ∙ ap (λ (z : ℕ). z % 2 * c) (sym (div-one y))
   masked-bit (suc j) (suc n) y l =
-      ap (lane (suc j)) (mask-times n y) ∙ joined-next (bitAnd (y / 256) (ones n) * c) (y % 2 * c) (bit-below (y % 2) (mod-lt y two-pos)) j
+      ap (lane (suc j)) (mask-times n y)
+      ∙ joined-next (bitAnd (y / 256) (ones n) * c) (y % 2 * c) (bit-below (y % 2) (mod-lt y two-pos)) j
       ∙ masked-bit j n (y / 256) (le-of-suc-le-suc l)
       ∙ ap (λ (z : ℕ). z % 2 * c) (div-div-eq-div-mul y 256 (256 ^ j) ∙ ap (λ (z : ℕ). y / z) (sym (pow-succ' 256 j)))
 
@@ -88,7 +94,9 @@ module _ (c : ℕ) (h : c < 256) where
   masked i j x hi hj =
       masked-bit j 8 (x / 2 ^ i) hj
       ∙ ap (λ (z : ℕ). z * c)
-      (ap (λ (z : ℕ). z % 2) (div-div-eq-div-mul x (2 ^ i) (256 ^ j) ∙ ap (λ (z : ℕ). x / z) (mul-comm (2 ^ i) (256 ^ j)) ∙ sym (div-div-eq-div-mul x (256 ^ j) (2 ^ i)))
+      (ap (λ (z : ℕ). z % 2)
+      (div-div-eq-div-mul x (2 ^ i) (256 ^ j) ∙ ap (λ (z : ℕ). x / z) (mul-comm (2 ^ i) (256 ^ j))
+      ∙ sym (div-div-eq-div-mul x (256 ^ j) (2 ^ i)))
       ∙ sym (low-bits (x / 256 ^ j) i hi))
 
   -- it fits in 64 bits

@@ -32,10 +32,13 @@ pub fn multiples_of(number: u8, bits: usize, modulus: u64) -> [u64; 8]
     list
 }
 
-// Those of eight numbers do, from a place on, eight places for each.
+// Stores the multiples of eight numbers, eight places each, starting at `from`.
 fn all_multiples(list: &mut [u64; 128], from: usize, numbers: &[u8; 8], bits: usize, modulus: u64)
     requires { ⌜ (length (now list) ≡ 128) × Bytes (now list) × (from + 64 ≤ 128) × (bits ≤ 8) × Degree bits modulus ⌝ }
-    ensures { λ _. ⌜ AllFilled (polynomials bits modulus) bits (now (numbers .entry)) from 8 (now (list .entry)) (now (list .exit)) ⌝ }
+    ensures { λ _.
+        ⌜
+        AllFilled (polynomials bits modulus) bits (now (numbers .entry)) from 8 (now (list .entry)) (now (list .exit))
+        ⌝ }
 {
     let mut a = 0;
     while a < 8 {

@@ -8,15 +8,16 @@ use native.Mathlib.Omega.{arith}
 use borrow.Author.Tests.{ne-eqb, eqb-true, ltb-true}
 use lib.Dec.{eqb, ltb}
 use lib.ListN.{length, getD}
-use lib.IntN.{ℤ, pos, negℤ, _+ℤ_, _-ℤ_, +ℤ-assoc, +ℤ-comm, negℤ-+ℤ}
-use Rattle.base.specs.Lists.{every, count, values, valuesFrom, eachOnce}
+use lib.IntN.{ℤ, pos, _+ℤ_, _-ℤ_}
+use Rattle.base.specs.Lists.{every, count, values, valuesFrom, eachOnce, tally}
 use Rattle.base.proofs.ListLaws.{every-values, every-all, and-left, and-right}
 use Rattle.braid.specs.Letters.{isPositive, isInverse, generator}
-use Rattle.braid.specs.Exponent.{tally, exponentSum}
+use Rattle.braid.specs.Exponent.{exponentSum}
 use Rattle.braid.specs.Strands.{inOrder, isOrder, swapped}
 use Rattle.braid.specs.Words.{codes, wordAnswer}
 use Rattle.braid.proofs.LetterLaws.{Lettered, lettered-cons, generator-below}
 use Rattle.braid.proofs.ReadLaws.{accepted-word}
+use Rattle.braid.proofs.ExponentLaws.{differences-add}
 use Rattle.braid.proofs.StrandLaws.{count-swapped, neighbours-differ}
 use Rattle.crossing.specs.Crossings.{Two, both, swaps, swapping, crossingsFrom, crossings, withEach, pairsFrom, allPairs, together}
 use Rattle.crossing.specs.Counting.{Labelled}
@@ -45,16 +46,6 @@ sum-zero [] = refl
 sum-zero (p ∷ ps) = omega (arith, sum-zero ps)
 
 -- differences, summed
-interchange : (m n k l : ℤ) → (m +ℤ n) +ℤ (k +ℤ l) ≡ (m +ℤ k) +ℤ (n +ℤ l)
-interchange m n k l =
-    +ℤ-assoc m n (k +ℤ l)
-    ∙ ap (λ (x : ℤ). m +ℤ x) (sym (+ℤ-assoc n k l) ∙ ap (λ (x : ℤ). x +ℤ l) (+ℤ-comm n k) ∙ +ℤ-assoc k n l)
-    ∙ sym (+ℤ-assoc m k (n +ℤ l))
-
-differences-add : (a b c d : ℕ) → (pos a -ℤ pos b) +ℤ (pos c -ℤ pos d) ≡ pos (a + c) -ℤ pos (b + d)
-differences-add a b c d =
-    interchange (pos a) (negℤ (pos b)) (pos c) (negℤ (pos d)) ∙ ap (λ (x : ℤ). pos (a + c) +ℤ x) (sym (negℤ-+ℤ (pos b) (pos d)))
-
 together-difference : (f g : Two → ℕ) (ps : List Two) → together (λ p. pos (f p) -ℤ pos (g p)) ps ≡ pos (sum f ps) -ℤ pos (sum g ps)
 unfolding sum together
 together-difference f g [] = refl
@@ -144,7 +135,7 @@ module _ (labels : List ℕ) (size : length labels ≡ 8) (order : isOrder label
 -- of an accepted word, from the starting list
 pub all-crossings : (word : List ℕ) → wordAnswer word ≡ 0
     → together (λ p. crossings (p .smaller) (p .larger) (codes word)) allPairs ≡ exponentSum (codes word)
-unfolding crossings eachOnce every count valuesFrom
+unfolding crossings eachOnce every tally valuesFrom
 all-crossings word e = together-from inOrder refl refl (codes word) (accepted-word word e .lettered)
 
 -- there are 28 of them

@@ -12,15 +12,15 @@ use lib.Dec.{eqb, ltb}
 use lib.ListN.{length, drop, getD, set, length-set, replicate}
 use lib.Seq.{drop-cons, drop-length, getD-set-same, getD-set-other}
 use lib.IntN.{pos, _-ℤ_}
-use Rattle.base.specs.Lists.{count, every, values, valuesFrom}
-use Rattle.base.proofs.ListLaws.{count-le, beq-true, every-values, every-all, and-left, and-right}
+use Rattle.base.specs.Lists.{count, every, values, valuesFrom, tally}
+use Rattle.base.proofs.ListLaws.{tally-le, beq-true, every-values, every-all, and-left, and-right}
 use Rattle.braid.specs.Letters.{isLetter, isPositive, isInverse, generator}
-use Rattle.braid.specs.Exponent.{tally, exponentSum}
+use Rattle.braid.specs.Exponent.{exponentSum}
 use Rattle.braid.specs.Strands.{inOrder, swapped}
 use Rattle.braid.proofs.LetterLaws.{Lettered, lettered-cons, letter-below, generator-below}
 use Rattle.braid.proofs.StrandLaws.{length-swapped, swapped-below}
 use Rattle.crossing.specs.Crossings.{both, swaps, swapping, crossingsFrom, crossings}
-use Rattle.crossing.specs.Counting.{slot, slotOf, slots, Labelled, Table, Counts, Found}
+use Rattle.crossing.specs.Counting.{slot, slotOf, slots, Labelled, Table, Counts, found}
 use Rattle.crossing.proofs.CrossingLaws.{share, tally-letter}
 
 -- ---- eight labels below 8
@@ -37,7 +37,7 @@ module _ {labels : List ℕ} (e : Labelled labels) (c : ℕ) (letter : isLetter 
   labelled-next =
       record {
         strands = length-swapped (generator c) labels ∙ e .strands;
-        below = swapped-below (generator c) labels (omega (arith, e .strands, generator-below c letter)) (e .below);
+        below = swapped-below (generator c) labels (e .below);
       }
 
   pub sign-below : c / 8 < 2
@@ -54,7 +54,7 @@ module _ (counts labels : List ℕ) (c : ℕ) (w : List ℕ) (h : slotOf labels 
 
   pub counted-letter : (k : ℕ)
       → getD (set counts at (getD counts at 0 + 1)) k 0 + count k (slots (swapped (generator c) labels) w) ≡ getD counts k 0 + count k (slots labels (c ∷ w))
-  unfolding count slots
+  unfolding tally slots
   counted-letter k = go (ℕ-discrete k at)
     where
       rest : ℕ
@@ -74,7 +74,7 @@ tick b = cond b 1 0
 
 -- the first of a list counted by itself
 count-first : (k x : ℕ) (xs : List ℕ) → count k (x ∷ xs) ≡ tick (eqb x k) + count k xs
-unfolding count
+unfolding tally
 count-first k x xs = go (eqb x k)
   where
     go : (b : Bool) → cond b (suc (count k xs)) (count k xs) ≡ tick b + count k xs
@@ -136,7 +136,7 @@ module _ (a b : ℕ) (ha : a < 8) (hb : b < 8) (n : a ≡ b → ⊥) (f : ℕ �
 
   pub counted-both : (labels w : List ℕ) → Labelled labels → Lettered w
       → tally f (swapping a b labels w) ≡ count (slot s a b) (slots labels w) + count (slot s b a) (slots labels w)
-  unfolding tally swapping slots count swaps
+  unfolding tally swapping slots swaps
   counted-both labels [] l e = refl
   counted-both labels (c ∷ w) l e =
       let h = lettered-cons c w e in
@@ -182,7 +182,7 @@ module _ {w labels counts : List ℕ} {i : ℕ} (h : Walking w labels counts i) 
   -- no count is larger than the number of letters
   pub walking-table : length w ≤ 10000 → Table counts
   walking-table few =
-      record { size = h .size; few = λ k. omega (arith, h .rest k, count-le k (slots inOrder w), length-slots inOrder w) }
+      record { size = h .size; few = λ k. omega (arith, h .rest k, tally-le (λ x. eqb x k) (slots inOrder w), length-slots inOrder w) }
 
   -- a letter is left
   module _ (l : i < length w) where
@@ -208,7 +208,7 @@ module _ {w labels counts : List ℕ} {i : ℕ} (h : Walking w labels counts i) 
 
   -- none is left
   pub walked : length w ≤ 10000 → length w ≤ i → Counts inOrder w counts
-  unfolding slots count
+  unfolding slots tally
   walked few e =
       record { table = walking-table few; counted = all }
     where
@@ -220,36 +220,25 @@ module _ {w labels counts : List ℕ} {i : ℕ} (h : Walking w labels counts i) 
 
 -- ---- the signed number
 
-module _ (a b : ℕ) (ha : a < 8) (hb : b < 8) (n : a ≡ b → ⊥) {w counts : List ℕ} (e : Lettered w) (t : Counts inOrder w counts)
-    {generators inverses : ℕ} (f : Found counts a b generators inverses) where
-  pub generators-are : generators ≡ tally isPositive (swapping a b inOrder w)
+module _ (a b : ℕ) (ha : a < 8) (hb : b < 8) (n : a ≡ b → ⊥) {w counts : List ℕ} (e : Lettered w) (t : Counts inOrder w counts) where
+  generators-are : getD counts (slot 0 a b) 0 + getD counts (slot 0 b a) 0 ≡ tally isPositive (swapping a b inOrder w)
   generators-are =
       omega (
         arith,
-        f .generators-are,
         t .counted (slot 0 a b),
         t .counted (slot 0 b a),
         counted-both a b ha hb n isPositive 0 positive-by-bit inOrder w order-labelled e,
       )
 
-  pub inverses-are : inverses ≡ tally isInverse (swapping a b inOrder w)
+  inverses-are : getD counts (slot 1 a b) 0 + getD counts (slot 1 b a) 0 ≡ tally isInverse (swapping a b inOrder w)
   inverses-are =
       omega (
         arith,
-        f .inverses-are,
         t .counted (slot 1 a b),
         t .counted (slot 1 b a),
         counted-both a b ha hb n isInverse 1 inverse-by-bit inOrder w order-labelled e,
       )
 
-  pub number-is : pos generators -ℤ pos inverses ≡ crossings a b w
+  pub number-is : found counts a b ≡ crossings a b w
   unfolding crossings crossingsFrom exponentSum
   number-is = ap₂ (λ (x y : ℕ). pos x -ℤ pos y) generators-are inverses-are
-
--- a sum of two counts
-pub found-few : {counts : List ℕ} {a b generators inverses : ℕ} → Table counts → Found counts a b generators inverses
-    → (generators ≤ 20000) × (inverses ≤ 20000)
-found-few {a = a} {b = b} t f = (
-  omega (arith, f .generators-are, t .few (slot 0 a b), t .few (slot 0 b a)),
-  omega (arith, f .inverses-are, t .few (slot 1 a b), t .few (slot 1 b a)),
-)

@@ -1,4 +1,5 @@
--- Laws of the questions of crossings: the word's come first, and 27 after them; and what is given on each answer.
+-- Laws of the questions of crossings: the word's come first, and 27 after them; and what is given on each answer, of two
+-- labels and of all pairs.
 use Prim.Native.Nat.{ℕ, _<_}
 use mathlib.Core.Path.{_≡_, sym, _∙_}
 use mathlib.Core.Bool.{Bool, true, false, not, _&&_}
@@ -6,11 +7,12 @@ use mathlib.Core.List.{List, [], _∷_}
 use borrow.Author.Tests.{ltb-true, eqb-false, not-true}
 use lib.Dec.{ltb, eqb}
 use lib.IntN.{ℤ, pos}
+use lib.ListN.{replicate}
 use Rattle.base.specs.Questions.{_else_, firstNo}
 use Rattle.base.proofs.ListLaws.{and-left, and-right}
 use Rattle.base.proofs.QuestionLaws.{passes, fails, all-passed, refused-there, granted-zero, granted-refused}
 use Rattle.braid.specs.Words.{codes, wordQuestions, wordAnswer}
-use Rattle.crossing.specs.Crossings.{crossings, crossingQuestions, Crosses}
+use Rattle.crossing.specs.Crossings.{crossings, crossingQuestions, Crosses, allCrossings, CrossesAll}
 
 -- are the labels at most 7, and different?
 abbrev pub twoLabels : ℕ → ℕ → Bool
@@ -22,7 +24,8 @@ module _ (word : List ℕ) (a b : ℕ) where
   unfolding wordAnswer
   word-before-27 h = refused-there (wordQuestions word) ((twoLabels a b else 27) ∷ []) tt h
 
-  past-word : wordAnswer word ≡ 0 → firstNo (crossingQuestions word a b) ≡ firstNo ((twoLabels a b else 27) ∷ [])
+  -- of an accepted word the labels alone decide
+  pub past-word : wordAnswer word ≡ 0 → firstNo (crossingQuestions word a b) ≡ firstNo ((twoLabels a b else 27) ∷ [])
   unfolding wordAnswer
   past-word e = all-passed (wordQuestions word) ((twoLabels a b else 27) ∷ []) tt e
 
@@ -39,6 +42,20 @@ module _ (word : List ℕ) (a b : ℕ) where
 
   pub answered : {number : ℤ} → firstNo (crossingQuestions word a b) ≡ 0 → number ≡ crossings a b (codes word) → Crosses word a b 0 number
   answered e v = record { answer-is = sym e; number-is = v ∙ sym (granted-zero (crossings a b (codes word)) (pos 0) e) }
+
+-- of all pairs
+module _ (word : List ℕ) where
+  pub all-refused : {answer : ℕ} {numbers : List ℤ} → answer ≡ wordAnswer word → (answer ≡ 0 → ⊥) → numbers ≡ replicate 28 (pos 0)
+      → CrossesAll word answer numbers
+  all-refused e h z =
+      record {
+        answer-is = e;
+        numbers-are = z ∙ sym (granted-refused (allCrossings (codes word)) (replicate 28 (pos 0)) (λ w. h (e ∙ w)));
+      }
+
+  pub all-answered : {numbers : List ℤ} → wordAnswer word ≡ 0 → numbers ≡ allCrossings (codes word) → CrossesAll word 0 numbers
+  all-answered e v =
+      record { answer-is = sym e; numbers-are = v ∙ sym (granted-zero (allCrossings (codes word)) (replicate 28 (pos 0)) e) }
 
 -- what the test tells
 module _ (a b : ℕ) (t : twoLabels a b ≡ true) where

@@ -7,13 +7,14 @@ use mathlib.Core.List.{List, [], _∷_, _++_}
 use native.Mathlib.Omega.{arith}
 use lib.Dec.{eqb}
 use lib.ListN.{length, getD}
-use lib.IntN.{natAbs}
+use lib.IntN.{natAbs, _+ℤ_}
+use Rattle.base.specs.Lists.{tally}
 use Rattle.braid.specs.Letters.{generator, isPositive, isInverse}
-use Rattle.braid.specs.Exponent.{tally, exponentSum}
-use Rattle.braid.specs.Strands.{inOrder, swapped}
+use Rattle.braid.specs.Exponent.{exponentSum}
+use Rattle.braid.specs.Strands.{inOrder, swapped, listAfter}
 use Rattle.braid.specs.Words.{codes, wordAnswer}
 use Rattle.braid.proofs.ReadLaws.{accepted-word}
-use Rattle.braid.proofs.StrandLaws.{length-swapped}
+use Rattle.braid.proofs.ExponentLaws.{exponent-append}
 use Rattle.crossing.specs.Crossings.{both, swaps, swapping, crossingsFrom, crossings}
 use Rattle.crossing.proofs.SignedLaws.{difference-within}
 
@@ -40,19 +41,10 @@ pub crossings-symmetric : (labels : List ℕ) (a b : ℕ) (w : List ℕ) → cro
 unfolding crossingsFrom
 crossings-symmetric labels a b w = ap exponentSum (swapping-exchanged a b w labels)
 
--- ---- the list after a word, and a word in two parts
-
-unfoldable pub listAfter : List ℕ → List ℕ → List ℕ
-listAfter labels [] = labels
-listAfter labels (c ∷ w) = listAfter (swapped (generator c) labels) w
-
-pub length-after : (labels w : List ℕ) → length (listAfter labels w) ≡ length labels
-unfolding listAfter
-length-after labels [] = refl
-length-after labels (c ∷ w) = length-after (swapped (generator c) labels) w ∙ length-swapped (generator c) labels
+-- ---- a word in two parts
 
 module _ (a b : ℕ) where
-  pub swapping-append : (labels v w : List ℕ) → swapping a b labels (v ++ w) ≡ swapping a b labels v ++ swapping a b (listAfter labels v) w
+  swapping-append : (labels v w : List ℕ) → swapping a b labels (v ++ w) ≡ swapping a b labels v ++ swapping a b (listAfter labels v) w
   unfolding swapping listAfter
   swapping-append labels [] w = refl
   swapping-append labels (c ∷ v) w = go (swaps a b labels c) _ _ (swapping-append (swapped (generator c) labels) v w)
@@ -60,6 +52,13 @@ module _ (a b : ℕ) where
       go : (t : Bool) {r : List ℕ} (s u : List ℕ) → r ≡ s ++ u → cond t (c ∷ r) r ≡ cond t (c ∷ s) s ++ u
       go true s u e = ap (λ (l : List ℕ). c ∷ l) e
       go false s u e = e
+
+  -- its numbers add up, the second part's from the list that the first leaves
+  pub crossings-append : (labels v w : List ℕ)
+      → crossingsFrom labels a b (v ++ w) ≡ crossingsFrom labels a b v +ℤ crossingsFrom (listAfter labels v) a b w
+  unfolding crossingsFrom
+  crossings-append labels v w =
+      ap exponentSum (swapping-append labels v w) ∙ exponent-append (swapping a b labels v) (swapping a b (listAfter labels v) w)
 
 -- ---- one letter more
 

@@ -3,7 +3,8 @@ pub mod CrossingLaws
 pub mod PartLaws
 pub mod CountLaws
 pub mod CrossingAnswer
-pub mod Reduction
 pub mod AllPairs
+pub mod PairLaws
+pub mod AnyCrossings
 pub mod WrongPrograms
 pub mod PaperWord

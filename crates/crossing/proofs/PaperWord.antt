@@ -4,8 +4,8 @@ use mathlib.Core.List.{[], _∷_, map}
 use lib.IntN.{pos}
 use lib.ListN.{replicate}
 use Rattle.base.specs.Digits.{value, halves}
-use Rattle.base.specs.Lists.{valuesFrom}
-use Rattle.braid.specs.Exponent.{tally, exponentSum}
+use Rattle.base.specs.Lists.{valuesFrom, tally}
+use Rattle.braid.specs.Exponent.{exponentSum}
 use Rattle.braid.specs.Strands.{swapped}
 use Rattle.braid.specs.Words.{codes}
 use Rattle.crossing.specs.Crossings.{swaps, swapping, crossingsFrom, crossings, withEach, pairsFrom, allPairs}

@@ -8,15 +8,15 @@ use mathlib.Core.List.{List, [], _∷_}
 use native.Mathlib.Omega.{arith}
 use lib.IntN.{ℤ, pos, negℤ, pos-ne-negsuc}
 use Rattle.base.specs.Questions.{firstNo}
-use Rattle.base.specs.Lists.{every, valuesFrom}
+use Rattle.base.specs.Lists.{every, valuesFrom, tally}
 use Rattle.base.specs.Digits.{value, halves}
 use Rattle.base.proofs.QuestionLaws.{granted-zero}
 use Rattle.braid.specs.Letters.{generator}
-use Rattle.braid.specs.Exponent.{tally, exponentSum}
+use Rattle.braid.specs.Exponent.{exponentSum}
 use Rattle.braid.specs.Strands.{inOrder, swapped}
 use Rattle.braid.specs.Words.{codes, filler}
-use Rattle.crossing.specs.declared.Crossing.{Crossing}
-use Rattle.crossing.specs.Crossings.{both, swaps, swapping, crossingsFrom, crossings, crossingQuestions, Crosses}
+use Rattle.crossing.specs.Crossings.{both, swaps, swapping, crossingsFrom, crossings, crossingQuestions}
+use Rattle.crossing.proofs.AnyCrossings.{Operation, Meets}
 
 -- ---- what they count
 
@@ -41,12 +41,6 @@ abbrev pub turned : Count
 turned a b w = negℤ (crossings a b w)
 
 -- ---- none of them meets the contract
-
-abbrev pub Operation : Type 0
-Operation = (word : List ℕ) (a b : ℕ) → Crossing
-
-abbrev pub Meets : Operation → Type 0
-Meets f = (word : List ℕ) (a b : ℕ) → Crosses word a b (f word a b .answer) (f word a b .crossings)
 
 module _ (f : Operation) (meets : Meets f) where
   -- where every question is passed it gives what g gives

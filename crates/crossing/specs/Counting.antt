@@ -1,9 +1,9 @@
--- How all pairs are counted in one walk, for the contracts of functions that are no operation of the papers, `counted`
--- and `crossed` among them: a table that counts, for each sign, each label at a letter's own place and each label at
--- the next, the letters that find these two there.
+-- How all pairs are counted in one walk, for private contracts: a table that counts, for each sign, each label at a
+-- letter's own place and each label at the next, the letters that find these two there.
 use Prim.Native.Nat.{ℕ, _+_, _*_, _/_, _≤_, _<_}
 use mathlib.Core.Path.{_≡_}
 use mathlib.Core.List.{List, [], _∷_}
+use lib.IntN.{ℤ, pos, _-ℤ_}
 use lib.ListN.{length, getD, set}
 use Rattle.base.specs.Lists.{count}
 use Rattle.braid.specs.Letters.{generator}
@@ -42,7 +42,7 @@ abbrev pub OneCounted : ℕ → List ℕ → List ℕ → List ℕ → List ℕ 
 OneCounted c labels counts labels′ counts′ =
     (labels′ ≡ swapped (generator c) labels) × (counts′ ≡ set counts (slotOf labels c) (getD counts (slotOf labels c) 0 + 1))
 
--- how often a table counts two labels, either way round, for each sign
-pub record Found (counts : List ℕ) (a b generators inverses : ℕ) : Type 0 where
-  pub generators-are : generators ≡ getD counts (slot 0 a b) 0 + getD counts (slot 0 b a) 0
-  pub inverses-are : inverses ≡ getD counts (slot 1 a b) 0 + getD counts (slot 1 b a) 0
+-- what a table has of two labels, either way round: generators less inverses
+abbrev pub found : List ℕ → ℕ → ℕ → ℤ
+found counts a b =
+    pos (getD counts (slot 0 a b) 0 + getD counts (slot 0 b a) 0) -ℤ pos (getD counts (slot 1 a b) 0 + getD counts (slot 1 b a) 0)

@@ -3,15 +3,16 @@
 use Prim.Native.Nat.{ℕ, zero, suc, _+_}
 use mathlib.Core.Path.{_≡_}
 use mathlib.Core.Bool.{Bool, cond, not, _&&_, _||_}
-use mathlib.Core.List.{List, [], _∷_, _++_}
+use mathlib.Core.List.{List, [], _∷_, _++_, map}
 use lib.Dec.{ltb, eqb}
-use lib.ListN.{getD}
+use lib.ListN.{getD, replicate}
 use lib.IntN.{ℤ, pos, _+ℤ_}
 use Rattle.base.specs.Questions.{Question, _else_, firstNo, granted}
 use Rattle.braid.specs.Letters.{generator}
 use Rattle.braid.specs.Exponent.{exponentSum}
 use Rattle.braid.specs.Strands.{inOrder, swapped}
-use Rattle.braid.specs.Words.{codes, wordQuestions}
+use Rattle.braid.specs.Words.{codes, wordQuestions, wordAnswer}
+pub use Rattle.crossing.specs.declared.Two.{Two}
 
 -- are p and q just the labels a and b, either way round?
 abbrev pub both : ℕ → ℕ → ℕ → ℕ → Bool
@@ -44,11 +45,6 @@ pub record Crosses (word : List ℕ) (a b answer : ℕ) (number : ℤ) : Type 0 
   pub answer-is : answer ≡ firstNo (crossingQuestions word a b)
   pub number-is : number ≡ granted (firstNo (crossingQuestions word a b)) (crossings a b (codes word)) (pos 0)
 
--- two labels, the smaller first
-pub record Two : Type 0 where
-  pub smaller : ℕ
-  pub larger : ℕ
-
 -- a label with each of n labels from b on
 unfoldable pub withEach : ℕ → ℕ → ℕ → List Two
 withEach a b zero = []
@@ -62,6 +58,19 @@ pairsFrom a (suc n) = withEach a (suc a) n ++ pairsFrom (suc a) n
 -- the 28 pairs of the labels 0 to 7
 abbrev pub allPairs : List Two
 allPairs = pairsFrom 0 8
+
+-- pair k of them; past the last, no labels
+abbrev pub pairAt : ℕ → Two
+pairAt k = getD allPairs k (record { smaller = 0; larger = 0 })
+
+-- how often the labels of each of them cross
+unfoldable pub allCrossings : List ℕ → List ℤ
+allCrossings w = map (λ p. crossings (p .smaller) (p .larger) w) allPairs
+
+-- the word's answer, and beside it the 28 numbers, which are zeros on a refusal
+pub record CrossesAll (word : List ℕ) (answer : ℕ) (numbers : List ℤ) : Type 0 where
+  pub answer-is : answer ≡ wordAnswer word
+  pub numbers-are : numbers ≡ granted (wordAnswer word) (allCrossings (codes word)) (replicate 28 (pos 0))
 
 -- the numbers of some pairs together
 unfoldable pub together : (Two → ℤ) → List Two → ℤ

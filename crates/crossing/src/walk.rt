@@ -1,15 +1,17 @@
 // All pairs of labels counted in one walk over a word. The table has a place for each sign and each two labels in
 // order, so that a letter adds 1 at one place, with nothing to decide.
-use crate::Signs;
+use crate::pair_at;
 ghost use Prim.Native.Nat.{_+_, _≤_, _<_};
 ghost use mathlib.Core.Path.{_≡_};
 ghost use mathlib.Core.Bool.{true};
+ghost use lib.IntN.{pos, _-ℤ_};
 ghost use lib.ListN.{length};
 ghost use Rattle.base.specs.Lists.{every};
 ghost use Rattle.braid.specs.Letters.{isLetter};
 ghost use Rattle.braid.specs.Strands.{inOrder};
 ghost use Rattle.braid.specs.Words.{codes, letters, wordAnswer};
-ghost use Rattle.crossing.specs.Counting.{slot, OneCounted, Labelled, Table, Counts, Found};
+ghost use Rattle.crossing.specs.Counting.{slot, OneCounted, Labelled, Table, Counts, found};
+ghost use Rattle.crossing.specs.Crossings.{allCrossings};
 
 // The place of a sign, 0 for a generator and 1 for an inverse, and two labels.
 fn slot(sign: u8, p: u8, q: u8) -> usize
@@ -50,7 +52,7 @@ fn walk(codes: &[u8]) -> [u32; 128]
 }
 
 // The table of an accepted word of n letters.
-pub fn counted(word: &[u8], n: usize) -> [u32; 128]
+pub(crate) fn counted(word: &[u8], n: usize) -> [u32; 128]
     requires { ⌜ (wordAnswer (now word) ≡ 0) × (n ≡ length (letters (now word))) ⌝ }
     ensures { λ r. ⌜ Counts inOrder (codes (now (word .entry))) r ⌝ }
 {
@@ -59,16 +61,39 @@ pub fn counted(word: &[u8], n: usize) -> [u32; 128]
     walk(&row[..n])
 }
 
-// How often letters of either sign swap two labels: those that find the first before the second, and those that find
+// The difference of two numbers up to 20,000.
+fn less(a: u32, b: u32) -> i32
+    requires { ⌜ (a ≤ 20000) × (b ≤ 20000) ⌝ }
+    ensures { λ r. ⌜ r ≡ pos a -ℤ pos b ⌝ }
+{
+    let x = a as i32;
+    let y = b as i32;
+    x - y
+}
+
+// Generators less inverses that swap two labels: the letters that find the first before the second, and those that find
 // them the other way round.
-pub fn crossed(counts: &[u32; 128], a: u8, b: u8) -> Signs
+pub(crate) fn number(counts: &[u32; 128], a: u8, b: u8) -> i32
     requires { ⌜ Table (now counts) × (a < 8) × (b < 8) ⌝ }
-    ensures { λ r. ⌜ Found (now (counts .entry)) a b (r .generators) (r .inverses) ⌝ }
+    ensures { λ r. ⌜ r ≡ found (now (counts .entry)) a b ⌝ }
 {
     let generators = counts[slot(0, a, b)] + counts[slot(0, b, a)];
     let inverses = counts[slot(1, a, b)] + counts[slot(1, b, a)];
-    Signs {
-        generators,
-        inverses,
+    less(generators, inverses)
+}
+
+// The numbers of all pairs of an accepted word of n letters.
+pub(crate) fn numbers(word: &[u8], n: usize) -> [i32; 28]
+    requires { ⌜ (wordAnswer (now word) ≡ 0) × (n ≡ length (letters (now word))) ⌝ }
+    ensures { λ r. ⌜ r ≡ allCrossings (codes (now (word .entry))) ⌝ }
+{
+    let counts = counted(word, n);
+    let mut numbers = [0i32; 28];
+    let mut k = 0;
+    while k < 28 {
+        let two = pair_at(k);
+        numbers[k] = number(&counts, two.smaller, two.larger);
+        k += 1;
     }
+    numbers
 }

@@ -1,10 +1,12 @@
 // The program that lists how often every two strands of a word cross: the whole text that it writes.
-ghost use lib.ListN.{length, take};
-ghost use Rattle.desk_line.specs.Desk.{answerLine, TellsIn};
-ghost use Rattle.crossing_lines.specs.Lines.{crossingText, textSize, EnoughOfWord};
+use desk_line::Got;
+ghost use mathlib.Core.Path.{_≡_};
+ghost use lib.ListN.{length, replicate};
+ghost use Rattle.text.specs.Texts.{TellsIn};
+ghost use Rattle.desk_line.specs.Desk.{answerLine};
+ghost use Rattle.crossing_lines.specs.Lines.{wordText, textSize, EnoughOfWord};
 
 mod line; // line.rt: the lines of all pairs
-mod number; // number.rt: numbers in decimal
 
 // The bytes to read: one more than a word may have, so that a longer one is told from a full one.
 pub const WORD_ROOM: usize = desk_line::WORD_ROOM;
@@ -16,6 +18,18 @@ pub const TEXT: usize = 308;
 pub struct Text {
     pub text: [u8; TEXT],
     pub bytes: usize,
+}
+
+impl Text {
+    // No text.
+    fn none() -> Text
+        ensures { λ r. ⌜ (r .bytes ≡ 0) × (r .text ≡ replicate textSize 0) ⌝ }
+    {
+        Text {
+            text: [0; TEXT],
+            bytes: 0,
+        }
+    }
 }
 
 // The desk program's line of an answer, as a text.
@@ -30,18 +44,22 @@ fn answer_text(answer: u8) -> Text
     Text { text, bytes }
 }
 
-// What is written of a word, of which the first `n` bytes of the buffer were read: the lines of all pairs, or on a
-// refusal the desk program's line.
-pub fn word_text(input: &[u8; WORD_ROOM], n: usize) -> Text
-    ensures { λ r. ⌜ TellsIn textSize (crossingText (take n (now (input .entry)))) (r .bytes) (r .text) ⌝ }
+// What is written of a word: the lines of all pairs, or on a refusal the desk program's line; nothing where it could
+// not be read.
+pub fn word_text(input: &[u8; WORD_ROOM], got: Got) -> Text
+    ensures { λ r. ⌜ TellsIn textSize (wordText got (now (input .entry))) (r .bytes) (r .text) ⌝ }
     ensures { λ _. ⌜ EnoughOfWord (length (now (input .entry))) ⌝ }
 {
-    let word = desk_line::part(input, 0, n);
-    let w = braid::read_word(word);
-    let answer = w.answer;
+    let n = got.bytes;
+    let word = text::part(input, 0, n);
+    if !got.read {
+        return Text::none();
+    }
+    let all = crossing::all_crossings(word);
+    let answer = all.answer;
     if answer != 0 {
         return answer_text(answer);
     }
-    let letters = w.letters;
-    line::lines(word, letters)
+    let numbers = all.numbers;
+    line::lines(&numbers)
 }

@@ -1,10 +1,15 @@
-// The desk's reading and writing: bytes come in, and what `desk_line` and `crossing_lines` make of them goes out.
+// The desk's reading and writing: bytes come in, and what `desk_line` and `crossing_lines` make of them goes out. They
+// decide too what is written where an input could not be read.
 use crossing_lines::Text;
 use desk_line::Got;
 use desk_line::Line;
 use libc::STDIN_FILENO;
 use libc::STDOUT_FILENO;
+ghost use mathlib.Core.Path.{_≡_};
+ghost use mathlib.Core.Bool.{false};
+ghost use lib.ListN.{length};
 ghost use Rattle.io.specs.Counts.{Counts};
+ghost use Rattle.desk_line.specs.Desk.{GotOf};
 
 // Writes bytes to standard output, or says that it cannot.
 fn say(bytes: &[u8]) {
@@ -23,16 +28,17 @@ pub fn tell(line: Line)
 }
 
 // What reading gave where it failed, after a line on standard error.
-fn unread(path: &[u8]) -> Got {
+fn unread(path: &[u8]) -> Got
+    ensures { λ r. ⌜ (r .read ≡ false) × (r .bytes ≡ 0) ⌝ }
+{
     os::fail(path);
-    Got {
-        read: false,
-        bytes: 0,
-    }
+    Got::unread()
 }
 
 // Fills the start of `buf` from an open file, to its end or the file's.
-fn fill(fd: i32, path: &[u8], buf: &mut [u8]) -> Got {
+fn fill(fd: i32, path: &[u8], buf: &mut [u8]) -> Got
+    ensures { λ r. ⌜ GotOf (length (now (buf .exit))) r ⌝ }
+{
     let mut n = 0;
     while n < buf.len() {
         let got = libc::read(fd, &mut buf[n..]);
@@ -51,17 +57,17 @@ fn fill(fd: i32, path: &[u8], buf: &mut [u8]) -> Got {
     }
 }
 
-// The desk program: a slip on standard input, key, digest and signature end to end; no line where it cannot be read.
+// The desk program: a slip on standard input, key, digest and signature end to end.
 pub fn desk() {
     let mut input = [0u8; desk_line::INPUT_ROOM];
     let got = fill(STDIN_FILENO, b"standard input", &mut input);
-    if got.read {
-        tell(desk_line::input_line(&input, got.bytes));
-    }
+    tell(desk_line::input_line(&input, got));
 }
 
 // Reads the file that argument i names. One that cannot be opened or read gets a line on standard error.
-pub fn file(i: usize, buf: &mut [u8]) -> Got {
+pub fn file(i: usize, buf: &mut [u8]) -> Got
+    ensures { λ r. ⌜ GotOf (length (now (buf .exit))) r ⌝ }
+{
     let mut path = io::buffer();
     let n = os::arg(i, &mut path);
     if os::errno() != 0 {
@@ -97,23 +103,16 @@ fn tell_text(t: Text)
     say(&text[..n]);
 }
 
-// Lists how often every two strands of a word cross; nothing where it could not be read.
-fn list(input: &[u8; crossing_lines::WORD_ROOM], got: Got) {
-    if got.read {
-        tell_text(crossing_lines::word_text(input, got.bytes));
-    }
-}
-
 // The program that lists crossings, of the word on standard input.
 pub fn crossings() {
     let mut input = [0u8; crossing_lines::WORD_ROOM];
     let got = fill(STDIN_FILENO, b"standard input", &mut input);
-    list(&input, got);
+    tell_text(crossing_lines::word_text(&input, got));
 }
 
-// The same program, of the word in the file that its argument names.
+// The program that lists crossings, of the word in the file that its argument names.
 pub fn crossings_file() {
     let mut input = [0u8; crossing_lines::WORD_ROOM];
     let got = file(1, &mut input);
-    list(&input, got);
+    tell_text(crossing_lines::word_text(&input, got));
 }

@@ -11,12 +11,13 @@ use lib.ListN.{length, replicate}
 use Rattle.base.specs.Questions.{firstNo}
 use Rattle.base.specs.Lists.{valuesFrom, every}
 use Rattle.base.specs.Digits.{value, digits, halves}
+use Rattle.base.specs.Packing.{packedRow}
 use Rattle.field.specs.Fields.{digestBytes}
 use Rattle.field.specs.declared.Field.the-variants.{Gf256}
 use Rattle.matrix.specs.Layout.{place, rowOf, columnOf, entry, matrixOf}
 use Rattle.matrix.specs.Product.{identity}
 use Rattle.braid.specs.Words.{codes, filler, wordAnswer}
-use Rattle.key.specs.Keys.{keyField, fileEntries, packedMatrix, keyFile, keyAnswer}
+use Rattle.key.specs.Keys.{keyField, fileEntries, keyFile, keyAnswer}
 use Rattle.key.proofs.Inverses.{keyWith, unitEntries, plain-key}
 use Rattle.verify.specs.Verdict.{verdict}
 use Rattle.verify.proofs.VerdictIff.{digest-refused, word-refused, zero-or-14}
@@ -37,7 +38,7 @@ key-accepted : keyAnswer largeKey ≡ 0
 key-accepted = plain-key Gf256
 
 digest-accepted : length largeDigest ≡ digestBytes (keyField largeKey)
-unfolding keyField valuesFrom value digits place rowOf columnOf entry matrixOf identity fileEntries packedMatrix keyFile
+unfolding keyField valuesFrom value digits place rowOf columnOf entry matrixOf identity fileEntries packedRow keyFile
 digest-accepted = refl
 
 empty-accepted : wordAnswer emptyWord ≡ 0
@@ -72,21 +73,21 @@ long-11 : verdict largeKey largeDigest longWord ≡ 11
 long-11 = word-refused largeKey largeDigest longWord key-accepted digest-accepted (λ e. omega (arith, long-answer)) ∙ long-answer
 
 pub no-128-of-a-key : EnoughOfFiles 128 65 5003 → ⊥
-unfolding valuesFrom value digits place rowOf columnOf entry matrixOf identity fileEntries packedMatrix keyFile
+unfolding valuesFrom value digits place rowOf columnOf entry matrixOf identity fileEntries packedRow keyFile
 no-128-of-a-key enough =
     let long = largeKey ++ (0 ∷ []) in
     no-other emptyWord empty-accepted 1 (λ e. omega arith) (λ e. omega arith)
     (enough long largeDigest emptyWord ∙ long-key long largeDigest emptyWord (lit< tt))
 
 pub no-64-of-a-digest : EnoughOfFiles 129 64 5003 → ⊥
-unfolding valuesFrom value digits place rowOf columnOf entry matrixOf identity fileEntries packedMatrix keyFile
+unfolding valuesFrom value digits place rowOf columnOf entry matrixOf identity fileEntries packedRow keyFile
 no-64-of-a-digest enough =
     no-other emptyWord empty-accepted 8 (λ e. omega arith) (λ e. omega arith)
     (enough largeKey (replicate 65 0) emptyWord
     ∙ digest-refused largeKey (replicate 65 0) emptyWord key-accepted (λ e. omega (arith, digest-accepted, e)))
 
 pub no-5002-of-a-signature : EnoughOfFiles 129 65 5002 → ⊥
-unfolding valuesFrom value digits place rowOf columnOf entry matrixOf identity fileEntries packedMatrix keyFile
+unfolding valuesFrom value digits place rowOf columnOf entry matrixOf identity fileEntries packedRow keyFile
 no-5002-of-a-signature enough =
     no-other fullWord full-accepted 11 (λ e. omega arith) (λ e. omega arith) (enough largeKey largeDigest longWord ∙ long-11)
 
@@ -95,14 +96,14 @@ abbrev slip : List ℕ → List ℕ
 slip word = largeKey ++ (largeDigest ++ word)
 
 pub no-5194-of-an-input : EnoughOfInput 5194 → ⊥
-unfolding deskVerdict deskField cutVerdict valuesFrom value digits place rowOf columnOf entry matrixOf identity fileEntries packedMatrix keyFile
+unfolding deskVerdict deskField cutVerdict valuesFrom value digits place rowOf columnOf entry matrixOf identity fileEntries packedRow keyFile
 no-5194-of-an-input enough = no-other fullWord full-accepted 11 (λ e. omega arith) (λ e. omega arith) (enough (slip longWord) ∙ long-11)
 
 -- cut at 83 and 32 a slip that says 256 is 3, and it is 0 or 14
 cut-3 : cutVerdict 83 32 (slip emptyWord) ≡ 3
-unfolding cutVerdict verdict firstNo keyField valuesFrom value digits place rowOf columnOf entry matrixOf identity fileEntries packedMatrix keyFile
+unfolding cutVerdict verdict firstNo keyField valuesFrom value digits place rowOf columnOf entry matrixOf identity fileEntries packedRow keyFile
 cut-3 = refl
 
 pub no-small-cut : ((input : List ℕ) → deskVerdict input ≡ cutVerdict 83 32 input) → ⊥
-unfolding deskVerdict deskField cutVerdict valuesFrom value digits place rowOf columnOf entry matrixOf identity fileEntries packedMatrix keyFile
+unfolding deskVerdict deskField cutVerdict valuesFrom value digits place rowOf columnOf entry matrixOf identity fileEntries packedRow keyFile
 no-small-cut wrong = no-other emptyWord empty-accepted 3 (λ e. omega arith) (λ e. omega arith) (wrong (slip emptyWord) ∙ cut-3)

@@ -1,13 +1,15 @@
 -- The desk: a slip whose key, digest and signature lie end to end in one input, or in three files; the line that tells
 -- the answer; and how large a buffer has to be.
-use Prim.Native.Nat.{ℕ, _+_}
+use Prim.Native.Nat.{ℕ, _+_, _≤_}
 use mathlib.Core.Path.{_≡_}
-use mathlib.Core.Bool.{cond, _&&_}
-use mathlib.Core.List.{List, [], _∷_, _++_, map}
-use lib.Dec.{eqb, ltb}
-use lib.ListN.{length, take, replicate}
-use Rattle.base.specs.Digits.{value, digits, part}
-use Rattle.base.specs.Lists.{overlaid}
+use mathlib.Core.Bool.{false, cond, _&&_}
+use mathlib.Core.List.{List, [], _∷_}
+use lib.Dec.{eqb}
+use lib.ListN.{take}
+use Rattle.base.specs.Digits.{value, part}
+use Rattle.text.specs.Decimal.{decimal}
+use Rattle.text.specs.Texts.{line, TellsIn}
+use Rattle.text.specs.Enough.{Enough, EnoughOfThree}
 use Rattle.field.specs.Fields.{keyBytes, digestBytes}
 use Rattle.field.specs.declared.Field.{Field}
 use Rattle.field.specs.declared.Field.the-variants.{Gf32, Gf256}
@@ -27,21 +29,18 @@ cutVerdict k d input = verdict (part 0 k input) (part k d input) (part (k + d) 5
 unfoldable pub deskVerdict : List ℕ → ℕ
 deskVerdict input = cutVerdict (keyBytes (deskField input)) (digestBytes (deskField input)) input
 
--- how many decimal digits a number below 100,000 has
-unfoldable pub places : ℕ → ℕ
-places n = cond (ltb n 10) 1 (cond (ltb n 100) 2 (cond (ltb n 1000) 3 (cond (ltb n 10000) 4 5)))
-
--- a number below 100,000 as text, in decimal: '0' is 48
-unfoldable pub decimal : ℕ → List ℕ
-decimal n = map (λ d. 48 + d) (digits 10 (places n) n)
-
--- "answer "
+-- "answer"
 abbrev pub answerWord : List ℕ
-answerWord = 97 ∷ 110 ∷ 115 ∷ 119 ∷ 101 ∷ 114 ∷ 32 ∷ []
+answerWord = 97 ∷ 110 ∷ 115 ∷ 119 ∷ 101 ∷ 114 ∷ []
 
 -- "answer ", the decimal number, a line end
 unfoldable pub answerLine : ℕ → List ℕ
-answerLine n = answerWord ++ (decimal n ++ (10 ∷ []))
+answerLine n = line (answerWord ∷ decimal n ∷ [])
+
+-- what is written on one input, of which the buffer's first bytes were read: the line of the verdict on them, and
+-- nothing where it could not be read
+unfoldable pub inputLine : Got → List ℕ → List ℕ
+inputLine got input = cond (got .read) (answerLine (deskVerdict (take (got .bytes) input))) []
 
 -- what is written on three files, of each of which the buffer's first bytes were read: the line of the verdict on them,
 -- and nothing unless all three could be read
@@ -51,20 +50,19 @@ filesLine k d w key digest word =
     (answerLine (verdict (take (k .bytes) key) (take (d .bytes) digest) (take (w .bytes) word)))
     []
 
--- the first bytes of a text of some size are what is to be written, and zeros follow
-pub record TellsIn (size : ℕ) (written : List ℕ) (bytes : ℕ) (text : List ℕ) : Type 0 where
-  pub bytes-are : bytes ≡ length written
-  pub text-is : text ≡ overlaid written (replicate size 0)
-
--- the same of a text of 11, which a line fits
+-- a text of 11 bytes, which a line fits
 abbrev pub Tells : List ℕ → ℕ → List ℕ → Type 0
 Tells = TellsIn 11
 
+-- what reading gives of a buffer of some size: no more bytes than it has, and none where it could not be read
+pub record GotOf (size : ℕ) (got : Got) : Type 0 where
+  pub fits : got .bytes ≤ size
+  pub none : got .read ≡ false → got .bytes ≡ 0
+
 -- n bytes are enough to read of an input of any length: they are judged as all of it is
 abbrev pub EnoughOfInput : ℕ → Type 0
-EnoughOfInput n = (input : List ℕ) → deskVerdict (take n input) ≡ deskVerdict input
+EnoughOfInput n = Enough n deskVerdict
 
 -- k bytes of a key, d of a digest and w of a signature are enough to read of three files of any length
 abbrev pub EnoughOfFiles : ℕ → ℕ → ℕ → Type 0
-EnoughOfFiles k d w =
-    (key digest word : List ℕ) → verdict (take k key) (take d digest) (take w word) ≡ verdict key digest word
+EnoughOfFiles k d w = EnoughOfThree k d w verdict

@@ -1,13 +1,12 @@
 // A slip as it comes to the desk, end to end or in three files, and the line that tells the answer. What is read lies
 // in arrays whose sizes are given here, so that a buffer of another size does not fit.
-ghost use Prim.Native.Nat.{_≤_, min};
+ghost use Prim.Native.Nat.{_≤_};
 ghost use mathlib.Core.Path.{_≡_};
-ghost use mathlib.Core.Bool.{_&&_};
-ghost use mathlib.Core.List.{[], _∷_, _++_};
+ghost use mathlib.Core.Bool.{false, _&&_};
 ghost use lib.Dec.{eqb};
-ghost use lib.ListN.{length, take, replicate};
+ghost use lib.ListN.{length, replicate};
 ghost use Rattle.base.specs.Digits.{value, part as partOf};
-ghost use Rattle.desk_line.specs.Desk.{cutVerdict, deskVerdict, answerWord, answerLine, filesLine, Tells, EnoughOfInput, EnoughOfFiles};
+ghost use Rattle.desk_line.specs.Desk.{cutVerdict, deskVerdict, answerLine, inputLine, filesLine, Tells, EnoughOfInput, EnoughOfFiles};
 
 // The bytes of a key and of a digest, over GF(32) and over GF(256), and the most that a signature has.
 const KEY: usize = 83;
@@ -30,22 +29,6 @@ pub const WORD_ROOM: usize = WORD + 1;
 // The bytes to read of a slip that lies end to end.
 pub const INPUT_ROOM: usize = LARGE_KEY + LARGE_DIGEST + WORD_ROOM;
 
-fn least(a: usize, b: usize) -> usize
-    ensures { λ r. ⌜ r ≡ min a b ⌝ }
-{
-    if a < b { a } else { b }
-}
-
-// Up to `most` bytes from a place on: fewer, or none, where the input ends before.
-pub fn part(input: &[u8], at: usize, most: usize) -> &[u8]
-    ensures { λ r. ⌜ now r ≡ partOf at most (now (input .entry)) ⌝ }
-{
-    let start = least(at, input.len());
-    let rest = &input[start..];
-    let n = least(most, rest.len());
-    &rest[..n]
-}
-
 // Do bytes 1 and 2, counted from 0, say 256?
 fn says_256(input: &[u8]) -> bool
     ensures { λ r. ⌜ r ≡ eqb (value 256 (partOf 1 2 (now (input .entry)))) 256 ⌝ }
@@ -61,9 +44,9 @@ fn cut(input: &[u8], k: usize, d: usize) -> u8
     requires { ⌜ (k ≤ 128) × (d ≤ 64) ⌝ }
     ensures { λ r. ⌜ r ≡ cutVerdict k d (now (input .entry)) ⌝ }
 {
-    let key = part(input, 0, k);
-    let digest = part(input, k, d);
-    let word = part(input, k + d, WORD_ROOM);
+    let key = text::part(input, 0, k);
+    let digest = text::part(input, k, d);
+    let word = text::part(input, k + d, WORD_ROOM);
     verify::verify(key, digest, word)
 }
 
@@ -84,38 +67,31 @@ pub struct Line {
     pub bytes: usize,
 }
 
-// "answer " and four bytes more.
-fn spelled(a: u8, b: u8, c: u8, d: u8, bytes: usize) -> Line
-    ensures { λ r. ⌜ (r .bytes ≡ bytes) × (r .text ≡ answerWord ++ (a ∷ b ∷ c ∷ d ∷ [])) ⌝ }
-{
-    Line {
-        text: [b'a', b'n', b's', b'w', b'e', b'r', b' ', a, b, c, d],
-        bytes,
+impl Line {
+    // No line.
+    fn none() -> Line
+        ensures { λ r. ⌜ (r .bytes ≡ 0) × (r .text ≡ replicate 11 0) ⌝ }
+    {
+        Line {
+            text: [0; 11],
+            bytes: 0,
+        }
     }
+}
+
+fn wide(x: u8) -> u32
+    ensures { λ r. ⌜ r ≡ x ⌝ }
+{
+    x as u32
 }
 
 // "answer ", the decimal number, a line end.
 pub fn answer_line(answer: u8) -> Line
     ensures { λ r. ⌜ Tells (answerLine answer) (r .bytes) (r .text) ⌝ }
 {
-    let ones = 48 + answer % 10;
-    if answer < 10 {
-        return spelled(ones, b'\n', 0, 0, 9);
-    }
-    let tens = 48 + answer / 10 % 10;
-    if answer < 100 {
-        return spelled(tens, ones, b'\n', 0, 10);
-    }
-    let hundreds = 48 + answer / 100 % 10;
-    spelled(hundreds, tens, ones, b'\n', 11)
-}
-
-// The line on a slip that lies end to end, of which the first `n` bytes of the buffer were read.
-pub fn input_line(input: &[u8; INPUT_ROOM], n: usize) -> Line
-    ensures { λ r. ⌜ Tells (answerLine (deskVerdict (take n (now (input .entry))))) (r .bytes) (r .text) ⌝ }
-    ensures { λ _. ⌜ EnoughOfInput (length (now (input .entry))) ⌝ }
-{
-    answer_line(judged(part(input, 0, n)))
+    let mut line = [b'a', b'n', b's', b'w', b'e', b'r', b' ', 0, 0, 0, 0];
+    let bytes = text::decimal(&mut line, 7, wide(answer), b'\n');
+    Line { text: line, bytes }
 }
 
 // What reading a file gave: could it be read, and how many bytes of its buffer.
@@ -124,14 +100,29 @@ pub struct Got {
     pub bytes: usize,
 }
 
-// No line.
-fn nothing() -> Line
-    ensures { λ r. ⌜ (r .bytes ≡ 0) × (r .text ≡ replicate 11 0) ⌝ }
-{
-    Line {
-        text: [0; 11],
-        bytes: 0,
+impl Got {
+    // The file could not be read.
+    pub fn unread() -> Got
+        ensures { λ r. ⌜ (r .read ≡ false) × (r .bytes ≡ 0) ⌝ }
+    {
+        Got {
+            read: false,
+            bytes: 0,
+        }
     }
+}
+
+// The line on a slip that lies end to end; none where it could not be read.
+pub fn input_line(input: &[u8; INPUT_ROOM], got: Got) -> Line
+    ensures { λ r. ⌜ Tells (inputLine got (now (input .entry))) (r .bytes) (r .text) ⌝ }
+    ensures { λ _. ⌜ EnoughOfInput (length (now (input .entry))) ⌝ }
+{
+    let n = got.bytes;
+    let slip = text::part(input, 0, n);
+    if !got.read {
+        return Line::none();
+    }
+    answer_line(judged(slip))
 }
 
 pub fn both(a: bool, b: bool) -> bool
@@ -161,11 +152,11 @@ pub fn files_line(
     let k_n = k.bytes;
     let d_n = d.bytes;
     let w_n = w.bytes;
-    let k_read = part(key, 0, k_n);
-    let d_read = part(digest, 0, d_n);
-    let w_read = part(word, 0, w_n);
+    let k_read = text::part(key, 0, k_n);
+    let d_read = text::part(digest, 0, d_n);
+    let w_read = text::part(word, 0, w_n);
     if !all_read(k, d, w) {
-        return nothing();
+        return Line::none();
     }
     answer_line(verify::verify(k_read, d_read, w_read))
 }

@@ -108,7 +108,7 @@ fn slip(key: &[u8; desk_line::KEY_ROOM], k: Got, at: usize, alone: bool)
     let w = desk_io::file(at + 1, &mut word);
     let made = desk_words::shorten(key, &digest, &word, k, d, w);
     let n = w.bytes;
-    end(made, desk_line::part(&word, 0, n), at + 2, alone);
+    end(made, text::part(&word, 0, n), at + 2, alone);
 }
 
 // Shortens slips under one key: a name beside the new files, the key, then digest, signature and new signature of each
@@ -132,7 +132,7 @@ pub fn rewrite() {
     let m = desk_io::file(3, &mut moves);
     let made = desk_words::rewrite(&word, &moves, w, m);
     let n = w.bytes;
-    end(made, desk_line::part(&word, 0, n), 4, true);
+    end(made, text::part(&word, 0, n), 4, true);
 }
 
 // Reduces a word freely: a name beside the new file, the word, the new word.
@@ -141,5 +141,5 @@ pub fn reduce() {
     let w = desk_io::file(2, &mut word);
     let made = desk_words::reduce(&word, w);
     let n = w.bytes;
-    end(made, desk_line::part(&word, 0, n), 3, true);
+    end(made, text::part(&word, 0, n), 3, true);
 }

@@ -9,9 +9,9 @@ use lib.ListN.{length, take, replicate, length-append}
 use Rattle.base.specs.Questions.{Question, firstNo, granted}
 use Rattle.base.specs.Lists.{overlaid}
 use Rattle.base.proofs.QuestionLaws.{granted-zero, granted-refused, granted-ap}
-use Rattle.base.proofs.ListLaws.{true-false, take-overlaid}
+use Rattle.base.proofs.ListLaws.{take-overlaid}
 use Rattle.braid.specs.Words.{Wrote}
-use Rattle.desk_words.specs.Making.{toWrite, MakesNew, Shortens, Rewrites}
+use Rattle.desk_words.specs.Making.{toWrite, noAnswer, MakesNew, Shortens, Rewrites}
 use Rattle.desk_words.specs.declared.Made.{Made}
 
 -- nothing is written: what is made is the answer alone
@@ -25,7 +25,7 @@ pub bare-of : {read : Bool} {answer : ℕ} {made : Made}
     → (made .read ≡ read) × (made .answer ≡ answer) × (made .bytes ≡ 0) × (made .file ≡ replicate 5002 0) → Bare read answer made
 bare-of p = record { read-is = p .0; answer-is = p .1; bytes-are = p .2; file-is = p .3 }
 
-bare-makes : {read : Bool} {n : ℕ} {made : Made} (answer : ℕ) (new : List ℕ) → Bare read n made → n ≡ cond read answer 0 → toWrite read answer new ≡ []
+bare-makes : {read : Bool} {n : ℕ} {made : Made} (answer : ℕ) (new : List ℕ) → Bare read n made → n ≡ cond read answer noAnswer → toWrite read answer new ≡ []
     → MakesNew read answer new made
 unfolding overlaid
 bare-makes answer new b a e =
@@ -37,7 +37,7 @@ bare-makes answer new b a e =
     }
 
 -- a file could not be read
-pub unread : {read : Bool} {made : Made} (answer : ℕ) (new : List ℕ) → read ≡ false → Bare false 0 made → MakesNew read answer new made
+pub unread : {read : Bool} {made : Made} (answer : ℕ) (new : List ℕ) → read ≡ false → Bare false noAnswer made → MakesNew read answer new made
 unfolding toWrite
 unread answer new e b = rw e (bare-makes answer new b refl refl)
 
@@ -76,16 +76,20 @@ pub bytes-within : {read : Bool} {answer : ℕ} {new : List ℕ} {made : Made} �
 unfolding overlaid
 bytes-within m = rw (m .bytes-are, m .file-is) (simp length-append (omega arith))
 
+-- nothing that was not read is answered 0
+unanswered : {made : Made} → Bare false noAnswer made → made .answer ≡ 0 → ⊥
+unanswered b z = omega (arith, b .answer-is)
+
 -- what the two larger verbs make where a file could not be read, and where all could
-pub shortens-unread : {read : Bool} {key digest word : List ℕ} {made : Made} → read ≡ false → Bare false 0 made → Shortens read key digest word made
-shortens-unread e b = record { makes = unread _ _ e b; opens = λ t _. absurd (true-false _ t e) }
+pub shortens-unread : {read : Bool} {key digest word : List ℕ} {made : Made} → read ≡ false → Bare false noAnswer made → Shortens read key digest word made
+shortens-unread e b = record { makes = unread _ _ e b; opens = λ z. absurd (unanswered b z) }
 
 pub shortens-as : {read : Bool} {k d w key digest word : List ℕ} {made : Made} → read ≡ true → k ≡ key → d ≡ digest → w ≡ word
     → Shortens true k d w made → Shortens read key digest word made
 shortens-as {made = made} e p q r s = transport (λ i. Shortens (sym e i) (p i) (q i) (r i) made) s
 
-pub rewrites-unread : {read : Bool} {word moves : List ℕ} {made : Made} → read ≡ false → Bare false 0 made → Rewrites read word moves made
-rewrites-unread e b = record { makes = unread _ _ e b; keeps = λ t _. absurd (true-false _ t e) }
+pub rewrites-unread : {read : Bool} {word moves : List ℕ} {made : Made} → read ≡ false → Bare false noAnswer made → Rewrites read word moves made
+rewrites-unread e b = record { makes = unread _ _ e b; keeps = λ z. absurd (unanswered b z) }
 
 pub rewrites-as : {read : Bool} {w m word moves : List ℕ} {made : Made} → read ≡ true → w ≡ word → m ≡ moves
     → Rewrites true w m made → Rewrites read word moves made

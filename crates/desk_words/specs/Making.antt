@@ -6,22 +6,27 @@ use mathlib.Core.List.{List, []}
 use lib.ListN.{length, take, replicate}
 use Rattle.base.specs.Questions.{firstNo, granted}
 use Rattle.base.specs.Lists.{overlaid}
+use Rattle.text.specs.Enough.{Enough, EnoughOfTwo, EnoughOfThree}
 use Rattle.braid.specs.Words.{codes, maxBytes, wordAnswer, wordFile}
 use Rattle.braid.specs.Reduction.{reduced}
 use Rattle.verify.specs.Verdict.{verdict}
 use Rattle.rewriting.specs.Rewriting.{rewritten, rewriterQuestions}
-use Rattle.moves.specs.Meaning.{SameMeaning}
+use Rattle.slip_meaning.specs.Meaning.{SameMeaning}
 use Rattle.desk_words.specs.declared.Made.{Made}
 
 -- the bytes to write: the new word's file where every file could be read and the answer is 0, and otherwise none
 unfoldable pub toWrite : Bool → ℕ → List ℕ → List ℕ
 toWrite read answer new = cond read (granted answer new []) []
 
--- what such a verb gives: could every file be read? Its answer, 0 where one could not; the bytes to write, and zeros
--- after them
+-- what stands for the answer where a file could not be read: no answer of the papers
+abbrev pub noAnswer : ℕ
+noAnswer = 255
+
+-- what such a verb gives: could every file be read? Its answer, and none where one could not; the bytes to write, and
+-- zeros after them
 pub record MakesNew (read : Bool) (answer : ℕ) (new : List ℕ) (made : Made) : Type 0 where
   pub read-is : made .read ≡ read
-  pub answer-is : made .answer ≡ cond read answer 0
+  pub answer-is : made .answer ≡ cond read answer noAnswer
   pub bytes-are : made .bytes ≡ length (toWrite read answer new)
   pub file-is : made .file ≡ overlaid (toWrite read answer new) (replicate maxBytes 0)
 
@@ -32,7 +37,7 @@ shortFile word = wordFile (reduced (codes word))
 -- shortening a slip: the verdict's answer, and the file of the freely reduced word, which opens the slip too
 pub record Shortens (read : Bool) (key digest word : List ℕ) (made : Made) : Type 0 where
   pub makes : MakesNew read (verdict key digest word) (shortFile word) made
-  pub opens : read ≡ true → made .answer ≡ 0 → verdict key digest (take (made .bytes) (made .file)) ≡ 0
+  pub opens : made .answer ≡ 0 → verdict key digest (take (made .bytes) (made .file)) ≡ 0
 
 -- the rewriter's answer, where its output has room
 unfoldable pub rewriteAnswer : List ℕ → List ℕ → ℕ
@@ -41,27 +46,23 @@ rewriteAnswer word moves = firstNo (rewriterQuestions maxBytes word moves)
 -- rewriting a word: the rewriter's answer, and the file of the new word, which means what the old one means
 pub record Rewrites (read : Bool) (word moves : List ℕ) (made : Made) : Type 0 where
   pub makes : MakesNew read (rewriteAnswer word moves) (wordFile (rewritten word moves)) made
-  pub keeps : read ≡ true → made .answer ≡ 0 → SameMeaning word (take (made .bytes) (made .file))
+  pub keeps : made .answer ≡ 0 → SameMeaning word (take (made .bytes) (made .file))
 
 -- reducing a word freely: the word's answer, and the file of the reduced word
 abbrev pub Reduces : Bool → List ℕ → Made → Type 0
 Reduces read word made = MakesNew read (wordAnswer word) (shortFile word) made
 
--- what is written of a part of each file is what is written of the whole files, of any length: so much of a slip is
--- enough to shorten it, so much of a word and a move list to rewrite it, so much of a word to reduce it
+-- what is answered, and what is written, of a part of each file is that of the whole files, of any length: so much of a
+-- slip is enough to shorten it, so much of a word and a move list to rewrite it, so much of a word to reduce it
 abbrev pub EnoughToShorten : ℕ → ℕ → ℕ → Type 0
-EnoughToShorten k d w = (key digest word : List ℕ)
-    → (verdict (take k key) (take d digest) (take w word) ≡ verdict key digest word)
-    × (toWrite true (verdict (take k key) (take d digest) (take w word)) (shortFile (take w word))
-    ≡ toWrite true (verdict key digest word) (shortFile word))
+EnoughToShorten k d w =
+    EnoughOfThree k d w verdict
+    × EnoughOfThree k d w (λ key digest word. toWrite true (verdict key digest word) (shortFile word))
 
 abbrev pub EnoughToRewrite : ℕ → ℕ → Type 0
-EnoughToRewrite w m = (word moves : List ℕ)
-    → (rewriteAnswer (take w word) (take m moves) ≡ rewriteAnswer word moves)
-    × (toWrite true (rewriteAnswer (take w word) (take m moves)) (wordFile (rewritten (take w word) (take m moves)))
-    ≡ toWrite true (rewriteAnswer word moves) (wordFile (rewritten word moves)))
+EnoughToRewrite w m =
+    EnoughOfTwo w m rewriteAnswer
+    × EnoughOfTwo w m (λ word moves. toWrite true (rewriteAnswer word moves) (wordFile (rewritten word moves)))
 
 abbrev pub EnoughToReduce : ℕ → Type 0
-EnoughToReduce w = (word : List ℕ)
-    → (wordAnswer (take w word) ≡ wordAnswer word)
-    × (toWrite true (wordAnswer (take w word)) (shortFile (take w word)) ≡ toWrite true (wordAnswer word) (shortFile word))
+EnoughToReduce w = Enough w wordAnswer × Enough w (λ word. toWrite true (wordAnswer word) (shortFile word))

@@ -3,9 +3,9 @@
 // here and in `desk_line`, so that a buffer of another size does not fit.
 use desk_line::Got;
 ghost use mathlib.Core.Path.{_≡_};
-ghost use mathlib.Core.Bool.{true, _&&_};
+ghost use mathlib.Core.Bool.{true, false, _&&_};
 ghost use lib.ListN.{length, take, replicate};
-ghost use Rattle.desk_words.specs.Making.{Shortens, Rewrites, Reduces, EnoughToShorten, EnoughToRewrite, EnoughToReduce};
+ghost use Rattle.desk_words.specs.Making.{noAnswer, Shortens, Rewrites, Reduces, EnoughToShorten, EnoughToRewrite, EnoughToReduce};
 
 // The bytes to read of a move list: one more than it may hold.
 pub const MOVES_ROOM: usize = 2 + 3 * 4096 + 1;
@@ -19,15 +19,27 @@ pub struct Made {
     pub file: [u8; braid::MAX_BYTES],
 }
 
-// The answer alone, and nothing to write.
-fn bare(read: bool, answer: u8) -> Made
-    ensures { λ r. ⌜ (r .read ≡ read) × (r .answer ≡ answer) × (r .bytes ≡ 0) × (r .file ≡ replicate 5002 0) ⌝ }
-{
-    Made {
-        read,
-        answer,
-        bytes: 0,
-        file: [0; braid::MAX_BYTES],
+impl Made {
+    // What stands for the answer where a file could not be read: no answer of the papers.
+    pub const NO_ANSWER: u8 = 255;
+
+    // The answer alone, and nothing to write.
+    fn bare(read: bool, answer: u8) -> Made
+        ensures { λ r. ⌜ (r .read ≡ read) × (r .answer ≡ answer) × (r .bytes ≡ 0) × (r .file ≡ replicate 5002 0) ⌝ }
+    {
+        Made {
+            read,
+            answer,
+            bytes: 0,
+            file: [0; braid::MAX_BYTES],
+        }
+    }
+
+    // A file could not be read: no answer.
+    fn unread() -> Made
+        ensures { λ r. ⌜ (r .read ≡ false) × (r .answer ≡ noAnswer) × (r .bytes ≡ 0) × (r .file ≡ replicate 5002 0) ⌝ }
+    {
+        Made::bare(false, Made::NO_ANSWER)
     }
 }
 
@@ -70,14 +82,14 @@ fn shortened(key: &[u8], digest: &[u8], word: &[u8]) -> Made
 {
     let answer = verify::verify(key, digest, word);
     if answer != 0 {
-        return bare(true, answer);
+        return Made::bare(true, answer);
     }
     let made = reduced(word);
     let file = made.file;
     let bytes = made.bytes;
     let again = verify::verify(key, digest, &file[..bytes]);
     if again != 0 {
-        return bare(true, again);
+        return Made::bare(true, again);
     }
     made
 }
@@ -97,11 +109,11 @@ pub fn shorten(
     let k_n = k.bytes;
     let d_n = d.bytes;
     let w_n = w.bytes;
-    let k_read = desk_line::part(key, 0, k_n);
-    let d_read = desk_line::part(digest, 0, d_n);
-    let w_read = desk_line::part(word, 0, w_n);
+    let k_read = text::part(key, 0, k_n);
+    let d_read = text::part(digest, 0, d_n);
+    let w_read = text::part(word, 0, w_n);
     if !desk_line::all_read(k, d, w) {
-        return bare(false, 0);
+        return Made::unread();
     }
     shortened(k_read, d_read, w_read)
 }
@@ -113,10 +125,10 @@ pub fn rewrite(word: &[u8; desk_line::WORD_ROOM], moves: &[u8; MOVES_ROOM], w: G
 {
     let w_n = w.bytes;
     let m_n = m.bytes;
-    let w_read = desk_line::part(word, 0, w_n);
-    let m_read = desk_line::part(moves, 0, m_n);
+    let w_read = text::part(word, 0, w_n);
+    let m_read = text::part(moves, 0, m_n);
     if !desk_line::both(w.read, m.read) {
-        return bare(false, 0);
+        return Made::unread();
     }
     rewritten(w_read, m_read)
 }
@@ -127,9 +139,9 @@ pub fn reduce(word: &[u8; desk_line::WORD_ROOM], w: Got) -> Made
     ensures { λ _. ⌜ EnoughToReduce (length (now (word .entry))) ⌝ }
 {
     let w_n = w.bytes;
-    let w_read = desk_line::part(word, 0, w_n);
+    let w_read = text::part(word, 0, w_n);
     if !w.read {
-        return bare(false, 0);
+        return Made::unread();
     }
     reduced(w_read)
 }

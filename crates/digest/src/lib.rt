@@ -87,16 +87,10 @@ pub fn encode(digest: &[u8], out: &mut [u8]) -> Written
     ensures { λ r. ⌜ WroteEncoded (now (digest .entry)) (now (out .entry)) (now (out .exit)) (r .answer) (r .bytes) ⌝ }
 {
     if out.len() < braid::MAX_BYTES {
-        return Written {
-            answer: 15,
-            bytes: 0,
-        };
+        return Written::refused(15);
     }
     if !is_either(digest) {
-        return Written {
-            answer: 8,
-            bytes: 0,
-        };
+        return Written::refused(8);
     }
     let mut codes = [0u8; 2560];
     let n = encode_into(digest, &mut codes);

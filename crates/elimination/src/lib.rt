@@ -66,7 +66,10 @@ fn sweep_row(m: &mut [u8; 64], table: &[u16], row: &[usize; 8], q: u8, i: usize,
         × (i < n)
         × (n < 8)
         ⌝ }
-    ensures { λ _. ⌜ RowGained (operations f) (gain (operations f) q n (now (m .entry)) i) i n (now (m .entry)) (now (m .exit)) ⌝ }
+    ensures { λ _.
+        ⌜
+        RowGained (operations f) (gain (operations f) q n (now (m .entry)) i) i n (now (m .entry)) (now (m .exit))
+        ⌝ }
 {
     let x = m[place(i, n)];
     let factor = times(q, x, table, f);
@@ -80,7 +83,7 @@ fn sweep_row(m: &mut [u8; 64], table: &[u16], row: &[usize; 8], q: u8, i: usize,
     }
 }
 
-// So do all rows before row n.
+// Each row before row n gains q times its entry of column n times row n, in the columns before n.
 fn sweep(m: &mut [u8; 64], table: &[u16], row: &[usize; 8], q: u8, n: usize, f: Field)
     requires { ⌜
         (length (now m) ≡ 64)
@@ -108,7 +111,8 @@ fn clear(m: &mut [u8; 64], table: &[u16], inverses: &[u8], n: usize, f: Field) -
     ensures { λ r.
         ⌜
         (length (now (m .exit)) ≡ 64)
-        × (invertible (operations f) (n + 1) (entry (now (m .entry))) ≡ r && invertible (operations f) n (entry (now (m .exit))))
+        × (invertible (operations f) (n + 1) (entry (now (m .entry)))
+        ≡ r && invertible (operations f) n (entry (now (m .exit))))
         ⌝ }
 {
     let p = pivot_row(m, n);
@@ -156,8 +160,8 @@ fn both_eliminated(
     eliminated(second, table, inverses, f)
 }
 
-// Has each of two matrices an inverse? The tables are copied once for both. Of a number past the field's size products
-// and reciprocals read the low bits, sums and the test for zero all.
+// Has each of two matrices an inverse? The tables are copied once for both. For entries that are not field elements,
+// products and reciprocals use only the low bits; sums and the test for zero use the whole byte.
 pub fn both_invertible(first: [u8; 64], second: [u8; 64], f: Field) -> bool
     ensures { λ r. ⌜ r ≡ (invertible (operations f) 8 (entry first) && invertible (operations f) 8 (entry second)) ⌝ }
 {

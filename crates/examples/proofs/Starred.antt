@@ -4,9 +4,10 @@ use mathlib.Core.Path.{_≡_, refl, _∙_}
 use mathlib.Core.Bool.{Bool, true, false, cond, _||_}
 use mathlib.Core.List.{List, [], _∷_}
 use lib.Dec.{eqb}
-use Rattle.base.specs.Lists.{valuesFrom, values, every, count, equal, eachOnce}
+use Rattle.base.specs.Lists.{valuesFrom, values, every, equal, eachOnce, tally}
 use Rattle.base.specs.Questions.{firstNo, granted}
 use Rattle.base.specs.Digits.{value, digits, halves}
+use Rattle.base.specs.Packing.{packedRow, unpackedRow, rowFiller}
 use Rattle.field.specs.Polynomial.{timesX, horner, times, first, reciprocalOf}
 use Rattle.field.specs.Gf32.{gf32}
 use Rattle.field.specs.Fields.{operations}
@@ -16,7 +17,7 @@ use Rattle.matrix.specs.Layout.{place, rowOf, columnOf, entry, matrixOf}
 use Rattle.matrix.specs.Product.{identity}
 use Rattle.braid.specs.Strands.{swapped}
 use Rattle.action.specs.Action.{wordOn, letterOn, shareOf, tValue, rowAfter, start}
-use Rattle.key.specs.Keys.{keyField, keyAnswer, keyFile, keyOf, tValues, packedMatrix, entries, fillerBits, labels, wholeMatrix}
+use Rattle.key.specs.Keys.{keyField, keyAnswer, keyFile, keyOf, tValues, labels, wholeMatrix}
 use Rattle.digest.specs.Digest.{halfByteBraid}
 use Rattle.rewriting.specs.Kinds.{move}
 use Rattle.rewriting.specs.Rewriting.{moveQuestions, wordAfter, rewritten, rewriterQuestions}
@@ -67,17 +68,17 @@ pub record StarredSlips : Type 0 where
 
 -- the plain key is accepted: the identity is its own inverse
 plain-accepted : keyAnswer plainKey ≡ 0
-unfolding keyField firstNo valuesFrom every count eachOnce value digits tValues packedMatrix entries fillerBits labels wholeMatrix matrixOf rowOf columnOf identity keyFile
+unfolding keyField firstNo valuesFrom every tally eachOnce value digits tValues packedRow unpackedRow rowFiller labels wholeMatrix matrixOf rowOf columnOf identity keyFile
 plain-accepted = accepted-with plainKey refl (identity-has Gf32) (identity-has Gf32)
 
 -- cloaking under it for the list 0 to 7
 cloaking : (word : List ℕ) {yes : Bool} → wordAnswer word ≡ 0 → yes ≡ comesBack (operations (keyField plainKey)) (keyOf plainKey .«t_values») plainOrder (codes word)
     → Cloaks plainKey plainOrder word 0 yes
-unfolding every count eachOnce valuesFrom
+unfolding every tally eachOnce valuesFrom
 cloaking word w e = answered plainKey plainOrder word (past-list plainKey plainOrder word plain-accepted refl ∙ w) e
 
 pub starred : StarredSlips
-unfolding valuesFrom every count equal eachOnce firstNo granted value digits halves timesX horner times first reciprocalOf wordFile packed codes wordAnswer place rowOf columnOf entry matrixOf wordOn letterOn shareOf tValue rowAfter swapped start identity halfByteBraid comesBack samePair keyField keyFile keyOf tValues packedMatrix entries fillerBits labels wholeMatrix filler move moveQuestions wordAfter
+unfolding valuesFrom every tally equal eachOnce firstNo granted value digits halves timesX horner times first reciprocalOf wordFile packed codes wordAnswer place rowOf columnOf entry matrixOf wordOn letterOn shareOf tValue rowAfter swapped start identity halfByteBraid comesBack samePair keyField keyFile keyOf tValues packedRow unpackedRow rowFiller labels wholeMatrix filler move moveQuestions wordAfter
 starred =
     record {
       product-16-2 = refl;

@@ -1,9 +1,11 @@
--- The polynomials over two elements, reduced by one of degree n, are a binary field if every element but 0 has a
--- reciprocal: the record of laws asks nothing else of them, whatever the degree. That each has one is computed, at all
--- of them: for GF(32) and GF(256), and for the field of four elements as well.
+-- The polynomials over two elements, reduced by one of degree n, are a binary field if each element but 0 has a
+-- reciprocal: the record of laws asks nothing else of them, whatever the degree. That each has one is computed, by one
+-- product for each element: for GF(32) and GF(256), and for two fields that the library does not use, of four and of
+-- sixteen elements.
 use Prim.Native.Nat.{ℕ, zero, suc, _%_, _^_, _≤_, _<_}
 use mathlib.Core.Path.{_≡_, refl, sym, ap, _∙_}
 use mathlib.Core.Bool.{true, false}
+use mathlib.Core.List.{List}
 use native.Mathlib.Nat.{not-suc-le-zero, le-of-suc-le-suc, mod-lt}
 use native.Mathlib.Omega.{arith}
 use lib.Dec.{eqb, lit<, lit≤}
@@ -13,7 +15,7 @@ use lib.Bits.{xor-comm, xor-self, xor-lt}
 use Rattle.base.specs.Lists.{values, valuesFrom}
 use Rattle.base.proofs.ListLaws.{getD-values}
 use Rattle.field.specs.Binary.{BinaryField}
-use Rattle.field.specs.Polynomial.{Degree, timesX, horner, times, reciprocalOf, polynomials}
+use Rattle.field.specs.Polynomial.{Degree, timesX, horner, times, first, reciprocalOf, polynomials}
 use Rattle.field.specs.Fields.{bits, modulus, operations, fieldOf, isLarge}
 use Rattle.field.specs.declared.Field.{Field}
 use Rattle.field.specs.declared.Field.the-variants.{Gf32, Gf256}
@@ -21,26 +23,18 @@ use Rattle.field.proofs.Xor.{xor-assoc}
 use Rattle.field.proofs.Laws.{times-below, times-comm, times-assoc, times-sum, one-times}
 use Rattle.field.proofs.ReciprocalLaws.{reciprocal-below, times-reciprocal}
 
--- where x^j takes a to 1, for a j below k, x^j times b
-pub towards : ℕ → ℕ → ℕ → ℕ → ℕ → ℕ
-towards n p zero a b = 0
-towards n p (suc k) a b = elim (eqb a 1) [ true ↦ b | false ↦ towards n p k (timesX n p a) (timesX n p b) ]
+-- a number has a reciprocal: an element whose product with it is 1
+pub record HasReciprocal (n p a : ℕ) : Type 0 where
+  pub element : ℕ
+  pub below : element < 2 ^ n
+  pub product-one : times n p a element ≡ 1
 
--- the product of each of 1 to m and the power of x that takes it to 1 is 1
-abbrev pub AllOne : ℕ → ℕ → ℕ → Type 0
-AllOne n p m = values (λ k. times n p (suc k) (towards n p m (suc k) 1 % 2 ^ n)) m ≡ values (λ k. 1) m
+-- each element but 0 has one
+abbrev pub AllReciprocals : ℕ → ℕ → Type 0
+AllReciprocals n p = (a : ℕ) → 0 < a → a < 2 ^ n → HasReciprocal n p a
 
-one-at : (n p m : ℕ) → AllOne n p m → (a : ℕ) → 0 < a → a < suc m → times n p a (reciprocalOf n p a) ≡ 1
-one-at n p m all zero pos below = absurd (not-suc-le-zero pos)
-one-at n p m all (suc k) pos below =
-    let h = le-of-suc-le-suc below in
-    let b = towards n p m (suc k) 1 % 2 ^ n in
-    times-reciprocal n p (suc k) b (mod-lt (towards n p m (suc k) 1) (pow-pos n))
-    (sym (getD-values (λ k. times n p (suc k) (towards n p m (suc k) 1 % 2 ^ n)) m k h) ∙ ap (λ l. getD l k 0) all
-    ∙ getD-values (λ k. 1) m k h)
-
-pub polynomials-field : {n p m : ℕ} → Degree n p → 2 ^ n ≡ suc m → AllOne n p m → BinaryField (polynomials n p)
-polynomials-field {n} {p} {m} degree e all =
+pub polynomials-field : {n p : ℕ} → Degree n p → AllReciprocals n p → BinaryField (polynomials n p)
+polynomials-field {n} {p} degree all =
     record {
       zero-below = pow-pos n;
       one-below = pow-lt (degree .positive);
@@ -55,8 +49,45 @@ polynomials-field {n} {p} {m} degree e all =
       mul-assoc = times-assoc degree;
       mul-add = times-sum degree;
       one-mul = λ {a} h. one-times degree a h;
-      mul-inv = λ {a} pos below. one-at n p m all a pos (rw (sym e) below);
+      mul-inv = λ {a} pos below.
+          (let r = all a pos below in times-reciprocal n p a (r .element) (r .below) (r .product-one));
     }
+
+-- ---- how to show that each has one
+
+-- the products of 1 to m, each with the number that g names for it
+abbrev named-products : ℕ → ℕ → ℕ → (ℕ → ℕ) → List ℕ
+named-products n p m g = values (λ k. times n p (suc k) (g (suc k) % 2 ^ n)) m
+
+-- 1 to m are the elements but 0, and all these products are 1
+pub all-one : (n p m : ℕ) (g : ℕ → ℕ) → 2 ^ n ≡ suc m → named-products n p m g ≡ values (λ k. 1) m → AllReciprocals n p
+all-one n p m g e all zero pos below = absurd (not-suc-le-zero pos)
+all-one n p m g e all (suc k) pos below =
+    let h : k < m = le-of-suc-le-suc (rw (sym e) below) in
+    record {
+      element = g (suc k) % 2 ^ n;
+      below = mod-lt (g (suc k)) (pow-pos n);
+      product-one =
+          sym (getD-values (λ k. times n p (suc k) (g (suc k) % 2 ^ n)) m k h)
+          ∙ ap (λ l. getD l k 0) all
+          ∙ getD-values (λ k. 1) m k h;
+    }
+
+-- where x^j takes a to 1, for a j below k, x^j times b
+pub towards : ℕ → ℕ → ℕ → ℕ → ℕ → ℕ
+towards n p zero a b = 0
+towards n p (suc k) a b = elim (eqb a 1) [ true ↦ b | false ↦ towards n p k (timesX n p a) (timesX n p b) ]
+
+-- the power of x that takes a to 1; 0 if there is none
+abbrev powerTo1 : ℕ → ℕ → ℕ → ℕ
+powerTo1 n p a = towards n p (2 ^ n) a 1
+
+-- where x is a generator, each element but 0 has such a power
+pub by-powers : (n p m : ℕ) → 2 ^ n ≡ suc m → named-products n p m (powerTo1 n p) ≡ values (λ k. 1) m
+    → AllReciprocals n p
+by-powers n p m = all-one n p m (powerTo1 n p)
+
+-- ---- the two fields of the library
 
 -- the degrees
 pub degree : (f : Field) → Degree (bits f) (modulus f)
@@ -73,11 +104,11 @@ byte f a h = let b : 2 ^ bits f ≤ 2 ^ 8 = pow-mono (narrow f) in omega arith
 
 gf32-field : BinaryField (operations Gf32)
 unfolding valuesFrom timesX horner times towards
-gf32-field = polynomials-field {m = 31} (degree Gf32) refl refl
+gf32-field = polynomials-field (degree Gf32) (by-powers 5 (modulus Gf32) 31 refl refl)
 
 gf256-field : BinaryField (operations Gf256)
 unfolding valuesFrom timesX horner times towards
-gf256-field = polynomials-field {m = 255} (degree Gf256) refl refl
+gf256-field = polynomials-field (degree Gf256) (by-powers 8 (modulus Gf256) 255 refl refl)
 
 -- a field by its name
 pub named : (f : Field) → fieldOf (isLarge f) ≡ f
@@ -89,7 +120,17 @@ pub binary : (f : Field) → BinaryField (operations f)
 binary Gf32 = gf32-field
 binary Gf256 = gf256-field
 
+-- ---- two that it does not use
+
 -- the field of four elements: x^2 + x + 1
 pub gf4-field : BinaryField (polynomials 2 0b111)
 unfolding valuesFrom timesX horner times towards
-gf4-field = polynomials-field {m = 3} (record { positive = lit< tt; from = lit≤ tt; to = lit< tt }) refl refl
+gf4-field =
+    polynomials-field (record { positive = lit< tt; from = lit≤ tt; to = lit< tt }) (by-powers 2 0b111 3 refl refl)
+
+-- a field of sixteen elements: x^4 + x^3 + x^2 + x + 1, by which x^5 = 1, so that x is no generator
+pub gf16-field : BinaryField (polynomials 4 0b11111)
+unfolding valuesFrom timesX horner times first reciprocalOf
+gf16-field =
+    polynomials-field (record { positive = lit< tt; from = lit≤ tt; to = lit< tt })
+    (all-one 4 0b11111 15 (reciprocalOf 4 0b11111) refl refl)

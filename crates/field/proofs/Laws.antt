@@ -72,7 +72,8 @@ module _ {n p : ℕ} (degree : Degree n p) where
   unfolding timesX
   step-is a h = go (ltb (a * 2) (2 ^ n)) refl
     where
-      go : (t : Bool) → ltb (a * 2) (2 ^ n) ≡ t → cond t (a * 2) (bitXor (a * 2) p) ≡ bitXor (a * 2) (pick (a * 2 / 2 ^ n) p)
+      go : (t : Bool) → ltb (a * 2) (2 ^ n) ≡ t
+          → cond t (a * 2) (bitXor (a * 2) p) ≡ bitXor (a * 2) (pick (a * 2 / 2 ^ n) p)
       go true e = rw (low-top (a * 2) (ltb-true (a * 2) (2 ^ n) e), xor-zero-r (a * 2))
       go false e = rw (high-top (a * 2) (ltb-false (a * 2) (2 ^ n) e) (omega arith))
 
@@ -81,7 +82,9 @@ module _ {n p : ℕ} (degree : Degree n p) where
       let t = a * 2 / 2 ^ n in
       let e : timesX n p a / 2 ^ n ≡ 0 =
       ap (λ (x : ℕ). x / 2 ^ n) (step-is a h) ∙ xor-shr (a * 2) (pick t p) n
-      ∙ ap (bitXor t) (pick-map (λ (x : ℕ). x / 2 ^ n) (low-top 0 (pow-pos n)) t p ∙ ap (pick t) (high-top p (degree .from) (degree .to)))
+      ∙ ap (bitXor t)
+      (pick-map (λ (x : ℕ). x / 2 ^ n) (low-top 0 (pow-pos n)) t p
+      ∙ ap (pick t) (high-top p (degree .from) (degree .to)))
       ∙ by-digit (λ (x : ℕ). bitXor x (pick x 1) ≡ 0) refl refl t (top-below (a * 2) (omega arith)) in
       let b : timesX n p a < 1 * 2 ^ n = div-lt-iff-lt-mul (pow-pos n) .0 (omega arith) in
       omega arith
@@ -102,22 +105,25 @@ module _ {n p : ℕ} (degree : Degree n p) where
 
   -- where the degree stays below n, the step doubles
   step-double : (a : ℕ) → a * 2 < 2 ^ n → timesX n p a ≡ a * 2
-  step-double a h = step-is a (omega arith) ∙ ap (λ (x : ℕ). bitXor (a * 2) (pick x p)) (low-top (a * 2) h) ∙ xor-zero-r (a * 2)
+  step-double a h =
+      step-is a (omega arith) ∙ ap (λ (x : ℕ). bitXor (a * 2) (pick x p)) (low-top (a * 2) h) ∙ xor-zero-r (a * 2)
 
   -- ---- Horner's rule over the k low bits of b
 
-  pub horner-below : (a k b : ℕ) → horner n p a k b < 2 ^ n
+  horner-below : (a k b : ℕ) → horner n p a k b < 2 ^ n
   unfolding horner
   horner-below a zero b = pow-pos n
   horner-below a (suc k) b =
-      xor-lt n (timesX n p (horner n p a k (b / 2))) (pick (b % 2) (a % 2 ^ n)) (step-below (horner n p a k (b / 2)) (horner-below a k (b / 2)))
+      xor-lt n (timesX n p (horner n p a k (b / 2))) (pick (b % 2) (a % 2 ^ n))
+      (step-below (horner n p a k (b / 2)) (horner-below a k (b / 2)))
       (pick-below (b % 2) (a % 2 ^ n) (2 ^ n) (pow-pos n) (mod-lt a (pow-pos n)))
 
   -- only the n low bits of a count
   horner-low : (a k b : ℕ) → horner n p (a % 2 ^ n) k b ≡ horner n p a k b
   unfolding horner
   horner-low a zero b = refl
-  horner-low a (suc k) b = ap₂ (λ (x y : ℕ). bitXor (timesX n p x) (pick (b % 2) y)) (horner-low a k (b / 2)) (mod-mod a (2 ^ n))
+  horner-low a (suc k) b =
+      ap₂ (λ (x y : ℕ). bitXor (timesX n p x) (pick (b % 2) y)) (horner-low a k (b / 2)) (mod-mod a (2 ^ n))
 
   horner-sum : (a c k b : ℕ) → horner n p (bitXor a c) k b ≡ bitXor (horner n p a k b) (horner n p c k b)
   unfolding horner
@@ -141,7 +147,8 @@ module _ {n p : ℕ} (degree : Degree n p) where
       let u = horner n p a k (b / 2) in
       let t = b % 2 in
       ap₂ bitXor (ap (timesX n p) (horner-step a k (b / 2) h))
-      (ap (pick t) (mod-eq-of-lt (step-below a h) ∙ ap (timesX n p) (sym (mod-eq-of-lt h))) ∙ sym (pick-map (timesX n p) step-zero t (a % 2 ^ n)))
+      (ap (pick t) (mod-eq-of-lt (step-below a h) ∙ ap (timesX n p) (sym (mod-eq-of-lt h)))
+      ∙ sym (pick-map (timesX n p) step-zero t (a % 2 ^ n)))
       ∙ sym (step-sum (timesX n p u) (pick t (a % 2 ^ n)) (step-below u (horner-below a k (b / 2)))
       (pick-below t (a % 2 ^ n) (2 ^ n) (pow-pos n) (mod-lt a (pow-pos n))))
 
@@ -173,7 +180,8 @@ module _ {n p : ℕ} (degree : Degree n p) where
       let m : 2 ^ suc k ≤ 2 ^ n = pow-mono h in
       let o : 1 < 2 ^ n = one-below-size in
       ap₂ (λ (u v : ℕ). bitXor (timesX n p u) (pick (b % 2) v)) (horner-one k (b / 2) (omega arith)) (mod-eq-of-lt o)
-      ∙ ap₂ bitXor (step-double y (omega arith)) (by-digit (λ (x : ℕ). pick x 1 ≡ x) refl refl (b % 2) (mod-lt b two-pos))
+      ∙ ap₂ bitXor (step-double y (omega arith))
+      (by-digit (λ (x : ℕ). pick x 1 ≡ x) refl refl (b % 2) (mod-lt b two-pos))
       ∙ xor-shifted y 1 (b % 2) (mod-lt b two-pos)
       ∙ sym (mod-mul b (pow-pos k) two-pos)
       ∙ ap (λ (x : ℕ). b % x) (sym (pow-suc 2 k))

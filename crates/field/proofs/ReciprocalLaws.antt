@@ -32,10 +32,11 @@ choice-below true i r m h k = h
 choice-below false i r m h k = k
 
 -- the search stays below a bound of all its numbers
-pub first-below : (f : ℕ → Bool) (i k m : ℕ) → 0 < m → i + k ≤ m → first f i k < m
+first-below : (f : ℕ → Bool) (i k m : ℕ) → 0 < m → i + k ≤ m → first f i k < m
 unfolding first
 first-below f i zero m p h = p
-first-below f i (suc k) m p h = choice-below (f i) i (first f (suc i) k) m (omega arith) (first-below f (suc i) k m p (omega arith))
+first-below f i (suc k) m p h =
+    choice-below (f i) i (first f (suc i) k) m (omega arith) (first-below f (suc i) k m p (omega arith))
 
 pub reciprocal-below : (n p a : ℕ) → reciprocalOf n p a < 2 ^ n
 unfolding reciprocalOf

@@ -18,7 +18,8 @@ digit-below t v m h b =
 
 module _ {n p : ℕ} (degree : Degree n p) where
   pub step-by : (a : ℕ) → a < 2 ^ n → timesX n p a ≡ bitXor (a * 2) (a * 2 / 2 ^ n * p)
-  step-by a h = step-is degree a h ∙ ap (bitXor (a * 2)) (digit-times (a * 2 / 2 ^ n) p (top-below degree (a * 2) (omega arith)))
+  step-by a h =
+      step-is degree a h ∙ ap (bitXor (a * 2)) (digit-times (a * 2 / 2 ^ n) p (top-below degree (a * 2) (omega arith)))
 
   -- a turn: what is added to the total, and what the rest multiplies
   pub turn : (total t k b : ℕ) → t < 2 ^ n
@@ -27,4 +28,6 @@ module _ {n p : ℕ} (degree : Degree n p) where
       let u = b % 2 * t in
       let v = horner n p (timesX n p t) k (b / 2) in
       xor-assoc total u v
-      ∙ ap (bitXor total) (xor-comm u v ∙ sym (horner-first degree t k b h ∙ ap (bitXor v) (digit-times (b % 2) t (mod-lt b (omega arith)))))
+      ∙ ap (bitXor total)
+      (xor-comm u v
+      ∙ sym (horner-first degree t k b h ∙ ap (bitXor v) (digit-times (b % 2) t (mod-lt b (omega arith)))))

@@ -35,7 +35,7 @@ pub mul-low : (a b : ℕ) → gf32 .mul a b ≡ gf32 .mul (a % 32) (b % 32)
 mul-low = times-low-both (degree Gf32)
 
 -- is entry a - 1 an element whose product with a is 1?
-abbrev pub oneAt : ℕ → ℕ → List ℕ → ℕ → Bool
+abbrev oneAt : ℕ → ℕ → List ℕ → ℕ → Bool
 oneAt n p l k = ltb (getD l k 0) (2 ^ n) && eqb (times n p (suc k) (getD l k 0)) 1
 
 -- the table, tested at every entry
@@ -52,7 +52,8 @@ table-of {n} {p} d l size all =
 -- a table has an entry for each element but zero
 pub reciprocals-size : (n p : ℕ) (table : List ℕ) → table ≡ reciprocals n p → suc (length table) ≡ 2 ^ n
 reciprocals-size n p table e =
-    ap (λ (l : List ℕ). suc (length l)) e ∙ ap suc (length-values (λ k. reciprocalOf n p (suc k)) 0 (2 ^ n - 1)) ∙ suc-ones n
+    ap (λ (l : List ℕ). suc (length l)) e ∙ ap suc (length-values (λ k. reciprocalOf n p (suc k)) 0 (2 ^ n - 1))
+    ∙ suc-ones n
 
 module _ {n p : ℕ} (d : Degree n p) where
   -- the reciprocal reads the n low bits of its operand
@@ -69,7 +70,8 @@ module _ {n p : ℕ} (d : Degree n p) where
   -- read from the table
   pub inverse-at : (table : List ℕ) → table ≡ reciprocals n p → (a : ℕ) → lookedUp table a ≡ reciprocalOf n p a
   inverse-at table e a =
-      ap₂ (λ (l : List ℕ) (m : ℕ). getD (0 ∷ l) (a % m) 0) e (reciprocals-size n p table e) ∙ at-low (a % 2 ^ n) (mod-lt a (pow-pos n)) ∙ inv-low a
+      ap₂ (λ (l : List ℕ) (m : ℕ). getD (0 ∷ l) (a % m) 0) e (reciprocals-size n p table e)
+      ∙ at-low (a % 2 ^ n) (mod-lt a (pow-pos n)) ∙ inv-low a
 
 -- the entry before a number's remainder
 module _ (table : List ℕ) (a : ℕ) where
@@ -85,7 +87,8 @@ module _ (table : List ℕ) (a : ℕ) where
       before (suc k) z = let e : suc k - 1 ≡ k = omega arith in ap (λ (m : ℕ). getD table m 0) e
 
 -- what is lent of each field
-pub lent : (f : Field) (table : List ℕ) → table ≡ reciprocals (bits f) (modulus f) → LentField (bits f) (modulus f) table
+pub lent : (f : Field) (table : List ℕ) → table ≡ reciprocals (bits f) (modulus f)
+    → LentField (bits f) (modulus f) table
 lent f table e = record { degree = degree f; narrow = narrow f; reciprocals-are = e }
 
 -- at most 255 reciprocals

@@ -1,7 +1,8 @@
 -- Laws of the sum of polynomials, `bitXor`: it is associative, and doubling passes through it.
 use Prim.Native.Nat.{ℕ, zero, suc, _+_, _*_, _/_, _%_, _<_}
 use mathlib.Core.Path.{_≡_, refl, sym, ap, ap₂, _∙_}
-use native.Mathlib.Nat.{le-refl, mod-lt, zero-lt-suc, le-of-suc-le-suc, not-suc-le-zero, mul-div-cancel, mul-mod-left, add-zero}
+use native.Mathlib.Nat.{le-refl, mod-lt, zero-lt-suc, le-of-suc-le-suc, not-suc-le-zero, mul-div-cancel, mul-mod-left}
+use native.Mathlib.Nat.{add-zero}
 use lib.Arith.{bin-ind, digits-mod}
 use lib.Bits.{bitXor, differ, xor-step, xor-comm, xor-shr}
 

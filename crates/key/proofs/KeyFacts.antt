@@ -1,18 +1,20 @@
 -- What is known of a key file: its T-values, labels and matrices have their sizes and bounds whatever the bytes, and
 -- answer 0 says what each question asks. All over either field.
-use Prim.Native.Nat.{ℕ, _+_, _*_, _/_, _^_, _≤_, _<_}
-use mathlib.Core.Path.{_≡_, refl, ap, _∙_}
+use Prim.Native.Nat.{ℕ, _+_, _*_, _^_, _≤_, _<_}
+use mathlib.Core.Path.{_≡_, refl, sym, ap, _∙_}
 use mathlib.Core.Bool.{true, _&&_}
 use mathlib.Core.List.{List, _++_}
-use native.Mathlib.Omega.{arith}
 use borrow.Author.Tests.{leb-true, eqb-true, eq-eqb}
 use lib.Dec.{eqb}
+use lib.Pow.{pow-pos}
 use lib.ListN.{length, take, drop, getD, replicate}
 use Rattle.base.specs.Questions.{firstNo}
-use Rattle.base.specs.Digits.{value, part}
-use Rattle.base.proofs.QuestionLaws.{passed-answers, answers-passed}
+use Rattle.base.specs.Packing.{Below}
+use Rattle.base.specs.Files.{filePart}
+use Rattle.base.proofs.QuestionLaws.{passed-answers, answers-passed, granted-zero, granted-refused}
 use Rattle.base.proofs.ListLaws.{and-left, and-right, and-both}
-use Rattle.base.proofs.DigitLaws.{take-below, drop-below, append-below, length-digits, digits-below, all-below, below-all}
+use Rattle.base.proofs.DigitLaws.{take-below, drop-below, append-below, all-below, below-all}
+use Rattle.base.proofs.RowLaws.{length-unpacked, unpacked-below}
 use Rattle.braid.specs.Strands.{isOrder}
 use Rattle.field.specs.Fields.{bits, operations, keyBytes}
 use Rattle.field.specs.declared.Field.{Field}
@@ -21,61 +23,56 @@ use Rattle.action.specs.Good.{TValues, GoodPair}
 use Rattle.action.proofs.GoodLaws.{tested-values, order-below}
 use Rattle.matrix.specs.Layout.{Matrix}
 use Rattle.matrix.proofs.LayoutLaws.{matrixOf-good}
-use Rattle.key.specs.Keys.{statedStrands, fieldSize, keyField, tValues, listPlace, labels, fillers, entries, fillerBits, firstBytes, secondBytes, wholeMatrix, startsWithOnes, bothInvertible, keyQuestionsOver, keyAnswer, keyOf, keyWriterQuestions}
-use Rattle.key.specs.Parts.{Width, Parts}
-use Rattle.base.specs.Packing.{Below}
+use Rattle.key.specs.declared.Key.{Key}
+use Rattle.key.specs.Keys.{statedStrands, fieldSize, keyField, keySizes, tValues, labels, entries, filler, firstBytes, secondBytes, wholeMatrix, startsWithOnes, bothInvertible, keyQuestionsOver, keyAnswer, keyOf, zeroKey, ReadsKey, keyWriterQuestions}
+use Rattle.key.specs.Parts.{Parts}
 use Rattle.key.proofs.EntryLaws.{getD-zeros}
-use Rattle.key.proofs.Widths.{width, eitherLength, length-passes, own-length, field-of-length}
+use Rattle.key.proofs.Widths.{eitherLength, length-passes, own-length, field-of-length}
 
 -- ---- whatever the bytes
-
-pub entries-size : (b : ℕ) (bytes : List ℕ) → length (entries b bytes) ≡ 57
-unfolding entries
-entries-size b bytes = length-digits (2 ^ b) 57 (value 256 bytes / fillers b)
 
 below-zeros : (b n : ℕ) → 0 < b → Below b (replicate n 0)
 below-zeros b n p k = rw (getD-zeros n k) p
 
-module _ (b : ℕ) (w : Width b) where
-  t-values-size : (file : List ℕ) → length (tValues b file) ≡ 8
+module _ (b : ℕ) (file : List ℕ) where
+  t-values-size : length (tValues b file) ≡ 8
   unfolding tValues
-  t-values-size file = length-digits (2 ^ b) 8 (value 256 (part 3 b file))
+  t-values-size = length-unpacked b 8 (filePart (keySizes b) 2 file)
 
-  t-values-below : (file : List ℕ) → Below (2 ^ b) (tValues b file)
+  t-values-below : Below (2 ^ b) (tValues b file)
   unfolding tValues
-  t-values-below file = digits-below (2 ^ b) 8 (value 256 (part 3 b file)) (w .positive)
+  t-values-below = unpacked-below b 8 (filePart (keySizes b) 2 file)
 
-  labels-size : (file : List ℕ) → length (labels b file) ≡ 8
+  labels-size : length (labels b file) ≡ 8
   unfolding labels
-  labels-size file = length-digits 8 8 (value 256 (part (listPlace b) 3 file))
+  labels-size = length-unpacked 3 8 (filePart (keySizes b) 4 file)
 
-  labels-below : (file : List ℕ) → Below 8 (labels b file)
+  labels-below : Below 8 (labels b file)
   unfolding labels
-  labels-below file = digits-below 8 8 (value 256 (part (listPlace b) 3 file)) (omega arith)
+  labels-below = unpacked-below 3 8 (filePart (keySizes b) 4 file)
 
-  pub entries-below : (bytes : List ℕ) → Below (2 ^ b) (entries b bytes)
-  unfolding entries
-  entries-below bytes = digits-below (2 ^ b) 57 (value 256 bytes / fillers b) (w .positive)
-
-  -- 64 entries of b bits
-  whole-matrix : (es : List ℕ) → Below (2 ^ b) es → Matrix (2 ^ b) (wholeMatrix es)
-  unfolding wholeMatrix
-  whole-matrix es below =
-      let all = append-below (take 56 es) (replicate 7 0 ++ drop 56 es) (take-below 56 es below)
-      (append-below (replicate 7 0) (drop 56 es) (below-zeros (2 ^ b) 7 (w .positive)) (drop-below 56 es below)) in
-      matrixOf-good (λ r c. getD (take 56 es ++ (replicate 7 0 ++ drop 56 es)) (8 * r + c) 0) (w .positive) (λ r c p q. all (8 * r + c))
+-- 64 entries of b bits
+whole-matrix : (b : ℕ) (es : List ℕ) → Below (2 ^ b) es → Matrix (2 ^ b) (wholeMatrix es)
+unfolding wholeMatrix
+whole-matrix b es below =
+    let all = append-below (take 56 es) (replicate 7 0 ++ drop 56 es) (take-below 56 es below)
+    (append-below (replicate 7 0) (drop 56 es) (below-zeros (2 ^ b) 7 (pow-pos b)) (drop-below 56 es below)) in
+    matrixOf-good (λ r c. getD (take 56 es ++ (replicate 7 0 ++ drop 56 es)) (8 * r + c) 0) (pow-pos b) (λ r c p q. all (8 * r + c))
 
 -- over a field
 module _ (f : Field) where
+  pub entries-good : (es : List ℕ) → elements f es ≡ true → Matrix (operations f .size) (wholeMatrix es)
+  entries-good es e = whole-matrix (bits f) es (all-below (2 ^ bits f) es (pow-pos (bits f)) e)
+
   pub matrix-good : (bytes : List ℕ) → Matrix (operations f .size) (wholeMatrix (entries (bits f) bytes))
-  matrix-good bytes = whole-matrix (bits f) (width f) (entries (bits f) bytes) (entries-below (bits f) (width f) bytes)
+  matrix-good bytes = whole-matrix (bits f) (entries (bits f) bytes) (unpacked-below (bits f) 57 bytes)
 
   -- the same as tests
   pub t-values-elements : (file : List ℕ) → elements f (tValues (bits f) file) ≡ true
-  t-values-elements file = below-all (2 ^ bits f) (tValues (bits f) file) (λ k h. t-values-below (bits f) (width f) file k)
+  t-values-elements file = below-all (2 ^ bits f) (tValues (bits f) file) (λ k h. t-values-below (bits f) file k)
 
   pub entries-elements : (bytes : List ℕ) → elements f (entries (bits f) bytes) ≡ true
-  entries-elements bytes = below-all (2 ^ bits f) (entries (bits f) bytes) (λ k h. entries-below (bits f) (width f) bytes k)
+  entries-elements bytes = below-all (2 ^ bits f) (entries (bits f) bytes) (λ k h. unpacked-below (bits f) 57 bytes k)
 
 -- ---- an accepted key
 
@@ -87,8 +84,8 @@ pub record Accepted (f : Field) (file : List ℕ) : Type 0 where
   pub no-zero : nonzero (tValues (bits f) file) ≡ true
   pub ones : startsWithOnes (tValues (bits f) file) ≡ true
   pub order : isOrder (labels (bits f) file) ≡ true
-  pub first-filler : fillerBits (bits f) (firstBytes (bits f) file) ≡ 0
-  pub second-filler : fillerBits (bits f) (secondBytes (bits f) file) ≡ 0
+  pub first-filler : filler (bits f) (firstBytes (bits f) file) ≡ 0
+  pub second-filler : filler (bits f) (secondBytes (bits f) file) ≡ 0
   pub inverses :
       bothInvertible f (wholeMatrix (entries (bits f) (firstBytes (bits f) file))) (wholeMatrix (entries (bits f) (secondBytes (bits f) file))) ≡ true
 
@@ -96,8 +93,8 @@ accepted-over : (f : Field) (file : List ℕ) → (eitherLength (length file) �
     → Accepted f file
 accepted-over f file l e =
     let p = answers-passed (keyQuestionsOver f file) tt e in
-    let s = fillerBits (bits f) (firstBytes (bits f) file) in
-    let t = fillerBits (bits f) (secondBytes (bits f) file) in
+    let s = filler (bits f) (firstBytes (bits f) file) in
+    let t = filler (bits f) (secondBytes (bits f) file) in
     let q = p .1 .1 .1 .1 .1 .1 .0 in
     record {
       size = l (p .0);
@@ -118,8 +115,8 @@ accepted file e = accepted-over (keyField file) file (own-length file) e
 pub accepted-answers : (f : Field) (file : List ℕ) → Accepted f file → keyAnswer file ≡ 0
 unfolding keyAnswer
 accepted-answers f file a =
-    let s = fillerBits (bits f) (firstBytes (bits f) file) in
-    let t = fillerBits (bits f) (secondBytes (bits f) file) in
+    let s = filler (bits f) (firstBytes (bits f) file) in
+    let t = filler (bits f) (secondBytes (bits f) file) in
     ap (λ (f : Field). firstNo (keyQuestionsOver f file)) (field-of-length f file (a .size))
     ∙ passed-answers (keyQuestionsOver f file) (
       ap (λ (n : ℕ). eitherLength n) (a .size) ∙ length-passes f,
@@ -146,7 +143,7 @@ pub key-values : (file : List ℕ) → keyAnswer file ≡ 0 → TValues (operati
 unfolding keyOf
 key-values file e =
     let f = keyField file in
-    tested-values f (tValues (bits f) file) (t-values-size (bits f) (width f) file) (t-values-elements f file) (accepted file e .no-zero)
+    tested-values f (tValues (bits f) file) (t-values-size (bits f) file) (t-values-elements f file) (accepted file e .no-zero)
 
 pub key-pair : (file : List ℕ) → GoodPair (operations (keyField file)) (keyOf file .pair)
 unfolding keyOf
@@ -156,14 +153,24 @@ key-pair file =
     record {
       entries = m .size;
       entry-below = m .below;
-      strands = labels-size (bits f) (width f) file;
-      label-below = labels-below (bits f) (width f) file;
+      strands = labels-size (bits f) file;
+      label-below = labels-below (bits f) file;
     }
 
 -- the key's own field
 pub key-field : (file : List ℕ) → keyOf file .field ≡ keyField file
 unfolding keyOf
 key-field file = refl
+
+-- ---- what the reader gives
+
+module _ (file : List ℕ) {answer : ℕ} {key : Key} where
+  pub reads-refused : (n : ℕ) → keyAnswer file ≡ n → (n ≡ 0 → ⊥) → (answer ≡ n) × (key ≡ zeroKey) → ReadsKey file answer key
+  reads-refused n e h r =
+      record { answer-is = r .0 ∙ sym e; key-is = r .1 ∙ sym (granted-refused (keyOf file) zeroKey (λ z. h (sym e ∙ z))) }
+
+  pub reads-accepted : keyAnswer file ≡ 0 → answer ≡ 0 → key ≡ keyOf file → ReadsKey file answer key
+  reads-accepted e a k = record { answer-is = a ∙ sym e; key-is = k ∙ sym (granted-zero (keyOf file) zeroKey e) }
 
 -- ---- what the key writer asks
 
@@ -196,8 +203,8 @@ writable f room ts order first second e =
 pub parts : {f : Field} {room : ℕ} {ts order first second : List ℕ} → Writable f room ts order first second → Parts (bits f) ts order first second
 parts {f} {ts = ts} {order} {first} {second} w =
     record {
-      ts-below = all-below (2 ^ bits f) ts (width f .positive) (w .ts-elements);
+      ts-below = all-below (2 ^ bits f) ts (pow-pos (bits f)) (w .ts-elements);
       order-below = order-below order (w .is-order);
-      first-below = all-below (2 ^ bits f) first (width f .positive) (w .first-elements);
-      second-below = all-below (2 ^ bits f) second (width f .positive) (w .second-elements);
+      first-below = all-below (2 ^ bits f) first (pow-pos (bits f)) (w .first-elements);
+      second-below = all-below (2 ^ bits f) second (pow-pos (bits f)) (w .second-elements);
     }

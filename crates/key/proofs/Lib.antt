@@ -1,6 +1,4 @@
 pub mod Widths
-pub mod MatrixLaws
-pub mod BothTests
 pub mod KeyFacts
 pub mod FileLaws
 pub mod EntryLaws

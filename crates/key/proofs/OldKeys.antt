@@ -3,13 +3,15 @@
 use Prim.Native.Nat.{ℕ, _*_, _/_, _%_}
 use mathlib.Core.Path.{_≡_, refl, ap, _∙_}
 use mathlib.Core.Bool.{Bool, true, false, cond, _&&_, _||_}
-use mathlib.Core.List.{List, [], _∷_, _++_}
+use mathlib.Core.List.{List, [], _∷_, _++_, append-nil}
+use native.Mathlib.Nat.{mul-one, div-one}
 use borrow.Author.Tests.{ne-eqb}
 use lib.Dec.{leb, ltb, eqb}
 use lib.ListN.{length, drop}
 use Rattle.base.specs.Questions.{Question, _else_, firstNo}
 use Rattle.base.specs.Lists.{every}
 use Rattle.base.specs.Digits.{value, digits, part}
+use Rattle.base.specs.Packing.{packedRow, unpackedRow, rowFiller}
 use Rattle.field.specs.Fields.{bits}
 use Rattle.field.specs.Gf32.{gf32}
 use Rattle.field.specs.declared.Field.the-variants.{Gf32, Gf256}
@@ -18,7 +20,8 @@ use Rattle.matrix.specs.Elimination.{invertible}
 use Rattle.braid.specs.Strands.{isOrder}
 use Rattle.operands.specs.Operands.{nonzero}
 use Rattle.key.specs.declared.Key.{Key}
-use Rattle.key.specs.Keys.{keyField, statedStrands, fieldSize, tValues, labels, entries, fillerBits, wholeMatrix, startsWithOnes, keyQuestionsOver, keyAnswer, keyHolding, keyParts, keyOf, packedMatrix, keyFile, keyWriterQuestions}
+use Rattle.key.specs.Keys.{keyField, statedStrands, fieldSize, tValues, labels, wholeMatrix, startsWithOnes, keyQuestionsOver, keyAnswer, keyHolding, keyParts, keyOf, keyFile, keyWriterQuestions}
+use Rattle.key.specs.Parts.{Sizes}
 
 -- the parts of a file of 83 bytes
 abbrev oldValues : List ℕ → List ℕ
@@ -58,18 +61,20 @@ asked file t =
     let f = cond t Gf256 Gf32 in firstNo ((eqb (length file) 83 || t else 1) ∷ drop 1 (keyQuestionsOver f file))
 
 pub old-answers : (file : List ℕ) → (length file ≡ 128 → ⊥) → keyAnswer file ≡ firstNo (oldKeyQuestions file)
-unfolding keyAnswer keyField tValues labels entries fillerBits
+unfolding keyAnswer keyField tValues labels unpackedRow rowFiller
 old-answers file h =
     ap (asked file) (ne-eqb (length file) 128 h)
-    ∙ ap (λ (s : Bool). firstNo ((s else 1) ∷ drop 1 (oldKeyQuestions file))) (or-false (eqb (length file) 83))
+    ∙ rw (div-one (value 256 (part 3 5 file)), div-one (value 256 (part 44 3 file)), or-false (eqb (length file) 83))
 
 -- the key that it holds
 abbrev pub oldKey : List ℕ → Key
 oldKey file = keyHolding Gf32 (oldValues file) (oldLabels file) (oldEntries (part 8 36 file)) (oldEntries (part 47 36 file))
 
 pub old-keys : (file : List ℕ) → (length file ≡ 128 → ⊥) → keyOf file ≡ oldKey file
-unfolding keyOf keyField tValues labels entries
-old-keys file h = ap (λ (t : Bool). let f = cond t Gf256 Gf32 in keyParts f (bits f) file) (ne-eqb (length file) 128 h)
+unfolding keyOf keyField tValues labels unpackedRow
+old-keys file h =
+    ap (λ (t : Bool). let f = cond t Gf256 Gf32 in keyParts f (bits f) file) (ne-eqb (length file) 128 h)
+    ∙ rw (div-one (value 256 (part 3 5 file)), div-one (value 256 (part 44 3 file)))
 
 -- ---- the writer
 
@@ -89,8 +94,10 @@ old-writer room ts order first second = refl
 abbrev oldPacked : List ℕ → List ℕ
 oldPacked es = digits 256 36 (value 32 es * 8)
 
-pub old-file : (ts order first second : List ℕ)
+pub old-file : (ts order first second : List ℕ) → Sizes ts order first second
     → keyFile (bits Gf32) ts order first second
     ≡ (8 ∷ 0 ∷ 32 ∷ []) ++ (digits 256 5 (value 32 ts) ++ (oldPacked first ++ (digits 256 3 (value 8 order) ++ oldPacked second)))
-unfolding keyFile packedMatrix digits
-old-file ts order first second = refl
+unfolding keyFile packedRow digits
+old-file ts order first second size =
+    rw (size .ts-size, size .order-size, size .first-size, size .second-size, mul-one (value 32 ts), mul-one (value 8 order))
+    (ap (λ (r : List ℕ). (8 ∷ 0 ∷ 32 ∷ []) ++ (digits 256 5 (value 32 ts) ++ (oldPacked first ++ (digits 256 3 (value 8 order) ++ r)))) (append-nil (oldPacked second)))

@@ -1,91 +1,98 @@
 -- Keys there and back, from bytes to bytes, of what the key writer and the key reader give, over either field: a key
 -- that was written reads back as its field, its T-values, its list and its matrices, and a file that was read is
 -- written back as its own bytes.
-use Prim.Native.Nat.{ℕ, _+_, _^_, _≤_, _<_}
+use Prim.Native.Nat.{ℕ, _+_, _%_, _^_, _≤_, _<_}
 use mathlib.Core.Path.{_≡_, refl, sym, ap, ap₂, _∙_, subst}
-use mathlib.Core.List.{List, _∷_, _++_}
+use mathlib.Core.List.{List, [], _∷_}
+use native.Mathlib.Nat.{mod-one}
 use native.Mathlib.Omega.{arith}
 use borrow.Author.Tests.{le-leb}
 use lib.ListN.{length, take, drop, getD}
 use lib.Seq.{drop-cons}
+use lib.Pow.{pow-mono}
 use Rattle.base.specs.Questions.{Question, firstNo}
 use Rattle.base.specs.Lists.{overlaid}
 use Rattle.base.specs.Digits.{value, digits, part}
+use Rattle.base.specs.Packing.{Below, rowBytes, fillerBits, packedRow, unpackedRow, rowFiller}
+use Rattle.base.specs.Files.{joined, filePart}
 use Rattle.base.proofs.QuestionLaws.{passed-answers, granted-zero}
 use Rattle.base.proofs.ListLaws.{and-both, take-overlaid, drop-overlaid}
 use Rattle.base.proofs.DigitLaws.{digits-value, value-digits-below}
+use Rattle.base.proofs.PackLaws.{below-part, length-part}
+use Rattle.base.proofs.RowLaws.{unpacked-packed, filler-packed, length-unpacked, packed-unpacked}
+use Rattle.base.proofs.FileLaws.{joined-parts}
 use Rattle.braid.specs.Strands.{isOrder}
 use Rattle.field.specs.Fields.{bits, keyBytes}
 use Rattle.field.specs.declared.Field.{Field}
 use Rattle.operands.specs.Operands.{nonzero}
 use Rattle.key.specs.declared.Key.{Key}
-use Rattle.key.specs.Keys.{keyField, tValues, labels, entries, matrixBytes, listPlace, firstBytes, secondBytes, fillerBits, fieldSize, fileEntries, packedMatrix, wholeMatrix, startsWithOnes, bothInvertible, keyAnswer, keyHolding, keyParts, keyOf, zeroKey, ReadsKey, keyFile, keyWriterQuestions, WroteFile, WroteKey}
-use Rattle.key.specs.Parts.{Width, fileBytes, Parts, Sizes}
-use Rattle.base.specs.Packing.{Below}
-use Rattle.base.proofs.PackLaws.{below-part, length-part, regrouped-back}
-use Rattle.key.proofs.Widths.{width, file-bytes, field-of-length}
-use Rattle.key.proofs.MatrixLaws.{entries-packed, filler-packed, packed-entries}
-use Rattle.key.proofs.FileLaws.{key-file-size, part-size, part-ts, part-first, part-order, part-second, cut, cut-last}
-use Rattle.key.proofs.KeyFacts.{Accepted, accepted, accepted-answers, Writable, writable, parts, t-values-elements, entries-elements, entries-size}
+use Rattle.key.specs.Keys.{keyField, keySizes, keyPlace, fileBytes, tValues, labels, entries, firstBytes, secondBytes, fieldSize, fileEntries, wholeMatrix, startsWithOnes, bothInvertible, keyAnswer, keyHolding, keyParts, keyOf, zeroKey, ReadsKey, fileParts, keyFile, keyWriterQuestions, WroteFile, WroteKey}
+use Rattle.key.specs.Parts.{Parts, Sizes}
+use Rattle.key.proofs.Widths.{narrow, file-bytes, field-of-length}
+use Rattle.key.proofs.FileLaws.{key-file-size, part-back}
+use Rattle.key.proofs.KeyFacts.{Accepted, accepted, accepted-answers, Writable, writable, parts, t-values-elements, entries-elements}
 use Rattle.key.proofs.EntryLaws.{entries-whole}
 
 -- ---- written and read back
 
-strands-written : (b : ℕ) (ts order first second : List ℕ) → getD (keyFile b ts order first second) 0 0 ≡ 8
-unfolding keyFile
-strands-written b ts order first second = refl
-
 -- the file of these parts
-module _ (b : ℕ) (w : Width b) (ts order first second : List ℕ) (size : Sizes ts order first second) (fit : Parts b ts order first second) where
+module _ (b : ℕ) (narrow : b ≤ 8) (ts order first second : List ℕ) (size : Sizes ts order first second) (fit : Parts b ts order first second) where
   abbrev written : List ℕ
   written = keyFile b ts order first second
 
+  -- a part of n numbers, cut out and unpacked
+  row-back : (c n i : ℕ) (xs : List ℕ) → Below (2 ^ c) xs → length xs ≡ n → filePart (keySizes b) i written ≡ packedRow c xs
+      → unpackedRow c n (filePart (keySizes b) i written) ≡ xs
+  row-back c n i xs below l e = ap₂ (unpackedRow c) (sym l) e ∙ unpacked-packed c xs below
+
+  clear-back : (n i : ℕ) (xs : List ℕ) → Below (2 ^ b) xs → length xs ≡ n → filePart (keySizes b) i written ≡ packedRow b xs
+      → rowFiller b n (filePart (keySizes b) i written) ≡ 0
+  clear-back n i xs below l e = ap₂ (rowFiller b) (sym l) e ∙ filler-packed b xs below
+
+  back : (i : ℕ) → filePart (keySizes b) i written ≡ getD (fileParts b ts order first second) i []
+  back = part-back b ts order first second size
+
+  strands-written : getD written 0 0 ≡ 8
+  unfolding keyFile
+  strands-written = refl
+
   field-size-written : fieldSize written ≡ 2 ^ b
   field-size-written =
-      ap (value 256) (part-size b ts order first second) ∙ value-digits-below 256 2 (2 ^ b) (omega arith) (omega (arith, w .a-byte))
+      let h : 2 ^ b ≤ 2 ^ 8 = pow-mono narrow in
+      ap (value 256) (back 1) ∙ value-digits-below 256 2 (2 ^ b) (omega arith) (omega arith)
 
   ts-back : tValues b written ≡ ts
   unfolding tValues
-  ts-back =
-      ap (λ (p : List ℕ). digits (2 ^ b) 8 (value 256 p)) (part-ts b ts order first second)
-      ∙ regrouped-back (2 ^ b) 256 8 b ts (fit .ts-below) (size .ts-size) (sym (w .eight)) (omega arith)
+  ts-back = row-back b 8 2 ts (fit .ts-below) (size .ts-size) (back 2)
 
   order-back : labels b written ≡ order
   unfolding labels
-  order-back =
-      ap (λ (p : List ℕ). digits 8 8 (value 256 p)) (part-order b ts order first second)
-      ∙ regrouped-back 8 256 8 3 order (fit .order-below) (size .order-size) refl (omega arith)
+  order-back = row-back 3 8 4 order (fit .order-below) (size .order-size) (back 4)
 
   first-back : entries b (firstBytes b written) ≡ first
-  first-back = ap (entries b) (part-first b ts order first second) ∙ entries-packed b w first (fit .first-below) (size .first-size)
+  first-back = row-back b 57 3 first (fit .first-below) (size .first-size) (back 3)
 
   second-back : entries b (secondBytes b written) ≡ second
-  second-back = ap (entries b) (part-second b ts order first second) ∙ entries-packed b w second (fit .second-below) (size .second-size)
-
-  first-clear : fillerBits b (firstBytes b written) ≡ 0
-  first-clear = ap (fillerBits b) (part-first b ts order first second) ∙ filler-packed b w first (fit .first-below) (size .first-size)
-
-  second-clear : fillerBits b (secondBytes b written) ≡ 0
-  second-clear = ap (fillerBits b) (part-second b ts order first second) ∙ filler-packed b w second (fit .second-below) (size .second-size)
+  second-back = row-back b 57 5 second (fit .second-below) (size .second-size) (back 5)
 
 -- over a field
 module _ (f : Field) (ts order first second : List ℕ) (size : Sizes ts order first second) (fit : Parts (bits f) ts order first second) where
   written-size : length (keyFile (bits f) ts order first second) ≡ keyBytes f
-  written-size = key-file-size (bits f) ts order first second ∙ file-bytes f
+  written-size = key-file-size (bits f) ts order first second size ∙ file-bytes f
 
   accepted-back : {room : ℕ} → Writable f room ts order first second → Accepted f (keyFile (bits f) ts order first second)
   accepted-back q =
       let b = bits f in
-      let w = width f in
+      let w = narrow f in
       record {
         size = written-size;
-        strands-are = strands-written b ts order first second;
+        strands-are = strands-written b w ts order first second size fit;
         field-size = field-size-written b w ts order first second size fit;
         no-zero = ap (λ (xs : List ℕ). nonzero xs) (ts-back b w ts order first second size fit) ∙ q .ts-nonzero;
         ones = ap (λ (xs : List ℕ). startsWithOnes xs) (ts-back b w ts order first second size fit) ∙ q .ts-ones;
         order = ap (λ (xs : List ℕ). isOrder xs) (order-back b w ts order first second size fit) ∙ q .is-order;
-        first-filler = first-clear b w ts order first second size fit;
-        second-filler = second-clear b w ts order first second size fit;
+        first-filler = clear-back b w ts order first second size fit 57 3 first (fit .first-below) (size .first-size) (back b w ts order first second size fit 3);
+        second-filler = clear-back b w ts order first second size fit 57 5 second (fit .second-below) (size .second-size) (back b w ts order first second size fit 5);
         inverses =
             ap₂ (λ (p s : List ℕ). bothInvertible f (wholeMatrix p) (wholeMatrix s)) (first-back b w ts order first second size fit)
             (second-back b w ts order first second size fit)
@@ -97,7 +104,7 @@ module _ (f : Field) (ts order first second : List ℕ) (size : Sizes ts order f
   unfolding keyOf
   key-back =
       let b = bits f in
-      let w = width f in
+      let w = narrow f in
       let file = keyFile (bits f) ts order first second in
       ap (λ (g : Field). keyParts g (bits g) file) (field-of-length f file written-size)
       ∙ (λ i. keyHolding f (ts-back b w ts order first second size fit i) (order-back b w ts order first second size fit i)
@@ -105,53 +112,42 @@ module _ (f : Field) (ts order first second : List ℕ) (size : Sizes ts order f
 
 -- ---- read and written back
 
-module _ (b : ℕ) (w : Width b) (file : List ℕ) (bytes : Below 256 file) (l : length file ≡ fileBytes b) where
-  -- the file as its parts in a row
-  in-parts : getD file 0 0 ≡ 8 → fieldSize file ≡ 2 ^ b
-      → file ≡ (8 ∷ digits 256 2 (2 ^ b)) ++ (part 3 b file ++ (firstBytes b file ++ (part (listPlace b) 3 file ++ secondBytes b file)))
-  in-parts strands q =
-      let size : part 1 2 file ≡ digits 256 2 (2 ^ b) =
-      sym (digits-value 256 (part 1 2 file) (below-part 256 1 2 file bytes)) ∙ ap₂ (digits 256) (length-part 1 2 file (omega (arith, l))) q in
-      drop-cons file 0 0 (omega (arith, l))
-      ∙ ap₂ (λ (x : ℕ) (r : List ℕ). x ∷ r) strands
-      (cut 1 2 file
-      ∙ ap₂ (λ (x r : List ℕ). x ++ r) size
-      (cut 3 b file
-      ∙ ap (λ (r : List ℕ). part 3 b file ++ r)
-      (cut (3 + b) (matrixBytes b) file
-      ∙ ap (λ (r : List ℕ). firstBytes b file ++ r)
-      (cut (listPlace b) 3 file
-      ∙ ap (λ (r : List ℕ). part (listPlace b) 3 file ++ r) (cut-last (listPlace b + 3) (matrixBytes b) file (omega (arith, l)))))))
+-- eight numbers of b bits fill b bytes
+eight-clear : (b : ℕ) (bytes : List ℕ) → rowFiller b 8 bytes ≡ 0
+unfolding rowFiller
+eight-clear b bytes =
+    let e : fillerBits b 8 ≡ 0 = omega arith in
+    ap (λ (k : ℕ). value 256 bytes % 2 ^ k) e ∙ mod-one (value 256 bytes)
 
-  ts-again : digits 256 b (value (2 ^ b) (tValues b file)) ≡ part 3 b file
-  unfolding tValues
-  ts-again =
-      regrouped-back 256 (2 ^ b) b 8 (part 3 b file) (below-part 256 3 b file bytes) (length-part 3 b file (omega (arith, l))) (w .eight) (w .positive)
+module _ (b : ℕ) (file : List ℕ) (bytes : Below 256 file) (l : length file ≡ fileBytes b) where
+  strands-again : getD file 0 0 ≡ 8 → 8 ∷ [] ≡ part 0 1 file
+  strands-again e = sym (ap (take 1) (drop-cons file 0 0 (omega (arith, l))) ∙ ap (λ (x : ℕ). x ∷ []) e)
 
-  order-again : digits 256 3 (value 8 (labels b file)) ≡ part (listPlace b) 3 file
-  unfolding labels
-  order-again =
-      regrouped-back 256 8 3 8 (part (listPlace b) 3 file) (below-part 256 (listPlace b) 3 file bytes) (length-part (listPlace b) 3 file (omega (arith, l)))
-      refl (omega arith)
+  size-again : fieldSize file ≡ 2 ^ b → digits 256 2 (2 ^ b) ≡ part 1 2 file
+  size-again q =
+      ap₂ (digits 256) (sym (length-part 1 2 file (omega (arith, l)))) (sym q) ∙ digits-value 256 (part 1 2 file) (below-part 256 1 2 file bytes)
 
-  matrix-again : (at : ℕ) → at + matrixBytes b ≤ fileBytes b → fillerBits b (part at (matrixBytes b) file) ≡ 0
-      → packedMatrix b (entries b (part at (matrixBytes b) file)) ≡ part at (matrixBytes b) file
-  matrix-again at h z =
-      packed-entries b w (part at (matrixBytes b) file) (below-part 256 at (matrixBytes b) file bytes)
-      (length-part at (matrixBytes b) file (omega (arith, l))) z
+  -- n numbers of c bits from a place on
+  row-again : (at c n : ℕ) → at + rowBytes c n ≤ fileBytes b → rowFiller c n (part at (rowBytes c n) file) ≡ 0
+      → packedRow c (unpackedRow c n (part at (rowBytes c n) file)) ≡ part at (rowBytes c n) file
+  row-again at c n h z =
+      packed-unpacked c n (part at (rowBytes c n) file) (below-part 256 at (rowBytes c n) file bytes) (length-part at (rowBytes c n) file (omega (arith, l))) z
 
 again : (f : Field) (file : List ℕ) → Below 256 file → Accepted f file → let b = bits f in
     keyFile b (tValues b file) (labels b file) (entries b (firstBytes b file)) (entries b (secondBytes b file)) ≡ file
-unfolding keyFile
+unfolding keyFile tValues labels
 again f file bytes ok =
     let b = bits f in
-    let w = width f in
     let l = ok .size ∙ sym (file-bytes f) in
-    ap₂ (λ (x r : List ℕ). (8 ∷ digits 256 2 (2 ^ b)) ++ (x ++ r)) (ts-again b w file bytes l)
-    (ap₂ (λ (x r : List ℕ). x ++ r) (matrix-again b w file bytes l (3 + b) (omega arith) (ok .first-filler))
-    (ap₂ (λ (x r : List ℕ). x ++ r) (order-again b w file bytes l)
-    (matrix-again b w file bytes l (listPlace b + 3) (omega arith) (ok .second-filler))))
-    ∙ sym (in-parts b w file bytes l (ok .strands-are) (ok .field-size))
+    (λ i. joined
+    (strands-again b file bytes l (ok .strands-are) i
+    ∷ size-again b file bytes l (ok .field-size) i
+    ∷ row-again b file bytes l 3 b 8 (omega arith) (eight-clear b (filePart (keySizes b) 2 file)) i
+    ∷ row-again b file bytes l (keyPlace b 3) b 57 (omega arith) (ok .first-filler) i
+    ∷ row-again b file bytes l (keyPlace b 4) 3 8 (omega arith) (eight-clear 3 (filePart (keySizes b) 4 file)) i
+    ∷ row-again b file bytes l (keyPlace b 5) b 57 (omega arith) (ok .second-filler) i
+    ∷ []))
+    ∙ joined-parts 0 (keySizes b) file l
 
 -- the key writer's questions are passed by what is read
 read-is-writable : (f : Field) (room : ℕ) (file : List ℕ) → keyBytes f ≤ room → Accepted f file → let b = bits f in
@@ -219,9 +215,9 @@ read-writes-back file bytes {key = key} r z {first} {second} {before} {after} ef
     let t : key .«t_values» ≡ tValues b file = ap (λ (k : Key). k .«t_values») again-held in
     let o : key .pair .labels ≡ labels b file = ap (λ (k : Key). k .pair .labels) again-held in
     let p : first ≡ entries b (firstBytes b file) =
-    ef ∙ ap (λ (k : Key). fileEntries (k .pair .matrix)) again-held ∙ entries-whole (entries b (firstBytes b file)) (entries-size b (firstBytes b file)) in
+    ef ∙ ap (λ (k : Key). fileEntries (k .pair .matrix)) again-held ∙ entries-whole (entries b (firstBytes b file)) (length-unpacked b 57 (firstBytes b file)) in
     let s : second ≡ entries b (secondBytes b file) =
-    es ∙ ap (λ (k : Key). fileEntries (k .second)) again-held ∙ entries-whole (entries b (secondBytes b file)) (entries-size b (secondBytes b file)) in
+    es ∙ ap (λ (k : Key). fileEntries (k .second)) again-held ∙ entries-whole (entries b (secondBytes b file)) (length-unpacked b 57 (secondBytes b file)) in
     let asked : firstNo (keyWriterQuestions g (length before) (key .«t_values») (key .pair .labels) first second) ≡ 0 =
     (λ i. firstNo (keyWriterQuestions g (length before) (t i) (o i) (p i) (s i))) ∙ read-is-writable g (length before) file room ok in
     let equal : keyFile b (key .«t_values») (key .pair .labels) first second ≡ file = (λ i. keyFile b (t i) (o i) (p i) (s i)) ∙ again g file bytes ok in

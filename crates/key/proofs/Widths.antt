@@ -1,6 +1,6 @@
 -- The two widths of an element, 5 bits and 8, and the two lengths of a key file: each field's own, and the field that
 -- goes with a length.
-use Prim.Native.Nat.{ℕ}
+use Prim.Native.Nat.{ℕ, _≤_}
 use mathlib.Core.Path.{_≡_, refl, sym, ap, _∙_, subst}
 use mathlib.Core.Bool.{Bool, true, false, cond, _||_, false≢true}
 use mathlib.Core.List.{List}
@@ -11,35 +11,12 @@ use lib.ListN.{length}
 use Rattle.field.specs.Fields.{bits, keyBytes}
 use Rattle.field.specs.declared.Field.{Field}
 use Rattle.field.specs.declared.Field.the-variants.{Gf32, Gf256}
-use Rattle.key.specs.Keys.{keyField}
-use Rattle.key.specs.Parts.{Width, fileBytes}
+use Rattle.key.specs.Keys.{keyField, fileBytes}
 
--- eight elements go into as many bytes as one has bits, 57 and the filler into a matrix's
-pub width : (f : Field) → Width (bits f)
-width Gf32 =
-    record {
-      narrow = omega arith;
-      a-byte = omega arith;
-      filler-below = omega arith;
-      positive = omega arith;
-      filler-positive = omega arith;
-      last-byte = refl;
-      eight = refl;
-      fits = omega arith;
-      matrix = refl;
-    }
-width Gf256 =
-    record {
-      narrow = omega arith;
-      a-byte = omega arith;
-      filler-below = omega arith;
-      positive = omega arith;
-      filler-positive = omega arith;
-      last-byte = refl;
-      eight = refl;
-      fits = omega arith;
-      matrix = refl;
-    }
+-- an element fits a byte
+pub narrow : (f : Field) → bits f ≤ 8
+narrow Gf32 = omega arith
+narrow Gf256 = omega arith
 
 -- the bytes of a file, by the bits of an element
 pub file-bytes : (f : Field) → fileBytes (bits f) ≡ keyBytes f
@@ -47,8 +24,8 @@ file-bytes Gf32 = refl
 file-bytes Gf256 = refl
 
 -- the same of a number that is a field's bits
-pub told-width : (f : Field) {b : ℕ} → b ≡ bits f → Width b
-told-width f e = subst Width (sym e) (width f)
+pub told-narrow : (f : Field) {b : ℕ} → b ≡ bits f → b ≤ 8
+told-narrow f e = subst (λ (b : ℕ). b ≤ 8) (sym e) (narrow f)
 
 pub told-bytes : (f : Field) {b n : ℕ} → b ≡ bits f → n ≡ keyBytes f → n ≡ fileBytes b
 told-bytes f e l = l ∙ sym (file-bytes f) ∙ ap (λ (b : ℕ). fileBytes b) (sym e)

@@ -1,7 +1,7 @@
 -- Key files: N, q, eight T-values, the matrix of Pub(S), its list, the matrix of Pub(S'), in 83 bytes over GF(32) and
 -- in 128 over GF(256). The questions of the reader and of the writer from fixed arrays, in the paper's order. The parts
 -- of a file are stated for any number b of bits of an element.
-use Prim.Native.Nat.{ℕ, _+_, _*_, _-_, _/_, _%_, _^_}
+use Prim.Native.Nat.{ℕ, _+_, _*_, _/_, _%_, _^_}
 use mathlib.Core.Path.{_≡_}
 use mathlib.Core.Bool.{Bool, cond, _&&_, _||_}
 use mathlib.Core.List.{List, [], _∷_, _++_}
@@ -10,6 +10,8 @@ use lib.ListN.{length, take, drop, getD, replicate}
 use Rattle.base.specs.Questions.{Question, _else_, firstNo, granted}
 use Rattle.base.specs.Lists.{values, overlaid}
 use Rattle.base.specs.Digits.{value, digits, part}
+use Rattle.base.specs.Packing.{rowBytes, packedRow, unpackedRow, rowFiller}
+use Rattle.base.specs.Files.{joined, placeFrom, filePart}
 use Rattle.field.specs.Fields.{bits, operations, keyBytes}
 use Rattle.field.specs.declared.Field.{Field}
 use Rattle.field.specs.declared.Field.the-variants.{Gf32, Gf256}
@@ -32,39 +34,37 @@ fieldSize file = value 256 (part 1 2 file)
 unfoldable pub keyField : List ℕ → Field
 keyField file = cond (eqb (length file) (keyBytes Gf256)) Gf256 Gf32
 
--- eight T-values of b bits in b bytes
+-- the sizes of the parts of a file, in bytes: N, q, eight T-values, the matrix of Pub(S), its list of eight 3-bit labels,
+-- the matrix of Pub(S'). A matrix has 57 entries
+abbrev pub keySizes : ℕ → List ℕ
+keySizes b = 1 ∷ 2 ∷ rowBytes b 8 ∷ rowBytes b 57 ∷ rowBytes 3 8 ∷ rowBytes b 57 ∷ []
+
+-- where a part begins, counted from 0; the bytes of a file
+abbrev pub keyPlace : ℕ → ℕ → ℕ
+keyPlace b i = placeFrom 0 (keySizes b) i
+
+abbrev pub fileBytes : ℕ → ℕ
+fileBytes b = keyPlace b 6
+
 unfoldable pub tValues : ℕ → List ℕ → List ℕ
-tValues b file = digits (2 ^ b) 8 (value 256 (part 3 b file))
+tValues b file = unpackedRow b 8 (filePart (keySizes b) 2 file)
 
--- the bytes of a matrix's 57 entries of b bits
-abbrev pub matrixBytes : ℕ → ℕ
-matrixBytes b = 7 * b + 1
-
--- what the bits after a matrix's entries, up to the end of its last byte, can write: three filler bits after entries of
--- 5 bits, and none after entries of 8
-abbrev pub fillers : ℕ → ℕ
-fillers b = 2 ^ (8 - b)
-
-unfoldable pub entries : ℕ → List ℕ → List ℕ
-entries b bytes = digits (2 ^ b) 57 (value 256 bytes / fillers b)
-
-unfoldable pub fillerBits : ℕ → List ℕ → ℕ
-fillerBits b bytes = value 256 bytes % fillers b
-
--- the bytes of the matrix of Pub(S)
+-- the bytes of the matrix of Pub(S), its list, and the bytes of the matrix of Pub(S')
 abbrev pub firstBytes : ℕ → List ℕ → List ℕ
-firstBytes b file = part (3 + b) (matrixBytes b) file
-
--- the list of Pub(S): eight labels of 3 bits in 3 bytes
-abbrev pub listPlace : ℕ → ℕ
-listPlace b = 3 + b + matrixBytes b
+firstBytes b file = filePart (keySizes b) 3 file
 
 unfoldable pub labels : ℕ → List ℕ → List ℕ
-labels b file = digits 8 8 (value 256 (part (listPlace b) 3 file))
+labels b file = unpackedRow 3 8 (filePart (keySizes b) 4 file)
 
--- the bytes of the matrix of Pub(S')
 abbrev pub secondBytes : ℕ → List ℕ → List ℕ
-secondBytes b file = part (listPlace b + 3) (matrixBytes b) file
+secondBytes b file = filePart (keySizes b) 5 file
+
+-- the entries of a matrix, and its filler: three bits after entries of 5 bits, and none after entries of 8
+abbrev pub entries : ℕ → List ℕ → List ℕ
+entries b bytes = unpackedRow b 57 bytes
+
+abbrev pub filler : ℕ → List ℕ → ℕ
+filler b bytes = rowFiller b 57 bytes
 
 -- rows 1 to 7 whole, then row 8, whose first seven entries are 0. A file holds a matrix row by row, whatever the layout
 -- in memory
@@ -91,7 +91,7 @@ partQuestions b file =
     ∷ (nonzero (tValues b file) else 4)
     ∷ (startsWithOnes (tValues b file) else 5)
     ∷ (isOrder (labels b file) else 6)
-    ∷ (eqb (fillerBits b (firstBytes b file)) 0 && eqb (fillerBits b (secondBytes b file)) 0 else 7)
+    ∷ (eqb (filler b (firstBytes b file)) 0 && eqb (filler b (secondBytes b file)) 0 else 7)
     ∷ []
 
 -- 1, then 2 to 7, then 26, over a field
@@ -131,18 +131,20 @@ pub record ReadsKey (file : List ℕ) (answer : ℕ) (key : Key) : Type 0 where
   pub answer-is : answer ≡ keyAnswer file
   pub key-is : key ≡ granted (keyAnswer file) (keyOf file) zeroKey
 
--- a matrix's bytes, from 57 entries of b bits
-unfoldable pub packedMatrix : ℕ → List ℕ → List ℕ
-packedMatrix b es = digits 256 (matrixBytes b) (value (2 ^ b) es * fillers b)
+-- the parts of the file of a key
+abbrev pub fileParts : ℕ → List ℕ → List ℕ → List ℕ → List ℕ → List (List ℕ)
+fileParts b ts order first second =
+    (8 ∷ [])
+    ∷ digits 256 2 (2 ^ b)
+    ∷ packedRow b ts
+    ∷ packedRow b first
+    ∷ packedRow 3 order
+    ∷ packedRow b second
+    ∷ []
 
 -- the file of a key
 unfoldable pub keyFile : ℕ → List ℕ → List ℕ → List ℕ → List ℕ → List ℕ
-keyFile b ts order first second =
-    (8 ∷ digits 256 2 (2 ^ b))
-    ++ (digits 256 b (value (2 ^ b) ts)
-    ++ (packedMatrix b first
-    ++ (digits 256 3 (value 8 order)
-    ++ packedMatrix b second)))
+keyFile b ts order first second = joined (fileParts b ts order first second)
 
 -- Key writer, over the field that it is told: 16, 17, then 4, 5, 6, 26, the last of the matrices that its entries make
 abbrev pub keyWriterQuestions : Field → ℕ → List ℕ → List ℕ → List ℕ → List ℕ → List Question

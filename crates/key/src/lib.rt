@@ -4,13 +4,18 @@ use action::Pair;
 use field::Field;
 ghost use mathlib.Core.Path.{_≡_};
 ghost use lib.ListN.{length};
-ghost use Rattle.key.specs.Keys.{wholeMatrix, fileEntries, startsWithOnes};
+ghost use Rattle.key.specs.Keys.{wholeMatrix, fileEntries, startsWithOnes, zeroKey};
 
 mod width; // width.rt: what differs between the two fields
 
+pub use width::LARGE_BYTES;
+pub use width::SMALL_BYTES;
+pub use width::VALUES_PLACE;
 pub use width::bits_of;
 pub use width::file_bytes;
-pub use width::power;
+pub use width::first_place;
+pub use width::list_place;
+pub use width::second_place;
 
 // What a key file holds: its field, T-values, the pair Pub(S), the matrix of Pub(S').
 pub struct Key {
@@ -26,11 +31,29 @@ pub struct KeyRead {
     pub key: Key,
 }
 
+impl KeyRead {
+    // A refusal.
+    pub fn refused(answer: u8) -> KeyRead
+        ensures { λ r. ⌜ (r .answer ≡ answer) × (r .key ≡ zeroKey) ⌝ }
+    {
+        let pair = Pair::zeros();
+        let t_values = [0u8; 8];
+        let second = [0u8; 64];
+        let key = Key {
+            field: Field::Gf32,
+            t_values,
+            pair,
+            second,
+        };
+        KeyRead { answer, key }
+    }
+}
+
 // Are the first two T-values 1?
 pub fn starts_with_ones(ts: &[u8; 8]) -> bool
     ensures { λ r. ⌜ r ≡ startsWithOnes (now (ts .entry)) ⌝ }
 {
-    ts[0] == 1 && ts[1] == 1
+    (ts[0] == 1) & (ts[1] == 1)
 }
 
 // The matrix of the 57 entries that a file has of it: rows 1 to 7 whole, then the last entry of row 8.

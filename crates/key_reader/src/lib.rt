@@ -4,40 +4,23 @@ use field::Field;
 use key::Key;
 use key::KeyRead;
 ghost use mathlib.Core.Path.{_≡_};
+ghost use Prim.Native.Nat.{_≤_};
 ghost use lib.ListN.{length};
 ghost use Rattle.field.specs.Fields.{keyBytes};
-ghost use Rattle.key.specs.Keys.{keyField, keyParts, zeroKey, ReadsKey};
-ghost use Rattle.key.specs.Parts.{Width, fileBytes};
+ghost use Rattle.key.specs.Keys.{fileBytes, tValues, labels, keyField, keyParts, ReadsKey};
 
 mod parts; // parts.rt: the parts of a key file, and its questions
 
-// The key of a refusal.
-fn zero_key() -> Key
-    ensures { λ r. ⌜ r ≡ zeroKey ⌝ }
-{
-    let pair = Pair::zeros();
-    let t_values = [0u8; 8];
-    let second = [0u8; 64];
-    Key {
-        field: Field::Gf32,
-        t_values,
-        pair,
-        second,
-    }
-}
-
-// What a file of the field's length holds.
-fn key_of(file: &[u8], f: Field, bits: usize) -> Key
-    requires { ⌜ Width bits × (length (now file) ≡ fileBytes bits) ⌝ }
+// What a file of the field's length holds that has these T-values and this list.
+fn key_of(file: &[u8], f: Field, bits: usize, t_values: [u8; 8], list: [u8; 8]) -> Key
+    requires { ⌜ (bits ≤ 8) × (length (now file) ≡ fileBytes bits) × («t_values» ≡ tValues bits (now file)) × (list ≡ labels bits (now file)) ⌝ }
     ensures { λ r. ⌜ r ≡ keyParts f bits (now (file .entry)) ⌝ }
 {
-    let first = 3 + bits;
-    let list = first + (7 * bits + 1);
-    let after = list + 3;
-    let matrix = parts::matrix(&file[first..list], bits);
-    let labels = parts::order(file, bits);
-    let pair = Pair::with(matrix, labels);
-    let t_values = parts::t_values(file, bits);
+    let at = key::first_place(bits);
+    let end = key::list_place(bits);
+    let after = key::second_place(bits);
+    let first = parts::matrix(&file[at..end], bits);
+    let pair = Pair::with(first, list);
     let second = parts::matrix(&file[after..], bits);
     Key {
         field: f,
@@ -53,19 +36,19 @@ fn read_over(file: &[u8], f: Field) -> KeyRead
     ensures { λ r. ⌜ ReadsKey (now (file .entry)) (r .answer) (r .key) ⌝ }
 {
     let bits = key::bits_of(f);
-    let answer = parts::answer(file, bits);
+    let t_values = parts::t_values(file, bits);
+    let list = parts::order(file, bits);
+    let answer = parts::answer(file, &t_values, &list, bits);
     if answer != 0 {
-        let key = zero_key();
-        return KeyRead { answer, key };
+        return KeyRead::refused(answer);
     }
-    let key = key_of(file, f, bits);
+    let key = key_of(file, f, bits, t_values, list);
     let pair = key.pair;
     let first = pair.matrix;
     let second = key.second;
     let inverses = elimination::both_invertible(first, second, f);
     if !inverses {
-        let key = zero_key();
-        return KeyRead { answer: 26, key };
+        return KeyRead::refused(26);
     }
     KeyRead { answer, key }
 }
@@ -74,12 +57,11 @@ fn read_over(file: &[u8], f: Field) -> KeyRead
 pub fn read_key(file: &[u8]) -> KeyRead
     ensures { λ r. ⌜ ReadsKey (now (file .entry)) (r .answer) (r .key) ⌝ }
 {
-    if file.len() == 83 {
+    if file.len() == key::SMALL_BYTES {
         return read_over(file, Field::Gf32);
     }
-    if file.len() == 128 {
+    if file.len() == key::LARGE_BYTES {
         return read_over(file, Field::Gf256);
     }
-    let key = zero_key();
-    KeyRead { answer: 1, key }
+    KeyRead::refused(1)
 }

@@ -12,9 +12,10 @@ use Rattle.action.specs.Multiplier.{zeroPair, Multiplies}
 use Rattle.lent.specs.Lent.{Lends}
 
 module _ {f : Field} {p : Pair} {ts : List ℕ} {c answer : ℕ} {after : Pair} (m : Multiplies f p ts c answer after) where
-  -- a refusal: the pair itself
-  pub kept : (answer ≡ 0 → ⊥) → Lends f p ts c answer p
-  kept n = record { answer-is = m .answer-is; pair-is = sym (granted-refused (letterOn (operations f) ts c p) p (λ z. n (m .answer-is ∙ z))) }
+  -- a refusal, as `Stepped::refused` makes it: the pair itself
+  pub kept : {number : ℕ} {same : Pair} → (number ≡ answer) × (same ≡ p) → (answer ≡ 0 → ⊥) → Lends f p ts c number same
+  kept r n =
+      record { answer-is = r .0 ∙ m .answer-is; pair-is = r .1 ∙ sym (granted-refused (letterOn (operations f) ts c p) p (λ z. n (m .answer-is ∙ z))) }
 
   -- answer 0: what the multiplier gives
   pub changed : answer ≡ 0 → Lends f p ts c answer after

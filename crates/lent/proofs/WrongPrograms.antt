@@ -5,7 +5,7 @@ use mathlib.Core.Path.{_≡_, refl, sym, ap, _∙_}
 use mathlib.Core.List.{List, [], _∷_}
 use native.Mathlib.Omega.{arith}
 use Rattle.base.specs.Questions.{firstNo, granted}
-use Rattle.base.specs.Lists.{every, count, valuesFrom, eachOnce}
+use Rattle.base.specs.Lists.{every, valuesFrom, eachOnce, tally}
 use Rattle.field.specs.Polynomial.{timesX, horner, times}
 use Rattle.field.specs.Gf32.{gf32}
 use Rattle.field.specs.declared.Field.the-variants.{Gf32}
@@ -27,7 +27,7 @@ unfolding start identity place rowOf columnOf entry matrixOf valuesFrom
 before = refl
 
 after : entry (granted (firstNo (multiplierQuestions Gf32 start plain 2)) (letterOn gf32 plain 2 start) start .matrix) 2 1 ≡ 2
-unfolding start identity place rowOf columnOf entry matrixOf valuesFrom firstNo granted every count eachOnce tValue shareOf rowAfter swapped letterOn times horner timesX
+unfolding start identity place rowOf columnOf entry matrixOf valuesFrom firstNo granted every tally eachOnce tValue shareOf rowAfter swapped letterOn times horner timesX
 after = refl
 
 -- the starting pair is lent, the letter is b3, and the pair is left, whatever the answer
@@ -36,7 +36,7 @@ leaves-its-pair answer m = let e = sym before ∙ ap (λ (p : Pair). entry (p .m
 
 -- code 7 is no letter: the answer is 12, and row 1, column 1 is 1 as before
 kept : entry (granted (firstNo (multiplierQuestions Gf32 start plain 7)) (letterOn gf32 plain 7 start) start .matrix) 0 0 ≡ 1
-unfolding start identity place rowOf columnOf entry matrixOf valuesFrom firstNo granted every count eachOnce
+unfolding start identity place rowOf columnOf entry matrixOf valuesFrom firstNo granted every tally eachOnce
 kept = refl
 
 zero : entry (zeroPair .matrix) 0 0 ≡ 0

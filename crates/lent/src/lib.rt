@@ -1,6 +1,7 @@
 // What one letter makes of a pair that is lent, by value: the pair that is to be stored back, on a refusal the one that
 // came.
 use action::Pair;
+ghost use mathlib.Core.Path.{_≡_};
 ghost use Rattle.field.specs.Fields.{fieldOf};
 ghost use Rattle.lent.specs.Lent.{Lends};
 
@@ -8,6 +9,15 @@ ghost use Rattle.lent.specs.Lent.{Lends};
 pub struct Stepped {
     pub answer: u8,
     pub pair: Pair,
+}
+
+impl Stepped {
+    // A refusal: its number, and the pair that came.
+    fn refused(answer: u8, pair: Pair) -> Stepped
+        ensures { λ r. ⌜ (r .answer ≡ answer) × (r .pair ≡ pair) ⌝ }
+    {
+        Stepped { answer, pair }
+    }
 }
 
 // The letter multiplied into the pair, over the larger field or the other; the pair itself on a refusal.
@@ -19,7 +29,7 @@ pub fn step(pair: Pair, large: bool, t_values: &[u8; 8], letter: u8) -> Stepped
     let answer = multiplied.answer;
     let after = multiplied.pair;
     if answer != 0 {
-        return Stepped { answer, pair };
+        return Stepped::refused(answer, pair);
     }
     Stepped {
         answer,

@@ -39,7 +39,8 @@ module _ {n p : ℕ} (d : Degree n p) where
   unfolding power
   power-add zero j = one-times d (power n p j) (power-below j) ∙ ap (power n p) (sym (zero-add j))
   power-add (suc i) j =
-      times-step d (power n p i) (power n p j) (power-below i) ∙ ap (timesX n p) (power-add i j) ∙ ap (power n p) (sym (suc-add i j))
+      times-step d (power n p i) (power n p j) (power-below i) ∙ ap (timesX n p) (power-add i j)
+      ∙ ap (power n p) (sym (suc-add i j))
 
 -- ---- the test
 
@@ -58,7 +59,7 @@ logRight n h table a =
     cond (eqb (a % 2 ^ n) 0) (eqb (getD table a 0) (2 * h))
     (ltb (getD table a 0) h && eqb (powerAt table (getD table a 0)) (a % 2 ^ n))
 
-abbrev pub Tested : ℕ → ℕ → ℕ → List ℕ → Type 0
+abbrev Tested : ℕ → ℕ → ℕ → List ℕ → Type 0
 Tested n p h table =
     (powerAt table 0 ≡ 1)
     × (every (nextRight n p table) (values (λ k. k) (2 * h - 1)) ≡ true)
@@ -77,14 +78,16 @@ module _ (f : Field) (h : ℕ) (table : List ℕ) (right : Tested (bits f) (modu
   unfolding power
   at-power zero l = right .0
   at-power (suc k) l =
-      eqb-true (powerAt table (suc k)) (timesX n p (powerAt table k)) (every-values (nextRight n p table) (λ k. k) (2 * h - 1) (right .1) k (omega arith))
+      eqb-true (powerAt table (suc k)) (timesX n p (powerAt table k))
+      (every-values (nextRight n p table) (λ k. k) (2 * h - 1) (right .1) k (omega arith))
       ∙ ap (timesX n p) (at-power k (omega arith))
 
   at-zero : (k : ℕ) → 2 * h ≤ k → k ≤ 4 * h → powerAt table k ≡ 0
   at-zero k l m =
       let e : 2 * h + (k - 2 * h) ≡ k = omega arith in
       ap (powerAt table) (sym e)
-      ∙ eqb-true (powerAt table (2 * h + (k - 2 * h))) 0 (every-values (zeroRight h table) (λ k. k) (2 * h + 1) (right .2) (k - 2 * h) (omega arith))
+      ∙ eqb-true (powerAt table (2 * h + (k - 2 * h))) 0
+      (every-values (zeroRight h table) (λ k. k) (2 * h + 1) (right .2) (k - 2 * h) (omega arith))
 
   -- a number's logarithm: 2 h where its low bits are zero, and otherwise the place of a power
   data Log (a : ℕ) : Type 0 where
@@ -97,11 +100,15 @@ module _ (f : Field) (h : ℕ) (table : List ℕ) (right : Tested (bits f) (modu
       go : Dec (a % 2 ^ n ≡ 0) → logRight n h table a ≡ true → Log a
       go (yes z) e = of-zero z (eqb-true (getD table a 0) (2 * h) (rw (eq-eqb (a % 2 ^ n) 0 z) at e))
       go (no z) e =
-          let t : ltb (getD table a 0) h && eqb (powerAt table (getD table a 0)) (a % 2 ^ n) ≡ true = rw (ne-eqb (a % 2 ^ n) 0 z) at e in
-          let l = ltb-true (getD table a 0) h (and-left (ltb (getD table a 0) h) (eqb (powerAt table (getD table a 0)) (a % 2 ^ n)) t) in
+          let t : ltb (getD table a 0) h && eqb (powerAt table (getD table a 0)) (a % 2 ^ n) ≡ true =
+          rw (ne-eqb (a % 2 ^ n) 0 z) at e in
+          let l =
+          ltb-true (getD table a 0) h
+          (and-left (ltb (getD table a 0) h) (eqb (powerAt table (getD table a 0)) (a % 2 ^ n)) t) in
           of-power l
           (sym (at-power (getD table a 0) (omega arith))
-          ∙ eqb-true (powerAt table (getD table a 0)) (a % 2 ^ n) (and-right (ltb (getD table a 0) h) (eqb (powerAt table (getD table a 0)) (a % 2 ^ n)) t))
+          ∙ eqb-true (powerAt table (getD table a 0)) (a % 2 ^ n)
+          (and-right (ltb (getD table a 0) h) (eqb (powerAt table (getD table a 0)) (a % 2 ^ n)) t))
 
   log-near : (a : ℕ) → Log a → getD table a 0 ≤ 2 * h
   log-near a (of-zero z e) = omega arith
@@ -125,7 +132,8 @@ module _ (f : Field) (h : ℕ) (table : List ℕ) (right : Tested (bits f) (modu
       ∙ sym (low a b ∙ ap (λ (x : ℕ). times n p x (b % 2 ^ n)) z ∙ zero-times (degree f) (b % 2 ^ n))
   product-by a b (of-power l g) (of-zero z e) =
       at-zero (getD table a 0 + getD table b 0) (omega arith) (omega arith)
-      ∙ sym (low a b ∙ ap (times n p (a % 2 ^ n)) z ∙ times-comm (degree f) (a % 2 ^ n) 0 ∙ zero-times (degree f) (a % 2 ^ n))
+      ∙ sym (low a b ∙ ap (times n p (a % 2 ^ n)) z ∙ times-comm (degree f) (a % 2 ^ n) 0
+      ∙ zero-times (degree f) (a % 2 ^ n))
   product-by a b (of-power l g) (of-power m k) =
       at-power (getD table a 0 + getD table b 0) (omega arith)
       ∙ sym (low a b ∙ sym (ap₂ (times n p) g k) ∙ power-add (degree f) (getD table a 0) (getD table b 0))
@@ -140,12 +148,14 @@ module _ (f : Field) (h : ℕ) (table : List ℕ) (right : Tested (bits f) (modu
 
 -- ---- what a table gives for two logarithms
 
-module _ {f : Field} {table : List ℕ} (by : ProductsBy f table) {a b i j : ℕ} (x : LogarithmOf table a i) (y : LogarithmOf table b j) where
+module _ {f : Field} {table : List ℕ} (by : ProductsBy f table) {a b i j : ℕ} (x : LogarithmOf table a i)
+    (y : LogarithmOf table b j) where
   pub sum-within : 256 + (i + j) < length table
   sum-within = omega (arith, x .entry, y .entry, by .near a (x .byte), by .near b (y .byte))
 
   pub sum-product : getD table (256 + (i + j)) 0 ≡ operations f .mul a b
-  sum-product = ap₂ (λ (k l : ℕ). getD table (256 + (k + l)) 0) (x .entry) (y .entry) ∙ by .product a b (x .byte) (y .byte)
+  sum-product =
+      ap₂ (λ (k l : ℕ). getD table (256 + (k + l)) 0) (x .entry) (y .entry) ∙ by .product a b (x .byte) (y .byte)
 
 -- ---- logarithms of several numbers
 
@@ -153,7 +163,8 @@ pub same-number : {table : List ℕ} {a b i : ℕ} → a ≡ b → LogarithmOf t
 same-number {table} {i = i} e x = subst (λ (c : ℕ). LogarithmOf table c i) e x
 
 -- one more
-pub logarithms-next : (table : List ℕ) (y : ℕ → ℕ) (n : ℕ) (logs : List ℕ) (i : ℕ) → n < length logs → LogarithmsOf table y n logs
+pub logarithms-next : (table : List ℕ) (y : ℕ → ℕ) (n : ℕ) (logs : List ℕ) (i : ℕ) → n < length logs
+    → LogarithmsOf table y n logs
     → LogarithmOf table (y n) i → LogarithmsOf table y (n + 1) (set logs n i)
 logarithms-next table y n logs i h l x j hj = at (ℕ-discrete j n)
   where

@@ -11,7 +11,8 @@ use Rattle.field.specs.declared.Field.{Field}
 pub record ProductsBy (f : Field) (table : List ℕ) : Type 0 where
   pub near : (a : ℕ) → a < 256 → 256 + 2 * getD table a 0 < length table
   pub byte : (k : ℕ) → 256 ≤ k → getD table k 0 < 256
-  pub product : (a b : ℕ) → a < 256 → b < 256 → getD table (256 + (getD table a 0 + getD table b 0)) 0 ≡ operations f .mul a b
+  pub product : (a b : ℕ) → a < 256 → b < 256
+      → getD table (256 + (getD table a 0 + getD table b 0)) 0 ≡ operations f .mul a b
 
 -- i is the logarithm of a byte, by a table
 pub record LogarithmOf (table : List ℕ) (a i : ℕ) : Type 0 where

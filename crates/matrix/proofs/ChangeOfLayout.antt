@@ -7,7 +7,8 @@ use mathlib.Core.List.{List}
 use native.Mathlib.Omega.{arith}
 use lib.ListN.{length, getD}
 use Rattle.base.specs.Lists.{every, equal}
-use Rattle.base.proofs.ListLaws.{length-values, getD-values, values-of, every-getD, every-from, equal-true, equal-of, equal-false, not-true-false, true-false}
+use Rattle.base.proofs.ListLaws.{length-values, getD-values, values-of, every-getD, every-from, equal-true, equal-of}
+use Rattle.base.proofs.ListLaws.{equal-false, not-true-false, true-false}
 use Rattle.field.specs.Binary.{Operations}
 use Rattle.matrix.specs.Layout.{place, rowOf, columnOf, entry, matrixOf}
 use Rattle.matrix.specs.Product.{rowBy, matrixProduct}
@@ -23,7 +24,7 @@ pub length-turned : (m : List ℕ) → length (turned m) ≡ 64
 unfolding turned
 length-turned m = length-values (λ k. getD m (8 * (k % 8) + k / 8) 0) 0 64
 
-pub getD-turned : (m : List ℕ) (k : ℕ) → k < 64 → getD (turned m) k 0 ≡ getD m (8 * (k % 8) + k / 8) 0
+getD-turned : (m : List ℕ) (k : ℕ) → k < 64 → getD (turned m) k 0 ≡ getD m (8 * (k % 8) + k / 8) 0
 unfolding turned
 getD-turned m k h = getD-values (λ k. getD m (8 * (k % 8) + k / 8) 0) 64 k h
 
@@ -47,7 +48,8 @@ entry-turned m r c hr hc =
 
 pub matrix-turned : (f : ℕ → ℕ → ℕ) → matrixOf f ≡ turned (matrixByRows f)
 unfolding rowOf columnOf matrixOf matrixByRows turned
-matrix-turned f = sym (values-of (λ k. f (k % 8) (k / 8)) 64 (turned (matrixByRows f)) (length-turned (matrixByRows f)) at)
+matrix-turned f =
+    sym (values-of (λ k. f (k % 8) (k / 8)) 64 (turned (matrixByRows f)) (length-turned (matrixByRows f)) at)
   where
     at : (k : ℕ) → k < 64 → getD (turned (matrixByRows f)) k 0 ≡ f (k % 8) (k / 8)
     at k h =
@@ -76,7 +78,8 @@ every-turned f m l = go (every f m) refl
 -- ---- the operations
 
 -- the product
-pub product-turned : (F : Operations) (a b : List ℕ) → matrixProduct F (turned a) (turned b) ≡ turned (productByRows F a b)
+pub product-turned : (F : Operations) (a b : List ℕ)
+    → matrixProduct F (turned a) (turned b) ≡ turned (productByRows F a b)
 unfolding matrixProduct productByRows
 product-turned F a b =
     let rows : ℕ → ℕ → ℕ = λ r. rowBy F 8 (entryByRows a r) (entryByRows b) in

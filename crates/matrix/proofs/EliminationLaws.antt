@@ -13,7 +13,8 @@ use Rattle.field.proofs.Ring.{ring, reciprocals, inv-mul, add-zero, twice, zero
 use Rattle.matrix.specs.Product.{sum, rowBy, unit}
 use Rattle.matrix.specs.Elimination.{pivot, without, cleared, invertible}
 use Rattle.matrix.proofs.SumLaws.{sum-ext, sum-alone, sum-add, sum-mul, sum-below}
-use Rattle.matrix.proofs.ProductLaws.{unit-same, unit-other, rowBy-ext, rowBy-add, rowBy-mul, rowBy-zero, rowBy-column-zero, rowBy-rowBy, unit-rowBy, rowBy-unit}
+use Rattle.matrix.proofs.ProductLaws.{unit-same, unit-other, rowBy-ext, rowBy-add, rowBy-mul, rowBy-zero}
+use Rattle.matrix.proofs.ProductLaws.{rowBy-column-zero, rowBy-rowBy, unit-rowBy, rowBy-unit}
 
 -- ---- the pivot
 
@@ -27,7 +28,7 @@ pivot-below column (suc n) = at (eqb (column (suc n)) 0) (pivot-below column n)
     at false h = omega arith
 
 -- where the column is zero at its pivot it is zero everywhere
-pub pivot-zero : (column : ℕ → ℕ) (n : ℕ) → column (pivot column n) ≡ 0 → (i : ℕ) → i < suc n → column i ≡ 0
+pivot-zero : (column : ℕ → ℕ) (n : ℕ) → column (pivot column n) ≡ 0 → (i : ℕ) → i < suc n → column i ≡ 0
 unfolding pivot
 pivot-zero column zero e i h = let z : i ≡ 0 = omega arith in ap column z ∙ e
 pivot-zero column (suc n) e i h = at (eqb (column (suc n)) 0) refl e (λ d. pivot-zero column n d) (ℕ-discrete i (suc n))
@@ -63,7 +64,8 @@ module _ {F : Operations} (L : BinaryField F) where
     where
       at : Dec (p ≡ n) → F .add (sum F (λ i. f (without n p i)) n) (f p) ≡ F .add (sum F f n) (f n)
       at (yes e) =
-          ap₂ (F .add) (sum-ext F (λ i. f (without n p i)) f n (λ i b. ap f (without-other n p i (λ d. omega arith)))) (ap f e)
+          ap₂ (F .add) (sum-ext F (λ i. f (without n p i)) f n (λ i b. ap f (without-other n p i (λ d. omega arith))))
+          (ap f e)
       at (no d) = moved (sum F (λ i. f (without n p i)) n) (sum F f n) (f p) (f n)
           (sym (sum-add L (λ i. f (without n p i)) f n)
           ∙ sum-alone L (λ i. F .add (f (without n p i)) (f i)) n p (omega arith)
@@ -73,7 +75,8 @@ module _ {F : Operations} (L : BinaryField F) where
           moved : (a b x y : ℕ) → F .add a b ≡ F .add y x → F .add a x ≡ F .add b y
           moved a b x y e =
               sym (twice L b (F .add a x))
-              ∙ (let s : F .add b (F .add a x) ≡ F .add (F .add a b) x = simp ring in ap (F .add b) (s ∙ ap (λ (z : ℕ). F .add z x) e))
+              ∙ (let s : F .add b (F .add a x) ≡ F .add (F .add a b) x = simp ring in
+              ap (F .add b) (s ∙ ap (λ (z : ℕ). F .add z x) e))
               ∙ (let s : F .add (F .add y x) x ≡ y = simp ring in ap (F .add b) s)
 
 -- ---- left inverses
@@ -120,14 +123,16 @@ module _ {F : Operations} (L : BinaryField F) where
 
   -- a matrix of n + 1 rows with a pivot in row p
   module _ (n p : ℕ) (m : ℕ → ℕ → ℕ) (hp : p < suc n) (pos : 0 < m p n) (good : Elements F (suc n) m) where
-    pub cleared-below : Elements F n (cleared F n p m)
+    cleared-below : Elements F n (cleared F n p m)
     unfolding cleared
-    cleared-below i j hi hj = L .add-below (good (without n p i) j (without-below n p i hi) (omega arith)) (L .mul-below _ _)
+    cleared-below i j hi hj =
+        L .add-below (good (without n p i) j (without-below n p i hi) (omega arith)) (L .mul-below _ _)
 
     cleared-last : (i : ℕ) → i < n → cleared F n p m i n ≡ 0
     unfolding cleared
     cleared-last i hi =
-        cancel-own (m (without n p i) n) (m p n) pos (good p n hp (omega arith)) (good (without n p i) n (without-below n p i hi) (omega arith))
+        cancel-own (m (without n p i) n) (m p n) pos (good p n hp (omega arith))
+        (good (without n p i) n (without-below n p i hi) (omega arith))
 
     -- weights b of all rows, on the cleared matrix
     cleared-row : (b : ℕ → ℕ) (c : ℕ)
@@ -135,11 +140,13 @@ module _ {F : Operations} (L : BinaryField F) where
         ≡ F .add (rowBy F (suc n) b m c) (F .mul (rowBy F (suc n) b m n) (F .mul (F .inv (m p n)) (m p c)))
     unfolding cleared
     cleared-row b c =
-        sum-ext F (λ i. F .mul (b (without n p i)) (cleared F n p m i c)) (λ i. F .add (left (without n p i)) (F .mul (right (without n p i)) z)) n
+        sum-ext F (λ i. F .mul (b (without n p i)) (cleared F n p m i c))
+        (λ i. F .add (left (without n p i)) (F .mul (right (without n p i)) z)) n
         (λ i h. spread (b (without n p i)) (m (without n p i) c) (m (without n p i) n) z)
         ∙ sum-add L (λ i. left (without n p i)) (λ i. F .mul (right (without n p i)) z) n
         ∙ ap (F .add (sum F (λ i. left (without n p i)) n)) (sym (sum-mul L (λ i. right (without n p i)) z n))
-        ∙ cancel (sum F (λ i. left (without n p i)) n) (sum F (λ i. right (without n p i)) n) (b p) (m p c) (m p n) pos (good p n hp (omega arith))
+        ∙ cancel (sum F (λ i. left (without n p i)) n) (sum F (λ i. right (without n p i)) n) (b p) (m p c) (m p n) pos
+        (good p n hp (omega arith))
         ∙ ap₂ (λ (s t : ℕ). F .add s (F .mul t z)) (sum-without L left n p hp) (sum-without L right n p hp)
       where
         z : ℕ
@@ -152,7 +159,7 @@ module _ {F : Operations} (L : BinaryField F) where
         right k = F .mul (b k) (m k n)
 
     -- a left inverse, its columns taken without the pivot's, is one of the cleared matrix
-    pub cleared-inverse : LeftInverse F (suc n) m → LeftInverse F n (cleared F n p m)
+    cleared-inverse : LeftInverse F (suc n) m → LeftInverse F n (cleared F n p m)
     cleared-inverse b r hr = go (b r (omega arith))
       where
         go : Reached F (suc n) m (unit r) → Reached F n (cleared F n p m) (unit r)
@@ -162,7 +169,8 @@ module _ {F : Operations} (L : BinaryField F) where
               reach = λ c hc.
                   let z = F .mul (F .inv (m p n)) (m p c) in
                   cleared-row (w .weights) c
-                  ∙ ap₂ (λ (s t : ℕ). F .add s (F .mul t z)) (w .reach c (omega arith)) (w .reach n (omega arith) ∙ unit-other r n (λ e. omega arith))
+                  ∙ ap₂ (λ (s t : ℕ). F .add s (F .mul t z)) (w .reach c (omega arith))
+                  (w .reach n (omega arith) ∙ unit-other r n (λ e. omega arith))
                   ∙ ap (F .add (unit r c)) (zero-mul L z)
                   ∙ add-zero L (unit r c);
             }
@@ -171,7 +179,8 @@ module _ {F : Operations} (L : BinaryField F) where
     -- makes column n zero
     raised : (ℕ → ℕ) → ℕ → ℕ
     raised v k =
-        cond (eqb k p) (F .mul (F .inv (m p n)) (sum F (λ i. F .mul (v i) (m (without n p i) n)) n)) (v (cond (eqb k n) p k))
+        cond (eqb k p) (F .mul (F .inv (m p n)) (sum F (λ i. F .mul (v i) (m (without n p i) n)) n))
+        (v (cond (eqb k n) p k))
 
     raised-own : (v : ℕ → ℕ) → raised v p ≡ F .mul (F .inv (m p n)) (sum F (λ i. F .mul (v i) (m (without n p i) n)) n)
     unfolding raised
@@ -194,7 +203,8 @@ module _ {F : Operations} (L : BinaryField F) where
     column-zero v =
         sym (sum-without L (λ k. F .mul (raised v k) (m k n)) n p hp)
         ∙ ap₂ (F .add)
-        (sum-ext F (λ i. F .mul (raised v (without n p i)) (m (without n p i) n)) (λ i. F .mul (v i) (m (without n p i) n)) n
+        (sum-ext F (λ i. F .mul (raised v (without n p i)) (m (without n p i) n))
+        (λ i. F .mul (v i) (m (without n p i) n)) n
         (λ i h. ap (λ (x : ℕ). F .mul x (m (without n p i) n)) (raised-other v i h)))
         (ap (λ (x : ℕ). F .mul x (m p n)) (raised-own v))
         ∙ gone (sum F (λ i. F .mul (v i) (m (without n p i) n)) n) (m p n) pos (good p n hp (omega arith))
@@ -208,7 +218,8 @@ module _ {F : Operations} (L : BinaryField F) where
     raised-row v c =
         let z = F .mul (F .inv (m p n)) (m p c) in
         sym
-        (sym (rowBy-ext F n (λ i. raised v (without n p i)) v (cleared F n p m) (cleared F n p m) c (raised-other v) (λ k h. refl))
+        (sym (rowBy-ext F n (λ i. raised v (without n p i)) v (cleared F n p m) (cleared F n p m) c
+        (raised-other v) (λ k h. refl))
         ∙ cleared-row (raised v) c
         ∙ ap (λ (t : ℕ). F .add (rowBy F (suc n) (raised v) m c) (F .mul t z)) (column-zero v)
         ∙ ap (F .add (rowBy F (suc n) (raised v) m c)) (zero-mul L z)
@@ -224,11 +235,13 @@ module _ {F : Operations} (L : BinaryField F) where
       unfolding above
       reach-above r c hr hc = at (decLt c n) (every-row n (cleared F n p m) b r)
         where
-          at : Dec (c < n) → (w : Reached F n (cleared F n p m) (unit r)) → rowBy F (suc n) (raised (w .weights)) m c ≡ unit r c
+          at : Dec (c < n) → (w : Reached F n (cleared F n p m) (unit r))
+              → rowBy F (suc n) (raised (w .weights)) m c ≡ unit r c
           at (yes h) w = raised-row (w .weights) c ∙ w .reach c h
           at (no h) w =
               let e : c ≡ n = omega arith in
-              ap (rowBy F (suc n) (raised (w .weights)) m) e ∙ column-zero (w .weights) ∙ sym (unit-other r c (λ d. omega arith))
+              ap (rowBy F (suc n) (raised (w .weights)) m) e ∙ column-zero (w .weights)
+              ∙ sym (unit-other r c (λ d. omega arith))
 
       -- the last row: the pivot's row divided by the pivot, with what it has in the other columns taken away
       divided : ℕ → ℕ
@@ -257,12 +270,14 @@ module _ {F : Operations} (L : BinaryField F) where
       reach-last c hc =
           let q = F .inv (m p n) in
           rowBy-add L (suc n) (λ k. F .mul q (unit p k)) (rowBy F n divided above) m c
-          ∙ ap₂ (F .add) (rowBy-mul L (suc n) q (unit p) m c ∙ ap (F .mul q) (unit-rowBy L (suc n) p m c hp (good p c hp hc)))
+          ∙ ap₂ (F .add)
+          (rowBy-mul L (suc n) q (unit p) m c ∙ ap (F .mul q) (unit-rowBy L (suc n) p m c hp (good p c hp hc)))
           (rowBy-rowBy L n (suc n) divided above m c
-          ∙ rowBy-ext F n divided divided (λ j. rowBy F (suc n) (above j) m) unit c (λ k h. refl) (λ k h. reach-above k c h hc))
+          ∙ rowBy-ext F n divided divided (λ j. rowBy F (suc n) (above j) m) unit c (λ k h. refl)
+          (λ k h. reach-above k c h hc))
           ∙ left-over c hc
 
-      pub whole-inverse : LeftInverse F (suc n) m
+      whole-inverse : LeftInverse F (suc n) m
       whole-inverse r hr = at (ℕ-discrete r n)
         where
           at : Dec (r ≡ n) → Reached F (suc n) m (unit r)

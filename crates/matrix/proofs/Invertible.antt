@@ -15,8 +15,11 @@ use Rattle.matrix.specs.Layout.{place, entry, matrixOf, Matrix}
 use Rattle.matrix.specs.Product.{rowBy, unit, identity, matrixProduct}
 use Rattle.matrix.specs.Elimination.{invertible, Inverse, HasInverse}
 use Rattle.matrix.proofs.LayoutLaws.{place-below, entry-matrixOf, matrixOf-ext, entry-below, matrixOf-good}
-use Rattle.matrix.proofs.ProductLaws.{unit-same, unit-below, rowBy-ext, rowBy-below, rowBy-mul, rowBy-column-zero, unit-rowBy, product-elements, identity-elements, product-assoc, identity-left}
-use Rattle.matrix.proofs.EliminationLaws.{Reached, LeftInverse, Elements, every-row, inverse-found, found-inverse}
+use Rattle.matrix.proofs.ProductLaws.{unit-same, unit-below, rowBy-ext, rowBy-below, rowBy-mul}
+use Rattle.matrix.proofs.ProductLaws.{rowBy-column-zero, unit-rowBy, product-elements, identity-elements}
+use Rattle.matrix.proofs.ProductLaws.{product-assoc, identity-left}
+use Rattle.matrix.proofs.EliminationLaws.{Reached, LeftInverse, Elements, every-row, inverse-found}
+use Rattle.matrix.proofs.EliminationLaws.{found-inverse}
 
 module _ {F : Operations} (L : BinaryField F) where
   -- ---- lists of 64 and functions of row and column
@@ -47,7 +50,8 @@ module _ {F : Operations} (L : BinaryField F) where
               gives-identity =
                   matrixOf-ext (λ r. rowBy F 8 (entry (matrixOf b) r) (entry m)) unit
                   (λ r c hr hc.
-                  rowBy-ext F 8 (entry (matrixOf b) r) (b r) (entry m) (entry m) c (λ k h. entry-matrixOf b r k hr h) (λ k h. refl)
+                  rowBy-ext F 8 (entry (matrixOf b) r) (b r) (entry m) (entry m) c
+                  (λ k h. entry-matrixOf b r k hr h) (λ k h. refl)
                   ∙ rowBy-mul L 8 1 (reached r .weights) (entry m) c
                   ∙ L .one-mul (rowBy-below L 8 (reached r .weights) (entry m) c)
                   ∙ reached r .reach c hc);
@@ -69,27 +73,30 @@ module _ {F : Operations} (L : BinaryField F) where
       λ h. inverse-found L 8 (entry m) (entries-elements m good) (entries-inverse (h .inverse) m (h .inverts)),
     )
 
-    pub invertible-by : (b : List ℕ) → Inverse F b m → invertible F 8 (entry m) ≡ true
+    invertible-by : (b : List ℕ) → Inverse F b m → invertible F 8 (entry m) ≡ true
     invertible-by b i = invertible-iff .1 (record { inverse = b; inverts = i })
 
-    pub not-invertible : (HasInverse F m → ⊥) → invertible F 8 (entry m) ≡ false
+    not-invertible : (HasInverse F m → ⊥) → invertible F 8 (entry m) ≡ false
     not-invertible h = not-true-false (invertible F 8 (entry m)) (λ e. h (invertible-iff .0 e))
 
   -- ---- products
 
-  pub product-inverse : (a b m n : List ℕ) → Matrix (F .size) n → Inverse F a m → Inverse F b n
+  product-inverse : (a b m n : List ℕ) → Matrix (F .size) n → Inverse F a m → Inverse F b n
       → Inverse F (matrixProduct F b a) (matrixProduct F m n)
   product-inverse a b m n good i j =
       record {
         elements = product-elements L b a;
         gives-identity =
             product-assoc L b a (matrixProduct F m n)
-            ∙ ap (matrixProduct F b) (sym (product-assoc L a m n) ∙ ap (λ (l : List ℕ). matrixProduct F l n) (i .gives-identity) ∙ identity-left L n good)
+            ∙ ap (matrixProduct F b)
+            (sym (product-assoc L a m n) ∙ ap (λ (l : List ℕ). matrixProduct F l n) (i .gives-identity)
+            ∙ identity-left L n good)
             ∙ j .gives-identity;
       }
 
   pub product-invertible : (m n : List ℕ) → Matrix (F .size) m → Matrix (F .size) n
-      → invertible F 8 (entry m) ≡ true → invertible F 8 (entry n) ≡ true → invertible F 8 (entry (matrixProduct F m n)) ≡ true
+      → invertible F 8 (entry m) ≡ true → invertible F 8 (entry n) ≡ true
+      → invertible F 8 (entry (matrixProduct F m n)) ≡ true
   product-invertible m n gm gn em en =
       let i = invertible-iff m gm .0 em in
       let j = invertible-iff n gn .0 en in
@@ -99,7 +106,8 @@ module _ {F : Operations} (L : BinaryField F) where
   -- ---- some that are, and one that is not
 
   pub identity-inverse : Inverse F identity identity
-  identity-inverse = record { elements = identity-elements L; gives-identity = identity-left L identity (identity-elements L) }
+  identity-inverse =
+      record { elements = identity-elements L; gives-identity = identity-left L identity (identity-elements L) }
 
   pub identity-invertible : invertible F 8 (entry identity) ≡ true
   identity-invertible = invertible-by identity (identity-elements L) identity identity-inverse
@@ -112,7 +120,8 @@ module _ {F : Operations} (L : BinaryField F) where
   permuted-elements s = matrixOf-good (λ r. unit (s r)) (L .zero-below) (λ r c hr hc. unit-below L (s r) c)
 
   -- where s takes back what t does, the one's matrix is an inverse of the other's
-  pub permuted-inverse : (s t : ℕ → ℕ) → ((r : ℕ) → r < 8 → t r < 8) → ((r : ℕ) → r < 8 → s (t r) ≡ r) → Inverse F (permuted t) (permuted s)
+  pub permuted-inverse : (s t : ℕ → ℕ) → ((r : ℕ) → r < 8 → t r < 8) → ((r : ℕ) → r < 8 → s (t r) ≡ r)
+      → Inverse F (permuted t) (permuted s)
   unfolding matrixProduct identity
   permuted-inverse s t below back =
       record {
@@ -133,10 +142,11 @@ module _ {F : Operations} (L : BinaryField F) where
       (permuted-inverse (λ r. 7 - r) (λ r. 7 - r) (λ r h. omega arith) (λ r h. omega arith))
 
   -- a column of zeros
-  pub zero-column : (m : List ℕ) (c : ℕ) → c < 8 → ((r : ℕ) → r < 8 → entry m r c ≡ 0) → HasInverse F m → ⊥
+  zero-column : (m : List ℕ) (c : ℕ) → c < 8 → ((r : ℕ) → r < 8 → entry m r c ≡ 0) → HasInverse F m → ⊥
   zero-column m c hc zeros h =
       let w = entries-inverse (h .inverse) m (h .inverts) c hc in
-      let e : _≡_ {A = ℕ} 0 1 = sym (rowBy-column-zero L 8 (w .weights) (entry m) c zeros) ∙ w .reach c hc ∙ unit-same c c refl in
+      let e : _≡_ {A = ℕ} 0 1 =
+      sym (rowBy-column-zero L 8 (w .weights) (entry m) c zeros) ∙ w .reach c hc ∙ unit-same c c refl in
       omega arith
 
   -- the blank matrix
@@ -149,7 +159,8 @@ module _ {F : Operations} (L : BinaryField F) where
 
   pub zero-not-invertible : invertible F 8 (entry (replicate 64 0)) ≡ false
   unfolding entry
-  zero-not-invertible = not-invertible (replicate 64 0) zero-elements (zero-column (replicate 64 0) 0 (omega arith) blank)
+  zero-not-invertible =
+      not-invertible (replicate 64 0) zero-elements (zero-column (replicate 64 0) 0 (omega arith) blank)
     where
       blank : (r : ℕ) → r < 8 → entry (replicate 64 0) r 0 ≡ 0
       blank r h = getD-replicate 64 (place r 0) 0 0 (place-below r 0 h (omega arith))

@@ -65,27 +65,33 @@ entry-matrixOf f r c hr hc =
 -- matrices with the same entries are the same
 pub matrixOf-ext : (f g : ℕ → ℕ → ℕ) → ((r c : ℕ) → r < 8 → c < 8 → f r c ≡ g r c) → matrixOf f ≡ matrixOf g
 matrixOf-ext f g equal =
-    ext-getD 0 (matrixOf f) (matrixOf g) (length-matrixOf f ∙ sym (length-matrixOf g)) (λ k h. at k (omega (arith, length-matrixOf f)))
+    ext-getD 0 (matrixOf f) (matrixOf g) (length-matrixOf f ∙ sym (length-matrixOf g))
+    (λ k h. at k (omega (arith, length-matrixOf f)))
   where
     at : (k : ℕ) → k < 64 → getD (matrixOf f) k 0 ≡ getD (matrixOf g) k 0
-    at k h = getD-matrixOf f k h ∙ equal (rowOf k) (columnOf k) (row-below k h) (column-below k h) ∙ sym (getD-matrixOf g k h)
+    at k h =
+        getD-matrixOf f k h ∙ equal (rowOf k) (columnOf k) (row-below k h) (column-below k h)
+        ∙ sym (getD-matrixOf g k h)
 
 -- a list of 64 is the matrix of its entries
 pub matrixOf-entry : (m : List ℕ) → length m ≡ 64 → matrixOf (entry m) ≡ m
 unfolding entry
 matrixOf-entry m l =
-    ext-getD 0 (matrixOf (entry m)) m (length-matrixOf (entry m) ∙ sym l) (λ k h. at k (omega (arith, length-matrixOf (entry m))))
+    ext-getD 0 (matrixOf (entry m)) m (length-matrixOf (entry m) ∙ sym l)
+    (λ k h. at k (omega (arith, length-matrixOf (entry m))))
   where
     at : (k : ℕ) → k < 64 → getD (matrixOf (entry m)) k 0 ≡ getD m k 0
     at k h = getD-matrixOf (entry m) k h ∙ ap (λ (j : ℕ). getD m j 0) (place-of k h)
 
 -- two lists of 64 with the same entries are the same
-pub matrix-ext : (m m' : List ℕ) → length m ≡ 64 → length m' ≡ 64 → ((r c : ℕ) → r < 8 → c < 8 → entry m r c ≡ entry m' r c) → m ≡ m'
+pub matrix-ext : (m m' : List ℕ) → length m ≡ 64 → length m' ≡ 64
+    → ((r c : ℕ) → r < 8 → c < 8 → entry m r c ≡ entry m' r c) → m ≡ m'
 matrix-ext m m' l l' equal =
     sym (matrixOf-entry m l) ∙ matrixOf-ext (entry m) (entry m') equal ∙ matrixOf-entry m' l'
 
 -- a matrix by its entries
-pub by-entries : (m : List ℕ) (f : ℕ → ℕ → ℕ) → length m ≡ 64 → ((r c : ℕ) → r < 8 → c < 8 → entry m r c ≡ f r c) → m ≡ matrixOf f
+pub by-entries : (m : List ℕ) (f : ℕ → ℕ → ℕ) → length m ≡ 64 → ((r c : ℕ) → r < 8 → c < 8 → entry m r c ≡ f r c)
+    → m ≡ matrixOf f
 by-entries m f l h = sym (matrixOf-entry m l) ∙ matrixOf-ext (entry m) f h
 
 -- ---- bounds
@@ -94,7 +100,8 @@ pub entry-below : {n : ℕ} (m : List ℕ) (r c : ℕ) → ((k : ℕ) → getD m
 unfolding entry
 entry-below m r c below = below (place r c)
 
-pub matrixOf-below : {n : ℕ} (f : ℕ → ℕ → ℕ) → 0 < n → ((r c : ℕ) → r < 8 → c < 8 → f r c < n) → (k : ℕ) → getD (matrixOf f) k 0 < n
+matrixOf-below : {n : ℕ} (f : ℕ → ℕ → ℕ) → 0 < n → ((r c : ℕ) → r < 8 → c < 8 → f r c < n) → (k : ℕ)
+    → getD (matrixOf f) k 0 < n
 matrixOf-below {n} f pos below k = go (decLt k 64)
   where
     go : Dec (k < 64) → getD (matrixOf f) k 0 < n

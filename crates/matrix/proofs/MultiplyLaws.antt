@@ -17,7 +17,8 @@ use Rattle.matrix.proofs.StoreLaws.{store-same, store-other}
 use Rattle.matrix.proofs.SumLaws.{sum-ext}
 
 -- logarithms lead to no place outside of their table
-pub all-near : {f : Field} {table : List ℕ} → ProductsBy f table → (y : ℕ → ℕ) (n : ℕ) (logs : List ℕ) → LogarithmsOf table y n logs
+pub all-near : {f : Field} {table : List ℕ} → ProductsBy f table → (y : ℕ → ℕ) (n : ℕ) (logs : List ℕ)
+    → LogarithmsOf table y n logs
     → Near table n logs
 all-near by y n logs l k h = omega (arith, l k h .entry, by .near (y k) (l k h .byte))
 
@@ -41,11 +42,13 @@ filled-next g column r m a hr hc w =
 
 -- ---- column after column
 
-module _ {f : Field} {table : List ℕ} (by : ProductsBy f table) (a rows b : List ℕ) (l : LogarithmsOf table (λ k. getD a k 0) 64 rows) where
+module _ {f : Field} {table : List ℕ} (by : ProductsBy f table) (a rows b : List ℕ)
+    (l : LogarithmsOf table (λ k. getD a k 0) 64 rows) where
   row-product : (c : ℕ) (column : List ℕ) → LogarithmsOf table (λ k. entry b k c) 8 column → (r : ℕ) → r < 8
       → rowByLogarithms (operations f) table rows column r ≡ rowBy (operations f) 8 (entry a r) (entry b) c
   unfolding entry
-  row-product c column k r hr = sum-ext (operations f) _ _ 8 (λ j h. sum-product by (l (place r j) (place-below r j hr h)) (k j h))
+  row-product c column k r hr =
+      sum-ext (operations f) _ _ 8 (λ j h. sum-product by (l (place r j) (place-below r j hr h)) (k j h))
 
   pub columns-next : (c : ℕ) (m after column : List ℕ) → c < 8 → LogarithmsOf table (λ k. entry b k c) 8 column
       → ColumnFilled (rowByLogarithms (operations f) table rows column) c 8 m after

@@ -16,4 +16,5 @@ module _ (m : List ℕ) (r c v : ℕ) (hr : r < 8) (hc : c < 8) where
   pub store-other : (i j : ℕ) → i < 8 → j < 8 → (i ≡ r → j ≡ c → ⊥) → entry (set m (place r c) v) i j ≡ entry m i j
   unfolding entry
   store-other i j hi hj h =
-      getD-set-other m (place r c) (place i j) v 0 (λ e. h (place-row r c i j hr hc hi hj e) (place-column r c i j hr hc hi hj e))
+      getD-set-other m (place r c) (place i j) v 0
+      (λ e. h (place-row r c i j hr hc hi hj e) (place-column r c i j hr hc hi hj e))

@@ -42,7 +42,8 @@ module _ {F : Operations} (L : BinaryField F) where
   pub sum-add : (f g : ℕ → ℕ) (n : ℕ) → sum F (λ k. F .add (f k) (g k)) n ≡ F .add (sum F f n) (sum F g n)
   unfolding sum
   sum-add f g zero = sym (L .zero-add 0)
-  sum-add f g (suc n) = ap (λ (x : ℕ). F .add x (F .add (f n) (g n))) (sum-add f g n) ∙ four (sum F f n) (sum F g n) (f n) (g n)
+  sum-add f g (suc n) =
+      ap (λ (x : ℕ). F .add x (F .add (f n) (g n))) (sum-add f g n) ∙ four (sum F f n) (sum F g n) (f n) (g n)
     where
       four : (a b x y : ℕ) → F .add (F .add a b) (F .add x y) ≡ F .add (F .add a x) (F .add b y)
       four a b x y = simp ring
@@ -55,10 +56,12 @@ module _ {F : Operations} (L : BinaryField F) where
 
   pub sum-mul : (f : ℕ → ℕ) (a : ℕ) (n : ℕ) → F .mul (sum F f n) a ≡ sum F (λ k. F .mul (f k) a) n
   sum-mul f a n =
-      L .mul-comm (sum F f n) a ∙ mul-sum a f n ∙ sum-ext F (λ k. F .mul a (f k)) (λ k. F .mul (f k) a) n (λ k h. L .mul-comm a (f k))
+      L .mul-comm (sum F f n) a ∙ mul-sum a f n
+      ∙ sum-ext F (λ k. F .mul a (f k)) (λ k. F .mul (f k) a) n (λ k h. L .mul-comm a (f k))
 
   -- two sums exchanged
-  pub sum-exchange : (f : ℕ → ℕ → ℕ) (n m : ℕ) → sum F (λ i. sum F (λ j. f i j) m) n ≡ sum F (λ j. sum F (λ i. f i j) n) m
+  pub sum-exchange : (f : ℕ → ℕ → ℕ) (n m : ℕ)
+      → sum F (λ i. sum F (λ j. f i j) m) n ≡ sum F (λ j. sum F (λ i. f i j) n) m
   unfolding sum
   sum-exchange f zero m = sym (sum-zeros (λ j. 0) m (λ k h. refl))
   sum-exchange f (suc n) m =

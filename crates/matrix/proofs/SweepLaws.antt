@@ -39,13 +39,15 @@ pivot-same f g zero h = refl
 pivot-same f g (suc n) h =
     ap₂ (λ (x p : ℕ). cond (eqb x 0) p (suc n)) (h (suc n) (omega arith)) (pivot-same f g n (λ i b. h i (omega arith)))
 
-cleared-same : (F : Operations) (n p : ℕ) (m m' : ℕ → ℕ → ℕ) → p < suc n → ((i c : ℕ) → i < suc n → c < suc n → m i c ≡ m' i c)
+cleared-same : (F : Operations) (n p : ℕ) (m m' : ℕ → ℕ → ℕ) → p < suc n
+    → ((i c : ℕ) → i < suc n → c < suc n → m i c ≡ m' i c)
     → (i c : ℕ) → i < n → c < n → cleared F n p m i c ≡ cleared F n p m' i c
 unfolding cleared
 cleared-same F n p m m' hp same i c hi hc =
     let w = without n p i in
     let hw = without-below n p i hi in
-    λ j. F .add (same w c hw (omega arith) j) (F .mul (same w n hw (omega arith) j) (F .mul (F .inv (same p n hp (omega arith) j)) (same p c hp (omega arith) j)))
+    λ j. F .add (same w c hw (omega arith) j)
+    (F .mul (same w n hw (omega arith) j) (F .mul (F .inv (same p n hp (omega arith) j)) (same p c hp (omega arith) j)))
 
 pub invertible-same : (F : Operations) (n : ℕ) (m m' : ℕ → ℕ → ℕ) → ((i c : ℕ) → i < n → c < n → m i c ≡ m' i c)
     → invertible F n m ≡ invertible F n m'
@@ -63,7 +65,12 @@ invertible-same F (suc n) m m' same =
 
 pub raised-start : (n p : ℕ) (m : List ℕ) → length m ≡ 64 → Raised n p 0 m m
 raised-start n p m l =
-    record { size = l; last = λ c h. absurd (omega arith); others = λ i c hi h. absurd (omega arith); rest = λ i c hi hc h. refl }
+    record {
+      size = l;
+      last = λ c h. absurd (omega arith);
+      others = λ i c hi h. absurd (omega arith);
+      rest = λ i c hi hc h. refl;
+    }
 
 module _ (n p j : ℕ) (m a : List ℕ) (hp : p ≤ n) (hn : n < 8) (hj : j ≤ n) (w : Raised n p j m a) where
   abbrev a₁ : List ℕ
@@ -118,7 +125,8 @@ module _ (n p j : ℕ) (m a : List ℕ) (hp : p ≤ n) (hn : n < 8) (hj : j ≤ 
       other i c hi h (no d) = away i c (omega arith) (omega arith) d ∙ w .others i c hi (omega arith)
 
 -- the logarithms of row p are those of the row that has its place
-pub raised-logarithms : (n p : ℕ) (m a table logs : List ℕ) → Raised n p (n + 1) m a → LogarithmsOf table (entry m p) (n + 1) logs
+pub raised-logarithms : (n p : ℕ) (m a table logs : List ℕ) → Raised n p (n + 1) m a
+    → LogarithmsOf table (entry m p) (n + 1) logs
     → LogarithmsOf table (entry a n) n logs
 raised-logarithms n p m a table logs w l j h = same-number (sym (w .last j (omega arith))) (l j (omega arith))
 
@@ -138,7 +146,8 @@ module _ (F : Operations) (g : ℕ → ℕ) (i : ℕ) (m : List ℕ) where
           size = length-set a (place i j) gained ∙ w .size;
           done = λ c h. done c h (ℕ-discrete c j);
           rest = λ r c hr hc h.
-              store-other a i j gained hi hj r c hr hc (λ e d. h e (omega arith)) ∙ w .rest r c hr hc (λ e d. h e (omega arith));
+              store-other a i j gained hi hj r c hr hc (λ e d. h e (omega arith))
+              ∙ w .rest r c hr hc (λ e d. h e (omega arith));
         }
       where
         done : (c : ℕ) → c < j + 1 → Dec (c ≡ j) → entry (set a (place i j) gained) i c ≡ F .add (entry m i c) (g c)
@@ -149,7 +158,8 @@ module _ (F : Operations) (g : ℕ → ℕ) (i : ℕ) (m : List ℕ) where
         done c h (no d) =
             store-other a i j gained hi hj i c hi (omega arith) (λ _ e. d e) ∙ w .done c (omega arith)
 
-  pub row-same : (g' : ℕ → ℕ) (j : ℕ) (a : List ℕ) → ((c : ℕ) → c < j → g c ≡ g' c) → RowGained F g i j m a → RowGained F g' i j m a
+  pub row-same : (g' : ℕ → ℕ) (j : ℕ) (a : List ℕ) → ((c : ℕ) → c < j → g c ≡ g' c) → RowGained F g i j m a
+      → RowGained F g' i j m a
   row-same g' j a same w =
       record { size = w .size; done = λ c h. w .done c h ∙ ap (F .add (entry m i c)) (same c h); rest = w .rest }
 
@@ -158,7 +168,8 @@ module _ (F : Operations) (g : ℕ → ℕ) (i : ℕ) (m : List ℕ) where
 pub swept-start : (F : Operations) (q n : ℕ) (m : List ℕ) → length m ≡ 64 → Swept F q n 0 m m
 swept-start F q n m l = record { size = l; done = λ r c h hc. absurd (omega arith); rest = λ r c hr hc h. refl }
 
-pub swept-next : (F : Operations) (q n i : ℕ) (m a b : List ℕ) → i < n → n < 8 → Swept F q n i m a → RowGained F (gain F q n a i) i n a b
+pub swept-next : (F : Operations) (q n i : ℕ) (m a b : List ℕ) → i < n → n < 8 → Swept F q n i m a
+    → RowGained F (gain F q n a i) i n a b
     → Swept F q n (i + 1) m b
 swept-next F q n i m a b hi hn w v =
     record {
@@ -189,11 +200,13 @@ module _ {F : Operations} (L : BinaryField F) (n : ℕ) (m : List ℕ) (p : ℕ)
   divided : (q x y : ℕ) → F .mul (F .mul q x) y ≡ F .mul x (F .mul q y)
   divided q x y = ap (λ (z : ℕ). F .mul z y) (L .mul-comm q x) ∙ L .mul-assoc x q y
 
-  pub clear-some : (q : ℕ) (a b : List ℕ) → (entry m p n ≡ 0 → ⊥) → q ≡ F .inv (entry m p n) → Raised n p (n + 1) m a → Swept F q n n a b
+  pub clear-some : (q : ℕ) (a b : List ℕ) → (entry m p n ≡ 0 → ⊥) → q ≡ F .inv (entry m p n) → Raised n p (n + 1) m a
+      → Swept F q n n a b
       → n < 8 → invertible F (n + 1) (entry m) ≡ true && invertible F n (entry b)
   unfolding invertible cleared
   clear-some q a b d e w v hn =
-      rw (add-one n, ← at, ne-eqb (entry m p n) 0 d) (invertible-same F n (cleared F n p (entry m)) (entry b) (λ i c hi hc. sym (same i c hi hc)))
+      rw (add-one n, ← at, ne-eqb (entry m p n) 0 d)
+      (invertible-same F n (cleared F n p (entry m)) (entry b) (λ i c hi hc. sym (same i c hi hc)))
     where
       same : (i c : ℕ) → i < n → c < n → entry b i c ≡ cleared F n p (entry m) i c
       same i c hi hc =
@@ -201,4 +214,5 @@ module _ {F : Operations} (L : BinaryField F) (n : ℕ) (m : List ℕ) (p : ℕ)
           let y = w .others i n hi (omega arith) in
           let z = w .last c (omega arith) in
           v .done i c hi hc ∙ (λ k. F .add (x k) (F .mul (F .mul (e k) (y k)) (z k)))
-          ∙ ap (F .add (entry m (without n p i) c)) (divided (F .inv (entry m p n)) (entry m (without n p i) n) (entry m p c))
+          ∙ ap (F .add (entry m (without n p i) c))
+          (divided (F .inv (entry m p n)) (entry m (without n p i) n) (entry m p c))

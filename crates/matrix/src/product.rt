@@ -77,7 +77,8 @@ fn fill_column(
         ⌝ }
     ensures { λ _.
         ⌜
-        ColumnFilled (rowByLogarithms (operations f) (now (table .entry)) (now (a .entry)) (now (b .entry))) column 8 (now (m .entry)) (now (m .exit))
+        ColumnFilled (rowByLogarithms (operations f) (now (table .entry)) (now (a .entry)) (now (b .entry))) column 8
+        (now (m .entry)) (now (m .exit))
         ⌝ }
 {
     let mut r = 0;

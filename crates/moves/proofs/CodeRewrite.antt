@@ -8,7 +8,9 @@ use lib.Seq.{length-take-le}
 use Rattle.base.specs.Questions.{firstNo}
 use Rattle.braid.specs.Words.{codes, wordAnswer, wordFile, writerQuestions, Wrote}
 use Rattle.braid.proofs.LetterLaws.{Lettered}
+use Rattle.braid.proofs.ReadLaws.{accepted-word}
 use Rattle.braid.proofs.WriteLaws.{wrote-same, writable}
+use Rattle.same_braid.proofs.Laws.{same-lettered}
 use Rattle.rewriting.specs.Rewriting.{steps, rewritten, listQuestions, rewriterQuestions}
 use Rattle.rewriting.specs.Leaving.{moved, Leaves}
 use Rattle.rewriting.proofs.MoveByMove.{answers-alike, words-alike}
@@ -28,5 +30,6 @@ module _ (word moves out : List ℕ) (room : 5002 ≤ length out) (w : wordAnswe
       let made : moved (steps moves) (codes word) .answer ≡ 0 = sym (r .answer-is) ∙ z in
       let new : take letters row ≡ rewritten word moves = r .word-is ∙ words-alike (steps moves) (codes word) made in
       let few′ : length (take letters row) ≤ 10000 = omega (arith, length-take-le letters row (r .letters-in)) in
-      let good : Lettered (take letters row) = rw new (word-kept word moves w (answers-alike (steps moves) (codes word) ∙ made) .lettered) in
+      let kept = word-kept word moves w (answers-alike (steps moves) (codes word) ∙ made) in
+      let good : Lettered (take letters row) = rw new (same-lettered (kept .same) (accepted-word word w .lettered)) in
       wrote-same (writable (length out) (take letters row) room few′ good ∙ sym (rewriter-answer ∙ made)) (ap wordFile new) o

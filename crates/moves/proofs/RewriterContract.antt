@@ -11,7 +11,7 @@ use Rattle.braid.specs.Words.{codes, wordAnswer, wordFile}
 use Rattle.braid.proofs.RoundTrip.{wrote-file}
 use Rattle.verify.proofs.WrongVerdicts.{Bytes}
 use Rattle.rewriting.specs.Rewriting.{steps, moveQuestions, rewritten, listQuestions, rewriterQuestions}
-use Rattle.moves.specs.Meaning.{Rewrote}
+use Rattle.moves.specs.Rewriter.{Rewrote}
 use Rattle.rewriting.proofs.RewriterAnswer.{past-list}
 
 -- what a rewriter leaves

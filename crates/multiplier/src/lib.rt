@@ -9,14 +9,10 @@ use field::LARGE_MODULUS;
 use field::SMALL_BITS;
 use field::SMALL_MODULUS;
 use field::inverse;
-use operands::all_fit;
-use operands::all_nonzero;
-use operands::is_order;
 ghost use mathlib.Core.Path.{_≡_};
 ghost use mathlib.Core.Bool.{true};
-ghost use Prim.Native.Nat.{_+_, _%_, _^_, _<_};
+ghost use Prim.Native.Nat.{_<_};
 ghost use lib.ListN.{length};
-ghost use Rattle.base.specs.Questions.{firstNo};
 ghost use Rattle.field.specs.Polynomial.{polynomials};
 ghost use Rattle.field.specs.Reciprocals.{lookedUp, LentField};
 ghost use Rattle.field.specs.Fields.{operations};
@@ -24,38 +20,7 @@ ghost use Rattle.braid.specs.Letters.{isLetter};
 ghost use Rattle.columns.specs.Constants.{Bytes, Multiples};
 ghost use Rattle.action.specs.Action.{letterOn};
 ghost use Rattle.action.specs.Columns.{takenBy};
-ghost use Rattle.action.specs.Multiplier.{multiplierQuestions, Multiplies};
-
-// The number of the first question answered no, 0 if there is none: 17, 4, 6, 12, over a field whose elements have so
-// many bits.
-fn multiplier_answer(pair: Pair, t_values: &[u8; 8], letter: u8, bits: usize, f: Field) -> u8
-    requires { ⌜ operations f .size ≡ 2 ^ bits ⌝ }
-    ensures { λ r. ⌜ r ≡ firstNo (multiplierQuestions f pair (now («t_values» .entry)) letter) ⌝ }
-{
-    let matrix = pair.matrix;
-    let labels = pair.labels;
-    let values = all_fit(t_values, bits);
-    let entries = all_fit(&matrix, bits);
-    let nonzero = all_nonzero(t_values);
-    let order = is_order(&labels);
-    let coded = braid::is_letter(letter);
-    if !values {
-        return 17;
-    }
-    if !entries {
-        return 17;
-    }
-    if !nonzero {
-        return 4;
-    }
-    if !order {
-        return 6;
-    }
-    if !coded {
-        return 12;
-    }
-    0
-}
+ghost use Rattle.action.specs.Multiplier.{Multiplies};
 
 // The number that a letter takes, whose own column is g, by the lent table of reciprocals.
 fn taken(t_values: &[u8], labels: &[u8; 8], negative: bool, g: usize, table: &[u8]) -> u8
@@ -127,17 +92,16 @@ fn multiplied(
     requires { ⌜ LentField bits modulus (now table) × (operations f ≡ polynomials bits modulus) ⌝ }
     ensures { λ r. ⌜ Multiplies f pair (now («t_values» .entry)) letter (r .answer) (r .pair) ⌝ }
 {
-    let answer = multiplier_answer(pair, t_values, letter, bits, f);
-    if answer != 0 {
-        let zeros = Pair::zeros();
-        return Multiplied {
-            answer,
-            pair: zeros,
-        };
+    let refusal = action::pair_answer(pair, t_values, &[], bits, f);
+    if refusal != 0 {
+        return Multiplied::refused(refusal);
+    }
+    if !braid::is_letter(letter) {
+        return Multiplied::refused(12);
     }
     let after = crossed(pair, t_values, letter, table, bits, modulus);
     Multiplied {
-        answer,
+        answer: 0,
         pair: after,
     }
 }

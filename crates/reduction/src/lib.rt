@@ -102,15 +102,12 @@ pub fn free_reduce(word: &[u8], out: &mut [u8]) -> Written
     ensures { λ r. ⌜ WroteReduced (now (word .entry)) (now (out .entry)) (now (out .exit)) (r .answer) (r .bytes) ⌝ }
 {
     if out.len() < MAX_BYTES {
-        return Written {
-            answer: 15,
-            bytes: 0,
-        };
+        return Written::refused(15);
     }
     let w = read_word(word);
     let answer = w.answer;
     if answer != 0 {
-        return Written { answer, bytes: 0 };
+        return Written::refused(answer);
     }
     let letters = w.letters;
     let part = &word[2..];

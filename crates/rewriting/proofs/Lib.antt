@@ -1,10 +1,8 @@
-pub mod Kept
-pub mod Parts
 pub mod MoveLaws
 pub mod MoveByMove
 pub mod ListClaim
 pub mod RewriterAnswer
+pub mod LongLists
 pub mod CodeRows
 pub mod CodeKinds
 pub mod CodeList
-pub mod SameLists

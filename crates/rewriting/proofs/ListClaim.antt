@@ -10,18 +10,19 @@ use Rattle.braid.specs.Words.{codes, wordAnswer}
 use Rattle.braid.proofs.LetterLaws.{Lettered}
 use Rattle.braid.proofs.ReadLaws.{accepted-word}
 use Rattle.rewriting.specs.Rewriting.{Step, moveOf, steps, moveQuestions, wordAfter, rewritten}
-use Rattle.rewriting.proofs.Kept.{Kept, kept-none, kept-then}
-use Rattle.rewriting.proofs.MoveLaws.{move-kept}
+use Rattle.same_braid.proofs.Laws.{same-lettered, same-none, same-then}
+use Rattle.rewriting.proofs.MoveLaws.{Kept, move-kept}
 use Rattle.rewriting.proofs.MoveByMove.{move-numbered}
 
 pub moves-kept : (ss : List Step) (w : List ℕ) → Lettered w → length w ≤ 10000 → firstNo (moveQuestions ss w) ≡ 0 → Kept w (wordAfter ss w)
 unfolding moveQuestions wordAfter
-moves-kept [] w e few a = kept-none w e few
+moves-kept [] w e few a = record { same = same-none w; short = few }
 moves-kept (s ∷ ss) w e few a =
     let p =
     both-passed (moveOf s w .questions) (moveQuestions ss (moveOf s w .word)) (move-numbered (s .kind) (s .place) w) a in
     let one : Kept w (moveOf s w .word) = move-kept w e few (s .place) (s .kind) (p .0) in
-    kept-then one (moves-kept ss (moveOf s w .word) (one .lettered) (one .short) (p .1))
+    let rest = moves-kept ss (moveOf s w .word) (same-lettered (one .same) e) (one .short) (p .1) in
+    record { same = same-then (one .same) (rest .same); short = rest .short }
 
 -- the same from the file of an accepted word to the new word
 pub word-kept : (word moves : List ℕ) → wordAnswer word ≡ 0 → firstNo (moveQuestions (steps moves) (codes word)) ≡ 0

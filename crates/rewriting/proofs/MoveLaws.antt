@@ -1,91 +1,52 @@
--- What is kept by one move, whatever its kind and its place, where all its questions are passed.
-use Prim.Native.Nat.{ℕ, suc, _+_, _-_, _≤_}
+-- What is kept by one move, whatever its kind and its place, where all its questions are passed: the new word is the
+-- same braid, and of at most 10,000 letters.
+use Prim.Native.Nat.{ℕ, _+_, _-_, _≤_}
 use mathlib.Core.Path.{_≡_, refl, ap, subst}
-use mathlib.Core.Bool.{Bool, true, false, cond, _&&_, _||_}
+use mathlib.Core.Bool.{Bool, true, false, cond, _&&_}
 use mathlib.Core.List.{List, [], _∷_, _++_}
-use mathlib.Core.Logic.{_⊎_, inl, inr}
 use native.Mathlib.Omega.{arith}
-use native.Mathlib.Numerals.{add-one, add-two, add-three}
 use borrow.Author.Tests.{leb-true, eqb-true}
 use lib.Dec.{leb, eqb}
-use lib.ListN.{length, take, drop, getD, take-append-drop}
-use lib.Seq.{drop-cons}
+use lib.ListN.{length, take, drop, getD, length-append, length-take, length-drop, take-append-drop}
 use Rattle.base.specs.Questions.{firstNo}
 use Rattle.base.proofs.QuestionLaws.{answers-passed}
-use Rattle.base.proofs.ListLaws.{and-left, and-right, every-take, every-drop, every-getD, beq-true}
-use Rattle.braid.specs.Letters.{isLetter, isInverse, generator, inverse, far, neighbours, sameSign}
+use Rattle.base.proofs.ListLaws.{and-left, and-right, every-getD, beq-true}
+use Rattle.braid.specs.Letters.{isLetter, isInverse, inverse, neighbours, sameSign}
 use Rattle.braid.specs.Cancellation.{Move, removal}
-use Rattle.braid.proofs.LetterLaws.{Lettered, Apart, Neighbours}
+use Rattle.braid.proofs.LetterLaws.{Lettered, far-apart, beside}
+use Rattle.braid.proofs.CancellationLaws.{around, around-three}
+use Rattle.same_braid.specs.SameBraid.{SameBraid}
+use Rattle.same_braid.proofs.Laws.{same-turned, same-inside}
+use Rattle.same_braid.proofs.Relations.{cancelled, exchanged, braided}
+use Rattle.same_braid.proofs.Cancelling.{same-at, removal-same}
 use Rattle.rewriting.specs.Kinds.{exchange, braiding, inserts, insertion, unknown, move}
-use Rattle.rewriting.proofs.Kept.{Kept, StandsFor, kept-inside}
-use Rattle.rewriting.proofs.Parts.{cancelled, inserted, exchanged, braided}
 
--- ---- what passed tests tell
-
-either : (a b : Bool) → (a || b) ≡ true → (a ≡ true) ⊎ (b ≡ true)
-either true b e = inl refl
-either false b e = inr e
-
-far-apart : (c d : ℕ) → far c d ≡ true → Apart c d
-far-apart c d e = go (either (leb (generator c + 2) (generator d)) (leb (generator d + 2) (generator c)) e)
-  where
-    go : (leb (generator c + 2) (generator d) ≡ true) ⊎ (leb (generator d + 2) (generator c) ≡ true) → Apart c d
-    go (inl h) = inl (leb-true (generator c + 2) (generator d) h)
-    go (inr h) = inr (leb-true (generator d + 2) (generator c) h)
-
-beside : (j k : ℕ) → neighbours j k ≡ true → Neighbours j k
-beside j k e = go (either (eqb (generator j + 1) (generator k)) (eqb (generator k + 1) (generator j)) e)
-  where
-    go : (eqb (generator j + 1) (generator k) ≡ true) ⊎ (eqb (generator k + 1) (generator j) ≡ true) → Neighbours j k
-    go (inl h) = inl (eqb-true (generator j + 1) (generator k) h)
-    go (inr h) = inr (eqb-true (generator k + 1) (generator j) h)
-
--- ---- a word about two or three letters at a place
-
-module _ (w : List ℕ) (place : ℕ) where
-  around-two : place + 2 ≤ length w → take place w ++ (getD w place 0 ∷ getD w (place + 1) 0 ∷ drop (place + 2) w) ≡ w
-  around-two h =
-      let one = drop-cons w place 0 (omega arith) in
-      let two = drop-cons w (suc place) 0 (omega arith) in
-      rw (add-one, add-two, ← two, ← one) (take-append-drop place w)
-
-  around-three : place + 3 ≤ length w
-      → take place w ++ (getD w place 0 ∷ getD w (place + 1) 0 ∷ getD w (place + 2) 0 ∷ drop (place + 3) w) ≡ w
-  around-three h =
-      let one = drop-cons w place 0 (omega arith) in
-      let two = drop-cons w (suc place) 0 (omega arith) in
-      let three = drop-cons w (suc (suc place)) 0 (omega arith) in
-      rw (add-one, add-two, add-three, ← three, ← two, ← one) (take-append-drop place w)
-
--- ---- the kinds
+-- what is kept from the word w to the word v
+pub record Kept (w v : List ℕ) : Type 0 where
+  pub same : SameBraid w v
+  pub short : length v ≤ 10000
 
 -- what an accepted move keeps of the word w
 abbrev Keeps : List ℕ → Move → Type 0
 Keeps w m = firstNo (m .questions) ≡ 0 → Kept w (m .word)
 
 module _ (w : List ℕ) (e : Lettered w) (few : length w ≤ 10000) where
-  -- the part x, which is the n letters from the place on, gives way to y
-  replaced : (place n : ℕ) (x y : List ℕ) → take place w ++ (x ++ drop (place + n) w) ≡ w → StandsFor x y → length y ≤ length x
-      → Kept w (take place w ++ (y ++ drop (place + n) w))
-  replaced place n x y at s l =
-      let u : List ℕ = take place w in
-      let v : List ℕ = drop (place + n) w in
-      subst (λ (t : List ℕ). Kept t (u ++ (y ++ v))) at
-      (kept-inside u x y v s (every-take isLetter place w e) (every-drop isLetter (place + n) w e) (omega (arith, ap length at)))
-
   letter : (k : ℕ) → k + 1 ≤ length w → isLetter (getD w k 0) ≡ true
   letter k h = every-getD isLetter w e k (omega arith)
 
   module _ (place : ℕ) where
+    -- the part x, which is the n letters from the place on, gives way to y
+    replaced : (n : ℕ) (x y : List ℕ) → take place w ++ (x ++ drop (place + n) w) ≡ w → SameBraid x y → length y ≤ length x
+        → Kept w (take place w ++ (y ++ drop (place + n) w))
+    replaced n x y at s l =
+        record {
+          same = same-at w place n at s;
+          short = simp length-append (let h = simp length-append at (ap length at) in omega arith);
+        }
+
     removal-keeps : Keeps w (removal place w)
     removal-keeps a =
-        let p = answers-passed (removal place w .questions) tt a in
-        let c : ℕ = getD w place 0 in
-        let d : ℕ = getD w (place + 1) 0 in
-        let fits : place + 2 ≤ length w = leb-true (place + 2) (length w) (p .0) in
-        let e : d ≡ inverse c = eqb-true d (inverse c) (p .1 .0) in
-        let part : StandsFor (c ∷ d ∷ []) [] = rw e (cancelled c (letter place (omega arith))) in
-        replaced place 2 (c ∷ d ∷ []) [] (around-two w place fits) part (omega arith)
+        record { same = removal-same place w a e; short = simp (length-append, length-take, length-drop) (omega arith) }
 
     exchange-keeps : Keeps w (exchange place w)
     exchange-keeps a =
@@ -93,9 +54,8 @@ module _ (w : List ℕ) (e : Lettered w) (few : length w ≤ 10000) where
         let c : ℕ = getD w place 0 in
         let d : ℕ = getD w (place + 1) 0 in
         let fits : place + 2 ≤ length w = leb-true (place + 2) (length w) (p .0) in
-        let part : StandsFor (c ∷ d ∷ []) (d ∷ c ∷ []) =
-        exchanged c d (letter place (omega arith)) (letter (place + 1) (omega arith)) (far-apart c d (p .1 .0)) in
-        replaced place 2 (c ∷ d ∷ []) (d ∷ c ∷ []) (around-two w place fits) part (omega arith)
+        replaced 2 (c ∷ d ∷ []) (d ∷ c ∷ []) (around place w fits)
+        (exchanged c d (letter place (omega arith)) (letter (place + 1) (omega arith)) (far-apart c d (p .1 .0))) (omega arith)
 
     braiding-keeps : Keeps w (braiding place w)
     braiding-keeps a =
@@ -107,10 +67,10 @@ module _ (w : List ℕ) (e : Lettered w) (few : length w ≤ 10000) where
         let shape : neighbours j k && sameSign j k ≡ true = and-left (neighbours j k && sameSign j k) (eqb l j) (p .1 .0) in
         let again : l ≡ j = eqb-true l j (and-right (neighbours j k && sameSign j k) (eqb l j) (p .1 .0)) in
         let signs : isInverse j ≡ isInverse k = beq-true (isInverse j) (isInverse k) (and-right (neighbours j k) (sameSign j k) shape) in
-        let near : Neighbours j k = beside j k (and-left (neighbours j k) (sameSign j k) shape) in
-        let part : StandsFor (j ∷ k ∷ l ∷ []) (k ∷ j ∷ k ∷ []) =
-        rw again (braided j k (letter place (omega arith)) (letter (place + 1) (omega arith)) signs near) in
-        replaced place 3 (j ∷ k ∷ l ∷ []) (k ∷ j ∷ k ∷ []) (around-three w place fits) part (omega arith)
+        let part : SameBraid (j ∷ k ∷ l ∷ []) (k ∷ j ∷ k ∷ []) =
+        rw again
+        (braided j k (letter place (omega arith)) (letter (place + 1) (omega arith)) signs (beside j k (and-left (neighbours j k) (sameSign j k) shape))) in
+        replaced 3 (j ∷ k ∷ l ∷ []) (k ∷ j ∷ k ∷ []) (around-three place w fits) part (omega arith)
 
     insertion-keeps : (c : ℕ) → isLetter c ≡ true → Keeps w (insertion c place w)
     insertion-keeps c ec a =
@@ -119,9 +79,10 @@ module _ (w : List ℕ) (e : Lettered w) (few : length w ≤ 10000) where
         let v : List ℕ = drop place w in
         let room : length w + 2 ≤ 10000 = leb-true (length w + 2) 10000 (p .1 .0) in
         let whole : u ++ v ≡ w = take-append-drop place w in
-        subst (λ (t : List ℕ). Kept t (u ++ (c ∷ inverse c ∷ v))) whole
-        (kept-inside u [] (c ∷ inverse c ∷ []) v (inserted c ec) (every-take isLetter place w e) (every-drop isLetter place w e)
-        (omega (arith, ap length whole)))
+        record {
+          same = subst (λ (t : List ℕ). SameBraid t (u ++ (c ∷ inverse c ∷ v))) whole (same-inside u v (same-turned (cancelled c ec)));
+          short = simp (length-append, length-take, length-drop) (omega arith);
+        }
 
     unknown-keeps : Keeps w (unknown w)
     unfolding firstNo

@@ -4,42 +4,42 @@ use Prim.Native.Nat.{ℕ}
 use mathlib.Core.Path.{_≡_, sym, _∙_}
 use mathlib.Core.Bool.{Bool, true, false, _&&_}
 use mathlib.Core.List.{List, _∷_}
-use lib.Dec.{eqb}
-use lib.ListN.{length}
-use Rattle.base.specs.Questions.{Question, _else_, firstNo}
+use Rattle.base.specs.Questions.{_else_, firstNo}
 use Rattle.base.specs.Lists.{equal}
-use Rattle.base.proofs.QuestionLaws.{passes, all-passed, granted-zero, granted-refused}
+use Rattle.base.proofs.QuestionLaws.{passes, fails, all-passed, refused-there, granted-zero, granted-refused}
 use Rattle.field.specs.Binary.{Operations}
 use Rattle.field.specs.Fields.{operations}
 use Rattle.braid.specs.Words.{codes, wordQuestions, wordAnswer}
 use Rattle.action.specs.declared.Pair.{Pair}
 use Rattle.action.specs.Action.{pairOf, wordOn, start}
-use Rattle.braid.specs.Strands.{isOrder}
 use Rattle.key.specs.Keys.{keyField, keyQuestions, keyAnswer, keyOf}
-use Rattle.verify.specs.Cloaking.{samePair, comesBack, cloakQuestions, Cloaks}
-
--- is the list 8 bytes, 0 to 7 each once?
-abbrev pub isList : List ℕ → Bool
-isList order = eqb (length order) 8 && isOrder order
-
--- the questions after the key's
-abbrev pub afterKey : List ℕ → List ℕ → List Question
-afterKey order word = (isList order else 25) ∷ wordQuestions word
+use Rattle.verify.specs.Cloaking.{samePair, comesBack, isList, cloakQuestions, Cloaks}
 
 module _ (key order word : List ℕ) where
-  pub past-key : keyAnswer key ≡ 0 → firstNo (cloakQuestions key order word) ≡ firstNo (afterKey order word)
+  -- a refusal of the key or of the list
+  pub key-refused : (keyAnswer key ≡ 0 → ⊥) → firstNo (cloakQuestions key order word) ≡ keyAnswer key
   unfolding keyAnswer
-  past-key k = all-passed (keyQuestions key) (afterKey order word) tt k
+  key-refused h = refused-there (keyQuestions key) ((isList order else 25) ∷ wordQuestions word) tt h
 
-  pub past-list : keyAnswer key ≡ 0 → isList order ≡ true → firstNo (cloakQuestions key order word) ≡ wordAnswer word
-  unfolding wordAnswer
-  past-list k l = past-key k ∙ passes 25 (wordQuestions word) l
+  module _ (k : keyAnswer key ≡ 0) where
+    past-key : firstNo (cloakQuestions key order word) ≡ firstNo ((isList order else 25) ∷ wordQuestions word)
+    unfolding keyAnswer
+    past-key = all-passed (keyQuestions key) ((isList order else 25) ∷ wordQuestions word) tt k
 
-  -- a refusal: no
-  pub refused : {n : ℕ} → firstNo (cloakQuestions key order word) ≡ n → (n ≡ 0 → ⊥) → Cloaks key order word n false
-  refused e h = record { answer-is = sym e; yes-is = sym (granted-refused _ _ (λ z. h (sym e ∙ z))) }
+    pub list-refused : isList order ≡ false → firstNo (cloakQuestions key order word) ≡ 25
+    list-refused l = past-key ∙ fails 25 (wordQuestions word) l
 
-  -- every question is passed
+    -- key and list are passed: the word decides
+    pub past-list : isList order ≡ true → firstNo (cloakQuestions key order word) ≡ wordAnswer word
+    unfolding wordAnswer
+    past-list l = past-key ∙ passes 25 (wordQuestions word) l
+
+  -- what is given on a refusal, as `Cloak::refused` makes it: no
+  pub refused : {answer : ℕ} {yes : Bool} (n : ℕ) → (answer ≡ n) × (yes ≡ false) → firstNo (cloakQuestions key order word) ≡ n → (n ≡ 0 → ⊥)
+      → Cloaks key order word answer yes
+  refused n r e h = record { answer-is = r .0 ∙ sym e; yes-is = r .1 ∙ sym (granted-refused _ _ (λ z. h (sym e ∙ z))) }
+
+  -- what is given where every question is passed
   pub answered : firstNo (cloakQuestions key order word) ≡ 0 → {yes : Bool}
       → yes ≡ comesBack (operations (keyField key)) (keyOf key .«t_values») order (codes word) → Cloaks key order word 0 yes
   answered z e = record { answer-is = sym z; yes-is = e ∙ sym (granted-zero _ _ z) }

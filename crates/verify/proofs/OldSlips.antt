@@ -21,24 +21,22 @@ use Rattle.action.specs.Action.{wordOn, start}
 use Rattle.key.specs.declared.Key.{Key}
 use Rattle.key.specs.Keys.{keyField, keyQuestions, keyAnswer, keyOf}
 use Rattle.key.proofs.OldKeys.{oldKeyQuestions, oldKey, old-answers, old-keys}
-use Rattle.digest.specs.Digest.{encoded, digestQuestions}
-use Rattle.verify.specs.Verdict.{signed, target, verdict, signedOver, targetOver}
-use Rattle.verify.specs.Cloaking.{comesBack, cloakQuestions}
+use Rattle.digest.specs.Digest.{encoded}
+use Rattle.verify.specs.Verdict.{slipQuestions, verdict, signedOver, targetOver}
+use Rattle.verify.specs.Cloaking.{comesBack, isList, cloakQuestions}
 
 module _ (key : List ℕ) (h : length key ≡ 128 → ⊥) where
   old-field : keyField key ≡ Gf32
   unfolding keyField
   old-field = ap (λ (t : Bool). cond t Gf256 Gf32) (ne-eqb (length key) 128 h)
 
-  -- questions after the key's, over its field and what it holds
-  after-key : (qs : Field → Key → List Question)
-      → firstNo (keyQuestions key ++ qs (keyField key) (keyOf key)) ≡ firstNo (oldKeyQuestions key ++ qs Gf32 (oldKey key))
+  -- the key's questions, then others over what it holds
+  then-others : (qs : Key → List Question) → firstNo (keyQuestions key ++ qs (keyOf key)) ≡ firstNo (oldKeyQuestions key ++ qs (oldKey key))
   unfolding keyAnswer
-  after-key qs =
-      in-a-row (keyQuestions key) (qs (keyField key) (keyOf key)) tt
-      ∙ ap₂ (λ (n m : ℕ). granted n m n) (old-answers key h)
-      (ap₂ (λ (f : Field) (k : Key). firstNo (qs f k)) old-field (old-keys key h))
-      ∙ sym (in-a-row (oldKeyQuestions key) (qs Gf32 (oldKey key)) tt)
+  then-others qs =
+      in-a-row (keyQuestions key) (qs (keyOf key)) tt
+      ∙ ap₂ (λ (n m : ℕ). granted n m n) (old-answers key h) (ap (λ (k : Key). firstNo (qs k)) (old-keys key h))
+      ∙ sym (in-a-row (oldKeyQuestions key) (qs (oldKey key)) tt)
 
   -- the verdict
   pub old-verdict : (digest word : List ℕ) → let k = oldKey key in
@@ -50,14 +48,13 @@ module _ (key : List ℕ) (h : length key ≡ 128 → ⊥) where
       ++ ((equal (wordOn gf32 (k .«t_values») (codes word) (k .pair) .matrix)
       (matrixProduct gf32 (wordOn gf32 (k .«t_values») (encoded digest) start .matrix) (k .second)) else 14) ∷ []))))
   unfolding verdict signedOver targetOver
-  old-verdict digest word =
-      after-key (λ f k. digestQuestions f digest ++ (wordQuestions word ++ ((equal (signed k (codes word)) (target k digest) else 14) ∷ [])))
+  old-verdict digest word = then-others (λ k. slipQuestions k digest word)
 
   -- cloaking
   pub old-cloak-answer : (order word : List ℕ)
       → firstNo (cloakQuestions key order word)
       ≡ firstNo (oldKeyQuestions key ++ ((eqb (length order) 8 && isOrder order else 25) ∷ wordQuestions word))
-  old-cloak-answer order word = after-key (λ f k. (eqb (length order) 8 && isOrder order else 25) ∷ wordQuestions word)
+  old-cloak-answer order word = then-others (λ k. (isList order else 25) ∷ wordQuestions word)
 
   pub old-cloak : (order word : List ℕ)
       → comesBack (operations (keyField key)) (keyOf key .«t_values») order (codes word) ≡ comesBack gf32 (oldKey key .«t_values») order (codes word)

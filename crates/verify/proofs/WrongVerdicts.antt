@@ -10,8 +10,9 @@ use native.Mathlib.Omega.{arith}
 use lib.Dec.{ltb}
 use lib.ListN.{length, replicate}
 use Rattle.base.specs.Questions.{firstNo}
-use Rattle.base.specs.Lists.{valuesFrom, every, count, eachOnce}
+use Rattle.base.specs.Lists.{valuesFrom, every, eachOnce, tally}
 use Rattle.base.specs.Digits.{value, digits, halves}
+use Rattle.base.specs.Packing.{unpackedRow, rowFiller}
 use Rattle.field.specs.Polynomial.{timesX, horner, times}
 use Rattle.field.specs.Fields.{operations, digestBytes}
 use Rattle.field.specs.Gf32.{gf32}
@@ -24,9 +25,9 @@ use Rattle.braid.specs.Strands.{swapped}
 use Rattle.action.specs.Action.{tValue, shareOf, rowAfter, letterOn, wordOn, start}
 use Rattle.action.specs.Good.{GoodPair}
 use Rattle.action.proofs.GoodLaws.{tested-pair}
-use Rattle.action.proofs.WordLaws.{word-good}
+use Rattle.action.proofs.WordLaws.{codes-good}
 use Rattle.matrix.proofs.ProductLaws.{identity-right}
-use Rattle.key.specs.Keys.{keyField, tValues, entries, fillerBits, labels, wholeMatrix, keyAnswer, keyOf}
+use Rattle.key.specs.Keys.{keyField, tValues, labels, wholeMatrix, keyAnswer, keyOf}
 use Rattle.key.specs.declared.Key.{Key}
 use Rattle.key.proofs.Inverses.{accepted-with, identity-has}
 use Rattle.digest.specs.Digest.{halfByteBraid, braidOf, encoded}
@@ -65,7 +66,7 @@ zeroDigest = replicate 32 0
 
 -- all are accepted
 key-accepted : keyAnswer plainKey ≡ 0
-unfolding firstNo valuesFrom every count eachOnce value digits keyField tValues entries fillerBits labels wholeMatrix matrixOf rowOf columnOf identity
+unfolding firstNo valuesFrom every tally eachOnce value digits keyField tValues unpackedRow rowFiller labels wholeMatrix matrixOf rowOf columnOf identity
 key-accepted = accepted-with plainKey refl (identity-has Gf32) (identity-has Gf32)
 
 sevens-accepted : wordAnswer sevens ≡ 0
@@ -82,7 +83,7 @@ digest-fits = refl
 
 -- what they hold
 key-is : keyOf plainKey ≡ record { field = Gf32; «t_values» = plain; pair = start; second = identity }
-unfolding valuesFrom value digits rowOf columnOf matrixOf keyField tValues entries labels wholeMatrix keyOf identity start
+unfolding valuesFrom value digits rowOf columnOf matrixOf keyField tValues unpackedRow labels wholeMatrix keyOf identity start
 key-is = refl
 
 sevens-are : codes sevens ≡ sevenCodes
@@ -117,8 +118,8 @@ unfolding signedOver wordOn value halves codes start
 empty-signed = ap (λ (k : Key). k .pair .matrix) key-is
 
 good : GoodPair gf32 (wordOn gf32 plain sevenCodes start)
-unfolding every valuesFrom count eachOnce identity start rowOf columnOf matrixOf
-good = word-good (binary Gf32) plain sevenCodes start refl (tested-pair Gf32 start refl refl refl refl)
+unfolding every valuesFrom tally eachOnce identity start rowOf columnOf matrixOf
+good = codes-good (binary Gf32) plain sevenCodes start (tested-pair Gf32 start refl refl refl refl)
 
 zero-target : target (keyOf plainKey) zeroDigest ≡ reached
 unfolding targetOver
@@ -142,10 +143,10 @@ Bytes xs = every (λ b. ltb b 256) xs ≡ true
 -- a function that gives the verdict on bytes is neither always 14 nor always 0
 module _ (f : (key digest word : List ℕ) → ℕ)
     (right : (key digest word : List ℕ) → Bytes key → Bytes digest → Bytes word → f key digest word ≡ verdict key digest word) where
-  pub no-always-14 : ((key digest word : List ℕ) → f key digest word ≡ 14) → ⊥
+  pub no-always-14 : ((key digest word : List ℕ) → Bytes key → Bytes digest → Bytes word → f key digest word ≡ 14) → ⊥
   unfolding every
-  no-always-14 wrong = omega (arith, wrong plainKey zeroDigest sevens, right plainKey zeroDigest sevens refl refl refl, sevens-0)
+  no-always-14 wrong = omega (arith, wrong plainKey zeroDigest sevens refl refl refl, right plainKey zeroDigest sevens refl refl refl, sevens-0)
 
-  pub no-always-0 : ((key digest word : List ℕ) → f key digest word ≡ 0) → ⊥
+  pub no-always-0 : ((key digest word : List ℕ) → Bytes key → Bytes digest → Bytes word → f key digest word ≡ 0) → ⊥
   unfolding every
-  no-always-0 wrong = omega (arith, wrong plainKey zeroDigest emptyWord, right plainKey zeroDigest emptyWord refl refl refl, empty-word-14)
+  no-always-0 wrong = omega (arith, wrong plainKey zeroDigest emptyWord refl refl refl, right plainKey zeroDigest emptyWord refl refl refl, empty-word-14)

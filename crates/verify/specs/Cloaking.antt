@@ -24,10 +24,13 @@ samePair p q = equal (p .matrix) (q .matrix) && equal (p .labels) (q .labels)
 unfoldable pub comesBack : Operations → List ℕ → List ℕ → List ℕ → Bool
 comesBack F ts order w = samePair (wordOn F ts w (identityWith order)) (identityWith order)
 
+-- is the list 8 bytes, 0 to 7 each once?
+abbrev pub isList : List ℕ → Bool
+isList order = eqb (length order) 8 && isOrder order
+
 -- Cloaking: the key's questions, 25, the word's
 abbrev pub cloakQuestions : List ℕ → List ℕ → List ℕ → List Question
-cloakQuestions key order word =
-    keyQuestions key ++ ((eqb (length order) 8 && isOrder order else 25) ∷ wordQuestions word)
+cloakQuestions key order word = keyQuestions key ++ ((isList order else 25) ∷ wordQuestions word)
 
 -- an answer, and beside it yes or no, which is no on a refusal
 pub record Cloaks (key order word : List ℕ) (answer : ℕ) (yes : Bool) : Type 0 where

@@ -10,7 +10,7 @@ use Rattle.field.specs.Fields.{operations}
 use Rattle.braid.specs.Words.{codes, wordQuestions}
 use Rattle.matrix.specs.Product.{matrixProduct}
 use Rattle.action.specs.Action.{wordOn, start}
-use Rattle.key.specs.Keys.{keyField, keyQuestions, keyOf}
+use Rattle.key.specs.Keys.{keyQuestions, keyOf}
 use Rattle.key.specs.declared.Key.{Key}
 use Rattle.digest.specs.Digest.{digestQuestions, encoded}
 
@@ -29,13 +29,17 @@ signed key w = signedOver (operations (key .field)) key w
 abbrev pub target : Key → List ℕ → List ℕ
 target key digest = targetOver (operations (key .field)) key digest
 
--- Verdict, after key, digest, word: Are the matrices equal? 14
+-- Are the matrices equal? 14
+abbrev pub matrixQuestions : Key → List ℕ → List ℕ → List Question
+matrixQuestions key digest word = (equal (signed key (codes word)) (target key digest) else 14) ∷ []
+
+-- A slip under a key that was read: the digest's question, over the key's field, the word's, and 14
+abbrev pub slipQuestions : Key → List ℕ → List ℕ → List Question
+slipQuestions key digest word = digestQuestions (key .field) digest ++ (wordQuestions word ++ matrixQuestions key digest word)
+
+-- Verdict: the key's questions, then those of the slip under the key that the file holds
 abbrev pub verdictQuestions : List ℕ → List ℕ → List ℕ → List Question
-verdictQuestions key digest word =
-    keyQuestions key
-    ++ (digestQuestions (keyField key) digest
-    ++ (wordQuestions word
-    ++ ((equal (signed (keyOf key) (codes word)) (target (keyOf key) digest) else 14) ∷ [])))
+verdictQuestions key digest word = keyQuestions key ++ slipQuestions (keyOf key) digest word
 
 unfoldable pub verdict : List ℕ → List ℕ → List ℕ → ℕ
 verdict key digest word = firstNo (verdictQuestions key digest word)

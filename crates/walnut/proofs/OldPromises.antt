@@ -10,6 +10,7 @@ use lib.Dec.{ltb, eqb}
 use lib.ListN.{length}
 use Rattle.base.specs.Questions.{_else_, firstNo}
 use Rattle.base.specs.Lists.{every}
+use Rattle.base.proofs.ListLaws.{and-true}
 use Rattle.field.specs.Polynomial.{polynomials}
 use Rattle.field.specs.Fields.{operations}
 use Rattle.field.specs.Elements.{productQuestions, reciprocalQuestions}
@@ -38,7 +39,10 @@ pub old-multiplier : (p : Pair) (ts : List ℕ) (c : ℕ)
     ∷ (isOrder (p .labels) else 6)
     ∷ (isLetter c else 12)
     ∷ []
-old-multiplier p ts c = refl
+unfolding every
+old-multiplier p ts c =
+    ap (λ (b : Bool). (b else 17) ∷ (every (λ t. not (eqb t 0)) ts else 4) ∷ (isOrder (p .labels) else 6) ∷ (isLetter c else 12) ∷ [])
+    (and-true (every (λ x. ltb x 32) ts && every (λ x. ltb x 32) (p .matrix)))
 
 pub old-encoder : (room : ℕ) (digest : List ℕ) → (length digest ≡ 64 → ⊥)
     → firstNo (encoderQuestions room digest) ≡ firstNo (roomQuestion room ∷ (eqb (length digest) 32 else 8) ∷ [])

@@ -10,7 +10,7 @@ ghost use Rattle.lent.specs.Lent.{Lends};
 ghost use Rattle.key.specs.Keys.{fileEntries, ReadsKey, WroteKey};
 ghost use Rattle.verify.specs.Verdict.{verdict};
 ghost use Rattle.verify.specs.Cloaking.{Cloaks};
-ghost use Rattle.moves.specs.Meaning.{Rewrote};
+ghost use Rattle.moves.specs.Rewriter.{Rewrote};
 ghost use Rattle.walnut.specs.Exported.{keyFrom};
 ghost use Rattle.reduction.specs.Reducer.{WroteReduced};
 ghost use Rattle.digest.specs.Digest.{WroteEncoded};

@@ -69,22 +69,13 @@ pub fn write_word(codes: &[u8], out: &mut [u8]) -> Written
     ensures { λ r. ⌜ WroteWord (now (codes .entry)) (now (out .entry)) (now (out .exit)) (r .answer) (r .bytes) ⌝ }
 {
     if out.len() < MAX_BYTES {
-        return Written {
-            answer: 15,
-            bytes: 0,
-        };
+        return Written::refused(15);
     }
     if MAX_LETTERS < codes.len() {
-        return Written {
-            answer: 10,
-            bytes: 0,
-        };
+        return Written::refused(10);
     }
     if !all_codes(codes) {
-        return Written {
-            answer: 12,
-            bytes: 0,
-        };
+        return Written::refused(12);
     }
     let bytes = write_file(codes, out);
     Written { answer: 0, bytes }

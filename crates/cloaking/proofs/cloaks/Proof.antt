@@ -9,15 +9,15 @@ use borrow.Author.Tests.{not-true, not-false, eqb-true}
 use lib.ListN.{length}
 use Rattle.base.specs.Questions.{firstNo}
 use Rattle.base.proofs.ListLaws.{and-left}
-use Rattle.base.proofs.QuestionLaws.{fails, refused-there, granted-zero}
+use Rattle.base.proofs.QuestionLaws.{granted-zero}
 use Rattle.field.specs.Fields.{operations}
 use Rattle.field.specs.declared.Field.{Field}
-use Rattle.braid.specs.Words.{codes, wordQuestions, wordAnswer}
+use Rattle.braid.specs.Words.{codes, wordAnswer}
 use Rattle.key.specs.declared.Key.{Key}
-use Rattle.key.specs.Keys.{keyQuestions, keyAnswer, keyOf}
+use Rattle.key.specs.Keys.{keyAnswer, keyOf}
 use Rattle.key.proofs.KeyFacts.{key-field}
-use Rattle.verify.specs.Cloaking.{comesBack, cloakQuestions}
-use Rattle.verify.proofs.CloakLaws.{isList, afterKey, past-key, past-list, refused, answered}
+use Rattle.verify.specs.Cloaking.{comesBack, isList, cloakQuestions}
+use Rattle.verify.proofs.CloakLaws.{key-refused, list-refused, past-list, refused, answered}
 use borrow.Author.Needs.{needs}
 use Rattle.cloaking.proofs.cloaks.Statement.{statement}
 use Rattle.cloaking.proofs.cloaks.Tie as tie
@@ -54,32 +54,34 @@ past-2 : (c : tie.Else2) → let s = at-2 c in firstNo (cloakQuestions (key s) (
 past-2 c = let s = at-2 c in past-list (key s) (order s) (word s) (key-passed (c .before .before)) (list-passed c)
 
 returns : tie.Need-returns
-unfolding keyAnswer
 returns c =
-    let s = c .before .before .before .before .before in
-    let e = c .before .read-key .ensures .answer-is in
-    refused (key s) (order s) (word s)
-    (refused-there (keyQuestions (key s)) (afterKey (order s) (word s)) tt (λ z. c .if1 .taken (e ∙ z)) ∙ sym e) (c .if1 .taken)
+    let t = c .before in
+    let s = t .before .before .before .before .before in
+    let e = t .before .read-key .ensures .answer-is in
+    refused (key s) (order s) (word s) _ (c .refused .ensures)
+    (key-refused (key s) (order s) (word s) (λ z. t .if1 .taken (e ∙ z)) ∙ sym e) (t .if1 .taken)
 
 returns-2 : tie.Need-returns-2
 returns-2 c =
-    let l = c .before in
+    let t = c .before in
+    let l = t .before in
     let s = at-1 (l .before) in
-    refused (key s) (order s) (word s)
-    (past-key (key s) (order s) (word s) (key-passed (l .before)) ∙ fails 25 (wordQuestions (word s)) (sym (l .is-list .ensures) ∙ not-true _ (c .if2 .taken)))
+    refused (key s) (order s) (word s) 25 (c .refused2 .ensures)
+    (list-refused (key s) (order s) (word s) (key-passed (l .before)) (sym (l .is-list .ensures) ∙ not-true _ (t .if2 .taken)))
     (omega arith)
 
 returns-3 : tie.Need-returns-3
 returns-3 c =
-    let w = c .before in
+    let t = c .before in
+    let w = t .before in
     let s = at-2 (w .before) in
-    refused (key s) (order s) (word s) (past-2 (w .before) ∙ sym (w .read-word .ensures .answer-is)) (c .if3 .taken)
+    refused (key s) (order s) (word s) _ (c .refused3 .ensures) (past-2 (w .before) ∙ sym (w .read-word .ensures .answer-is)) (t .if3 .taken)
 
 comes-back-requires : tie.Need-comes-back-requires
 comes-back-requires c κs =
     let e = c .before .before .before in
     let w = e .before in
-    (eqb-true (length (order (at-3 e))) 8 (and-left _ _ (list-passed (w .before))), word-passed e, w .read-word .ensures .count-is)
+    (eqb-true (length (order (at-3 e))) 8 (and-left _ _ (list-passed (w .before))), word-passed e)
 
 returns-4 : tie.Need-returns-4
 returns-4 c =
@@ -95,4 +97,5 @@ returns-4 c =
 pub cloaks-spec : {M : Type 1} → statement M
 cloaks-spec =
     tie.close
-    (tie.spec (λ c κs. search needs) returns (λ c κs. search needs) returns-2 (λ c κs. search needs) returns-3 comes-back-requires returns-4)
+    (tie.spec (λ c κs. search needs) (λ c κs. search needs) returns (λ c κs. search needs) (λ c κs. search needs) returns-2 (λ c κs. search needs)
+    (λ c κs. search needs) returns-3 comes-back-requires returns-4)

@@ -31,7 +31,10 @@ mul-total-2 : tie.Need-mul-total-2 Inv-loop μ-loop
 mul-total-2 c =
     let l = c .before .before .loop in
     let b = c .before .before .before in
-    record { fits = fits (l .rest) (getD (b .args .constants .now) (b .args .at + l .i) 0) (b .pre .0 (b .args .at + l .i)) }
+    record {
+      fits = fits (l .rest) (getD (b .args .constants .now) (b .args .at + l .i) 0)
+          (b .pre .0 (b .args .at + l .i));
+    }
 
 add-i : tie.Need-add-i Inv-loop μ-loop
 add-i c = omega arith
@@ -45,7 +48,8 @@ loop-again c =
     let b = c .before .before .before in
     let a = b .args in (
       omega arith,
-      next-multiplied (λ k. getD (a .constants .now) (a .at + k) 0) (a .column) (l .i) (l .total) (l .rest) (omega arith) (b .pre .0 (a .at + l .i)) (l .inv .1),
+      next-multiplied (λ k. getD (a .constants .now) (a .at + k) 0) (a .column) (l .i) (l .total) (l .rest)
+          (omega arith) (b .pre .0 (a .at + l .i)) (l .inv .1),
     )
 
 returns : tie.Need-returns Inv-loop μ-loop
@@ -53,7 +57,8 @@ returns c =
     let l = c .before .loop in
     let a = c .before .before .args in
     let e : l .i ≡ a .bits = omega arith in
-    λ j h. l .inv .1 .total-is j h ∙ ap (λ (n : ℕ). chosen (λ k. getD (a .constants .now) (a .at + k) 0) n (lane j (a .column))) e
+    λ j h. l .inv .1 .total-is j h
+    ∙ ap (λ (n : ℕ). chosen (λ k. getD (a .constants .now) (a .at + k) 0) n (lane j (a .column))) e
 
 pub times-spec : {M : Type 1} → statement M
 times-spec =

@@ -5,14 +5,14 @@ use mathlib.Core.Path.{_≡_, sym, _∙_}
 use mathlib.Core.Bool.{true}
 use mathlib.Core.List.{List}
 use native.Mathlib.Omega.{arith}
-use borrow.Author.Tests.{eqb-true, eqb-false, not-true, not-false}
+use borrow.Author.Needs.{needs}
+use borrow.Author.Tests.{not-true, not-false}
 use mir.Syntax.{w32}
 use mir.Facts.{toZ-ofZ}
 use Rattle.braid.specs.Words.{wordAnswer}
 use Rattle.braid.proofs.ReadLaws.{accepted-word}
-use Rattle.crossing.proofs.CountLaws.{found-few, number-is}
+use Rattle.crossing.proofs.CountLaws.{number-is}
 use Rattle.crossing.proofs.CrossingAnswer.{twoLabels, word-before-27, labels-27, none-failed, refused, answered, first-below, second-below, different}
-use borrow.Author.Needs.{needs}
 use Rattle.crossing.proofs.crossings.Statement.{statement}
 use Rattle.crossing.proofs.crossings.Tie as tie
 
@@ -27,60 +27,53 @@ module _ (s : tie.Start) where
   b = s .args .b
 
 abbrev at-1 : tie.Else1 → tie.Start
-at-1 c = c .before .before .before .before
+at-1 c = c .before .before .before
 
 abbrev at-2 : tie.Else2 → tie.Start
-at-2 c = at-1 (c .before)
+at-2 c = at-1 (c .before .before)
 
 word-passed : (c : tie.Else1) → wordAnswer (word (at-1 c)) ≡ 0
-word-passed c = sym (c .before .before .read-word .ensures .answer-is) ∙ eqb-true (c .before .before .read-word .result .answer) 0 (not-false _ (c .if1 .left))
+word-passed c = sym (c .before .read-word .ensures .answer-is) ∙ c .if1 .left
 
 labels-passed : (c : tie.Else2) → twoLabels (a (at-2 c)) (b (at-2 c)) ≡ true
-labels-passed c = sym (c .before .before .two-labels .ensures) ∙ not-false _ (c .if2 .left)
+labels-passed c = sym (c .before .two-labels .ensures) ∙ not-false _ (c .if2 .left)
 
 returns : tie.Need-returns
 returns c =
-    let t = c .before in
-    let s = t .before .before .before .before in
-    let e = t .before .before .read-word .ensures .answer-is in
-    let h = eqb-false (t .before .before .read-word .result .answer) 0 (not-true _ (t .if1 .taken)) in
+    let r = c .before .before in
+    let s = r .before .before in
+    let e = r .read-word .ensures .answer-is in
+    let h = c .before .if1 .taken in
     rw (c .refusal .ensures .0, c .refusal .ensures .1)
     (refused (word s) (a s) (b s) (word-before-27 (word s) (a s) (b s) (λ z. h (e ∙ z)) ∙ sym e) h)
 
 returns-2 : tie.Need-returns-2
 returns-2 c =
-    let t = c .before in
-    let e = t .before in
-    let s = at-1 e in
+    let t = c .before .before in
+    let s = at-1 (t .before) in
     rw (c .refusal2 .ensures .0, c .refusal2 .ensures .1)
     (refused (word s) (a s) (b s)
-    (labels-27 (word s) (a s) (b s) (word-passed e) (sym (e .before .two-labels .ensures) ∙ not-true _ (t .if2 .taken)))
+    (labels-27 (word s) (a s) (b s) (word-passed (t .before)) (sym (t .two-labels .ensures) ∙ not-true _ (c .before .if2 .taken)))
     (omega arith))
 
-counted-requires : tie.Need-counted-requires
-counted-requires c κs = (word-passed (c .before), c .before .before .before .read-word .ensures .count-is)
-
-crossed-requires : tie.Need-crossed-requires
-crossed-requires c κs =
+number-requires : tie.Need-number-requires
+number-requires c κs =
     let e = c .before .before in
     let s = at-2 e in
     (c .before .counted .ensures .table, first-below (a s) (b s) (labels-passed e), second-below (a s) (b s) (labels-passed e))
 
-signed-requires : tie.Need-signed-requires
-signed-requires c κs = found-few (c .before .before .counted .ensures .table) (c .crossed .ensures)
-
 returns-3 : tie.Need-returns-3
 returns-3 c =
-    let k = c .before .before .before in
+    let k = c .before .before in
     let e = k .before in
     let s = at-2 e in
     let t = labels-passed e in
-    let z = word-passed (e .before) in
+    let z = word-passed (e .before .before) in
     answered (word s) (a s) (b s) (none-failed (word s) (a s) (b s) z t)
-    (toZ-ofZ {w = w32} (record { sfits = c .signed .ok })
-    ∙ c .signed .ensures
+    (toZ-ofZ {w = w32} (record { sfits = c .number .ok })
+    ∙ c .number .ensures
     ∙ number-is (a s) (b s) (first-below (a s) (b s) t) (second-below (a s) (b s) t) (different (a s) (b s) t)
-    (accepted-word (word s) z .lettered) (k .counted .ensures) (c .before .crossed .ensures))
+    (accepted-word (word s) z .lettered) (k .counted .ensures))
 
 pub crossings-spec : {M : Type 1} → statement M
 crossings-spec =
@@ -88,11 +81,10 @@ crossings-spec =
     (tie.spec
     (λ c κs. search needs)
     (λ c κs. search needs)
-    (λ c κs. search needs)
     returns
     (λ c κs. search needs)
+    (λ c κs. search needs)
     returns-2
-    counted-requires
-    crossed-requires
-    signed-requires
+    (λ c κs. search needs)
+    number-requires
     returns-3)

@@ -2,21 +2,21 @@
 use mathlib.Core.Path.{sym}
 use borrow.Author.Needs.{needs}
 use lib.Seq.{length-take-le}
-use Rattle.desk_line.proofs.DeskLaws.{line-within}
+use Rattle.text.proofs.TextLaws.{told-within}
 use Rattle.crossing_lines.proofs.CrossingText.{answer-told}
 use Rattle.crossing_lines.proofs.answer_text.Statement.{statement}
 use Rattle.crossing_lines.proofs.answer_text.Tie as tie
 
 array-share-prefix-shown : tie.Need-array-share-prefix-shown
-array-share-prefix-shown c = line-within (c .before .before .answer-line .ensures)
+array-share-prefix-shown c = told-within (c .before .before .answer-line .ensures)
 
 slice-aggregate-put-2 : tie.Need-slice-aggregate-put-2
-slice-aggregate-put-2 c = sym (length-take-le _ _ (line-within (c .before .before .before .answer-line .ensures)))
+slice-aggregate-put-2 c = sym (length-take-le _ _ (told-within (c .before .before .before .answer-line .ensures)))
 
 returns : tie.Need-returns
 returns c =
     let l = c .before .before .before .before .before in
-    answer-told (l .before .args .answer) (l .answer-line .ensures) (c .before .put .ensures)
+    answer-told (l .before .args .answer) (l .before .fits .answer .fits) (l .answer-line .ensures) (c .before .put .ensures)
 
 pub answer-text-spec : {M : Type 1} → statement M
 answer-text-spec =

@@ -1,39 +1,61 @@
--- `crossing_lines::word_text` meets its contract: a refusal's line, or the lines of all pairs; and its buffer is
+-- `crossing_lines::word_text` meets its contract: no text, a refusal's line, or the lines of all pairs; and its buffer is
 -- enough.
-use mathlib.Core.Path.{_≡_, sym, _∙_}
+use mathlib.Core.Bool.{true}
+use mathlib.Core.Path.{_≡_}
 use native.Mathlib.Omega.{arith}
-use denote.Ref.{now}
 use lib.ListN.{length}
 use borrow.Author.Needs.{needs}
-use Rattle.braid.specs.Words.{wordAnswer}
+use borrow.Author.Tests.{not-true, not-false}
 use Rattle.crossing_lines.specs.Lines.{EnoughOfWord}
-use Rattle.crossing_lines.proofs.CrossingText.{told-refused, told-accepted, enough-of-word}
+use Rattle.crossing_lines.proofs.CrossingText.{text-not-read, text-refused, text-accepted, accepted-numbers, enough-of-word}
 use Rattle.crossing_lines.proofs.word_text.Statement.{statement}
 use Rattle.crossing_lines.proofs.word_text.Tie as tie
 
 -- the buffer has 5,003 bytes
-enough : (c : tie.After-part-arg) → EnoughOfWord (length (c .before .args .input .now))
-enough c = enough-of-word (length (c .before .args .input .now)) (omega (arith, c .part-arg .given .0))
+enough : (c : tie.After-part) → EnoughOfWord (length (c .before .before .args .input .now))
+enough c = enough-of-word (length (c .before .before .args .input .now)) (omega (arith, c .before .part-arg .given .0))
+
+-- the word could be read
+read : (c : tie.Else1) → c .before .before .before .before .args .got .read ≡ true
+read c = not-false _ (c .if1 .left)
 
 returns : tie.Need-returns
 returns c =
-    let r = c .before .before in
-    let p = r .before in
-    let s = p .before .before in
-    (told-refused (s .args .n) (s .args .input .now) (p .part .ensures) (r .read-word .ensures .answer-is) (c .before .if1 .taken) (c .answer-text .ensures), enough (p .before))
-
-accepted : (c : tie.Else1) → wordAnswer (now (c .before .before .part .result)) ≡ 0
-accepted c = sym (c .before .read-word .ensures .answer-is) ∙ c .if1 .left
+    let p = c .before .before .before in
+    let a = p .before .before .args in
+    (text-not-read (a .got) (a .input .now) (not-true _ (c .before .if1 .taken)) (c .none .ensures .0) (c .none .ensures .1), enough p)
 
 returns-2 : tie.Need-returns-2
 returns-2 c =
-    let e = c .before in
-    let p = e .before .before in
-    let s = p .before .before in
-    (told-accepted (s .args .n) (s .args .input .now) (p .part .ensures) (accepted e) (c .lines .ensures), enough (p .before))
+    let r = c .before .before in
+    let p = r .before .before .before in
+    let a = p .before .before .args in (
+      text-refused (a .got) (a .input .now) (read (r .before)) (p .part .ensures) (r .all-crossings .ensures) (c .before .if2 .taken) (c .answer-text .ensures),
+      enough p,
+    )
+
+lines-requires : tie.Need-lines-requires
+lines-requires c κs = let r = c .before .before .before in accepted-numbers (r .all-crossings .ensures) (c .before .before .if2 .left)
+
+returns-3 : tie.Need-returns-3
+returns-3 c =
+    let e = c .before .before .before in
+    let r = e .before in
+    let p = r .before .before .before in
+    let a = p .before .before .args in (
+      text-accepted (a .got) (a .input .now) (read (r .before)) (p .part .ensures) (r .all-crossings .ensures) (e .if2 .left) (c .lines .ensures),
+      enough p,
+    )
 
 pub word-text-spec : {M : Type 1} → statement M
 word-text-spec =
     tie.close
-    (tie.spec (λ c κs. search needs) (λ c κs. search needs) (λ c κs. search needs) returns
-    (λ c κs. (accepted c, c .before .read-word .ensures .count-is)) returns-2)
+    (tie.spec
+    (λ c κs. search needs)
+    (λ c κs. search needs)
+    returns
+    (λ c κs. search needs)
+    (λ c κs. search needs)
+    returns-2
+    lines-requires
+    returns-3)

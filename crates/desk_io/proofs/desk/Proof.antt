@@ -1,21 +1,12 @@
 -- `desk_io::desk` is safe: the line lies within its text.
 use borrow.Author.Needs.{needs}
 use Rattle.io.proofs.Counting.{counts}
-use Rattle.desk_line.proofs.DeskLaws.{line-within}
+use Rattle.text.proofs.TextLaws.{told-within}
 use Rattle.desk_io.proofs.desk.Statement.{statement}
 use Rattle.desk_io.proofs.desk.Tie as tie
 
 tell-requires : tie.Need-tell-requires
-tell-requires c κs = counts _ _ (line-within (c .input-line .ensures .0))
+tell-requires c κs = counts _ _ (told-within (c .input-line .ensures .0))
 
 pub desk-spec : {M : Type 1} → statement M
-desk-spec =
-    tie.close
-    (tie.spec
-    (λ c. search needs)
-    (λ c. search needs)
-    (λ c κs. search needs)
-    (λ c κs. search needs)
-    tell-requires
-    (λ c. search needs)
-    (λ c. search needs))
+desk-spec = tie.close (tie.spec (λ c. search needs) (λ c. search needs) (λ c κs. search needs) (λ c κs. search needs) tell-requires (λ c. search needs))

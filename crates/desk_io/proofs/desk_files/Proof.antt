@@ -1,7 +1,7 @@
 -- `desk_io::desk_files` is safe: the line lies within its text.
 use borrow.Author.Needs.{needs}
 use Rattle.io.proofs.Counting.{counts}
-use Rattle.desk_line.proofs.DeskLaws.{line-within}
+use Rattle.text.proofs.TextLaws.{told-within}
 use Rattle.desk_io.proofs.desk_files.Statement.{statement}
 use Rattle.desk_io.proofs.desk_files.Tie as tie
 
@@ -27,7 +27,7 @@ files-line-requires : tie.Need-files-line-requires
 files-line-requires c κs = search needs
 
 tell-requires : tie.Need-tell-requires
-tell-requires c κs = counts _ _ (line-within (c .files-line .ensures .0))
+tell-requires c κs = counts _ _ (told-within (c .files-line .ensures .0))
 
 returns : tie.Need-returns
 returns c = search needs

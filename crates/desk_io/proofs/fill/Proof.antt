@@ -1,7 +1,8 @@
--- `desk_io::fill` is safe and ends. The invariant: the buffer keeps its length, and the bytes counted lie within it.
--- The measure is what is left of it.
+-- `desk_io::fill` meets its contract and ends. The invariant: the buffer keeps its length, and the bytes counted lie
+-- within it. The measure is what is left of it.
 use Prim.Native.Nat.{_-_, _≤_}
-use mathlib.Core.Path.{_≡_}
+use mathlib.Core.Path.{_≡_, sym}
+use mathlib.Core.Bool.{false≢true}
 use lib.ListN.{length}
 use borrow.Author.Needs.{needs}
 use Rattle.desk_io.proofs.fill.Statement.{statement}
@@ -35,6 +36,6 @@ fill-spec =
     (λ c. search needs)
     (λ c. search needs)
     (λ c. search needs)
+    (λ c. record { fits = search needs; none = λ e. absurd (false≢true (sym e)) })
     (λ c. search needs)
-    (λ c. search needs)
-    (λ c. search needs))
+    (λ c. record { fits = search needs; none = λ e. absurd (false≢true (sym e)) }))

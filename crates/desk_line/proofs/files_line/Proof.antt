@@ -27,7 +27,7 @@ returns c =
     let r = c .before .before in
     let a = start r .args in (
       files-not-read (a .k) (a .d) (a .w) (a .key .now) (a .digest .now) (a .word .now) (r .all-read .ensures) (not-true _ (c .before .if1 .taken))
-          (c .nothing .ensures .0) (c .nothing .ensures .1),
+          (c .none .ensures .0) (c .none .ensures .1),
       enough r,
     )
 

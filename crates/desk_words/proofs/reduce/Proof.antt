@@ -17,7 +17,7 @@ enough : (c : tie.After-part) → EnoughToReduce (length (c .before .before .arg
 enough c = enough-to-reduce (length (c .before .before .args .word .now)) (omega (arith, c .before .part-arg .given .0))
 
 returns : tie.Need-returns
-returns c = (unread _ _ (not-true _ (c .before .if1 .taken)) (bare-of (c .bare .ensures)), enough (c .before .before .before))
+returns c = (unread _ _ (not-true _ (c .before .if1 .taken)) (bare-of (c .unread .ensures)), enough (c .before .before .before))
 
 returns-2 : tie.Need-returns-2
 returns-2 c =

@@ -25,7 +25,7 @@ module _ (c : tie.After-both) where
 returns : tie.Need-returns
 returns c =
     let r = c .before .before in
-    (rewrites-unread (sym (r .both .ensures) ∙ not-true _ (c .before .if1 .taken)) (bare-of (c .bare .ensures)), enough r)
+    (rewrites-unread (sym (r .both .ensures) ∙ not-true _ (c .before .if1 .taken)) (bare-of (c .unread .ensures)), enough r)
 
 returns-2 : tie.Need-returns-2
 returns-2 c =

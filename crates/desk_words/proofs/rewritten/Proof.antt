@@ -10,7 +10,7 @@ returns : tie.Need-returns
 unfolding rewriteAnswer
 returns c =
     let r = c .before .rewrite .ensures in
-    record { makes = wrote-makes _ refl (r .wrote) refl; keeps = λ _ z. r .keeps z }
+    record { makes = wrote-makes _ refl (r .wrote) refl; keeps = r .keeps }
 
 pub rewritten-spec : {M : Type 1} → statement M
 rewritten-spec = tie.close (tie.spec (λ c. search needs) (λ c κs. search needs) returns)

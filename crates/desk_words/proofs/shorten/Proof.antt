@@ -29,7 +29,7 @@ module _ (c : tie.After-all-read) where
 returns : tie.Need-returns
 returns c =
     let r = c .before .before in
-    (shortens-unread (sym (r .all-read .ensures) ∙ not-true _ (c .before .if1 .taken)) (bare-of (c .bare .ensures)), enough r)
+    (shortens-unread (sym (r .all-read .ensures) ∙ not-true _ (c .before .if1 .taken)) (bare-of (c .unread .ensures)), enough r)
 
 returns-2 : tie.Need-returns-2
 returns-2 c =

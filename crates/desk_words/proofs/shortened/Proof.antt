@@ -49,7 +49,7 @@ returns c =
     let b = bare-of (c .bare .ensures) in
     record {
       makes = makes-as e (refused _ _ h b);
-      opens = λ _ z. absurd (h (sym (b .answer-is) ∙ z));
+      opens = λ z. absurd (h (sym (b .answer-is) ∙ z));
     }
 
 array-share-prefix-file : tie.Need-array-share-prefix-file
@@ -66,7 +66,7 @@ returns-2 c =
     absurd (c .before .if2 .taken (v .verify2 .ensures ∙ opens (v .before .before .before)))
 
 returns-3 : tie.Need-returns-3
-returns-3 c = let m = c .before .before .before .before in record { makes = makes m; opens = λ _ _. opens m }
+returns-3 c = let m = c .before .before .before .before in record { makes = makes m; opens = λ _. opens m }
 
 pub shortened-spec : {M : Type 1} → statement M
 shortened-spec =

@@ -36,13 +36,16 @@ past-1 c = passes 15 (left (at-1 c)) (le-leb 5002 (room (at-1 c)) (c .if1 .left)
 
 returns : tie.Need-returns
 returns c =
-    let s = c .before .before .before in
-    wrote-refused _ _ (s .args .out .now) 15 (fails 15 (left s) (lt-leb 5002 (room s) (c .if1 .taken))) (omega arith)
+    let t = c .before in
+    let s = t .before .before .before in
+    wrote-refused _ _ (s .args .out .now) 15 (c .refused .ensures) (fails 15 (left s) (lt-leb 5002 (room s) (t .if1 .taken))) (omega arith)
 
 returns-2 : tie.Need-returns-2
 returns-2 c =
-    let s = at-1 (c .before .before) in
-    wrote-refused _ _ (s .args .out .now) 8 (past-1 (c .before .before) ∙ fails 8 [] (sym (c .before .is-either .ensures) ∙ not-true _ (c .if2 .taken))) (omega arith)
+    let t = c .before in
+    let d = t .before in
+    wrote-refused _ _ (at-1 (d .before) .args .out .now) 8 (c .refused2 .ensures)
+    (past-1 (d .before) ∙ fails 8 [] (sym (d .is-either .ensures) ∙ not-true _ (t .if2 .taken))) (omega arith)
 
 encode-into-requires : tie.Need-encode-into-requires
 encode-into-requires c κs =
@@ -72,5 +75,5 @@ returns-3 c =
 pub encode-spec : {M : Type 1} → statement M
 encode-spec =
     tie.close
-    (tie.spec returns (λ c κs. search needs) returns-2 (λ c. search needs) encode-into-requires (λ c. search needs) slice-aggregate-write-word
+    (tie.spec (λ c κs. search needs) returns (λ c κs. search needs) (λ c κs. search needs) returns-2 (λ c. search needs) encode-into-requires (λ c. search needs) slice-aggregate-write-word
     (λ c κs. search needs) (λ c. search needs) returns-3)

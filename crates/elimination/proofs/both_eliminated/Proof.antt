@@ -12,14 +12,16 @@ use Rattle.elimination.proofs.both_eliminated.Tie as tie
 returns : tie.Need-returns
 returns c =
     let a = c .before .before .before .before .args in
-    sym (ap (λ (b : Bool). b && invertible (operations (a .f)) 8 (entry (a .second))) (sym (c .before .eliminated .ensures) ∙ not-true _ (c .if1 .taken)))
+    sym (ap (λ (b : Bool). b && invertible (operations (a .f)) 8 (entry (a .second)))
+    (sym (c .before .eliminated .ensures) ∙ not-true _ (c .if1 .taken)))
 
 returns-2 : tie.Need-returns-2
 returns-2 c =
     let b = c .before .before in
     let a = b .before .before .before .args in
     c .eliminated2 .ensures
-    ∙ sym (ap (λ (b : Bool). b && invertible (operations (a .f)) 8 (entry (a .second))) (sym (b .eliminated .ensures) ∙ not-false _ (c .before .if1 .left)))
+    ∙ sym (ap (λ (b : Bool). b && invertible (operations (a .f)) 8 (entry (a .second)))
+    (sym (b .eliminated .ensures) ∙ not-false _ (c .before .if1 .left)))
 
 pub both-eliminated-spec : {M : Type 1} → statement M
 both-eliminated-spec = tie.close (tie.spec (λ c κs. search needs) returns (λ c κs. search needs) returns-2)

@@ -31,7 +31,8 @@ returns c =
     let m = s .args .m .now in
     let n = s .args .n in (
       s .pre .0,
-      clear-none (binary (s .args .f)) n m (here .before .pivot-row .result) (here .before .pivot-row .ensures .0) (invertible (operations (s .args .f)) n (entry m))
+      clear-none (binary (s .args .f)) n m (here .before .pivot-row .result) (here .before .pivot-row .ensures .0)
+          (invertible (operations (s .args .f)) n (entry m))
           (sym (ap (λ (k : ℕ). getD m k 0) (here .place .ensures .0)) ∙ c .if1 .taken),
     )
 
@@ -50,7 +51,8 @@ sweep-requires c κs =
     let s = p .before .before .before .before in (
       raised .raise .ensures .0 .size,
       s .pre .1,
-      raised-logarithms (s .args .n) _ (s .args .m .now) _ (s .args .table .now) (raised .raise .result) (raised .raise .ensures .0) (raised .raise .ensures .2),
+      raised-logarithms (s .args .n) _ (s .args .m .now) _ (s .args .table .now) (raised .raise .result)
+          (raised .raise .ensures .0) (raised .raise .ensures .2),
       s .pre .3,
     )
 
@@ -65,8 +67,11 @@ returns-2 c =
     let m = s .args .m .now in
     let there = ap (λ (k : ℕ). getD m k 0) (here .place .ensures .0) in (
       c .sweep .ensures .size,
-      clear-some (binary (s .args .f)) (s .args .n) m (here .before .pivot-row .result) (here .before .pivot-row .ensures .0) (divided .inverse .result) _ _
-          (λ z. kept .if1 .left (there ∙ z)) (divided .inverse .ensures ∙ inverse-at (degree (s .args .f)) (s .args .inverses .now) (s .pre .2) _ ∙ ap (operations (s .args .f) .inv) there)
+      clear-some (binary (s .args .f)) (s .args .n) m (here .before .pivot-row .result)
+          (here .before .pivot-row .ensures .0) (divided .inverse .result) _ _
+          (λ z. kept .if1 .left (there ∙ z))
+          (divided .inverse .ensures ∙ inverse-at (degree (s .args .f)) (s .args .inverses .now) (s .pre .2) _
+          ∙ ap (operations (s .args .f) .inv) there)
           (raised .raise .ensures .0)
           (c .sweep .ensures) (omega arith),
     )

@@ -14,7 +14,8 @@ use Rattle.elimination.proofs.eliminated.Statement.{statement}
 use Rattle.elimination.proofs.eliminated.Tie as tie
 
 -- a column less
-less : (f : Field) (n : ℕ) (a : List ℕ) → 0 < n → invertible (operations f) n (entry a) ≡ invertible (operations f) (n - 1 + 1) (entry a)
+less : (f : Field) (n : ℕ) (a : List ℕ) → 0 < n
+    → invertible (operations f) n (entry a) ≡ invertible (operations f) (n - 1 + 1) (entry a)
 less f n a pos = let size : n ≡ n - 1 + 1 = omega arith in ap (λ (k : ℕ). invertible (operations f) k (entry a)) size
 
 abbrev Inv-loop : tie.InvT-loop
@@ -41,7 +42,8 @@ returns c =
     let b = c .before in
     let l = b .before .before .before .loop in
     let f = b .before .before .before .before .before .before .args .f in
-    sym (l .inv .2 ∙ less f (l .n) (l .a) (omega arith) ∙ (rw (not-true (b .clear .result) (c .if1 .taken)) at (b .clear .ensures .1)))
+    sym (l .inv .2 ∙ less f (l .n) (l .a) (omega arith)
+    ∙ (rw (not-true (b .clear .result) (c .if1 .taken)) at (b .clear .ensures .1)))
 
 loop-less : tie.Need-loop-less Inv-loop μ-loop
 loop-less c = omega arith
@@ -53,7 +55,8 @@ loop-again c =
     let f = b .before .before .before .before .before .before .args .f in (
       omega arith,
       b .clear .ensures .0,
-      l .inv .2 ∙ less f (l .n) (l .a) (omega arith) ∙ (rw (not-false (b .clear .result) (c .if1 .left)) at (b .clear .ensures .1)),
+      l .inv .2 ∙ less f (l .n) (l .a) (omega arith)
+          ∙ (rw (not-false (b .clear .result) (c .if1 .left)) at (b .clear .ensures .1)),
     )
 
 returns-2 : tie.Need-returns-2 Inv-loop μ-loop

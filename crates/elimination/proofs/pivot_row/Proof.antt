@@ -30,8 +30,10 @@ returns c =
     let b = c .before .before in
     let l = b .before .before .loop in
     let a = b .before .before .before .args in
-    let there = ap (λ (k : ℕ). getD (a .m .now) k 0) (b .place .ensures .0) in
-    (sym (l .inv .1 ∙ pivot-here (λ i. entry (a .m .now) i (a .n)) (l .p) (λ z. c .if1 .taken (there ∙ z))), omega arith)
+    let there = ap (λ (k : ℕ). getD (a .m .now) k 0) (b .place .ensures .0) in (
+      sym (l .inv .1 ∙ pivot-here (λ i. entry (a .m .now) i (a .n)) (l .p) (λ z. c .if1 .taken (there ∙ z))),
+      omega arith,
+    )
 
 sub-p : tie.Need-sub-p Inv-loop μ-loop
 sub-p c = omega arith
@@ -45,8 +47,10 @@ loop-again c =
     let b = c .before .before in
     let l = b .before .before .loop in
     let a = b .before .before .before .args in
-    let there = ap (λ (k : ℕ). getD (a .m .now) k 0) (b .place .ensures .0) in
-    (omega arith, l .inv .1 ∙ pivot-back (λ i. entry (a .m .now) i (a .n)) (l .p) (omega arith) (sym there ∙ c .if1 .left))
+    let there = ap (λ (k : ℕ). getD (a .m .now) k 0) (b .place .ensures .0) in (
+      omega arith,
+      l .inv .1 ∙ pivot-back (λ i. entry (a .m .now) i (a .n)) (l .p) (omega arith) (sym there ∙ c .if1 .left),
+    )
 
 returns-2 : tie.Need-returns-2 Inv-loop μ-loop
 unfolding pivot

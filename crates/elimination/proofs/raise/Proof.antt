@@ -70,8 +70,11 @@ loop-again c =
       rw (b .before .place .ensures .0, b .place2 .ensures .0)
           (raised-next (a .n) (a .p) (l .j) (a .m .now) (l .m) (omega arith) (omega arith) (omega arith) (l .inv .1)),
       length-set (l .logs) (l .j) _ ∙ l .inv .2,
-      logarithms-next (a .table .now) (entry (a .m .now) (a .p)) (l .j) (l .logs) _ (omega (arith, l .inv .2)) (l .inv .3)
-          (same-number (own ∙ raised-own (a .n) (a .p) (l .j) (a .m .now) (l .m) (omega arith) (omega arith) (omega arith) (l .inv .1)) (s .logarithm .ensures)),
+      logarithms-next (a .table .now) (entry (a .m .now) (a .p)) (l .j) (l .logs) _
+          (omega (arith, l .inv .2)) (l .inv .3)
+          (same-number
+          (own ∙ raised-own (a .n) (a .p) (l .j) (a .m .now) (l .m) (omega arith) (omega arith) (omega arith)
+          (l .inv .1)) (s .logarithm .ensures)),
     )
 
 returns : tie.Need-returns Inv-loop μ-loop

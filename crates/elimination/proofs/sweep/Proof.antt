@@ -16,7 +16,9 @@ abbrev μ-loop : tie.MeasureT-loop
 μ-loop m₀ table row q n f i₀ m i = n - i
 
 loop-holds : tie.Need-loop-holds Inv-loop μ-loop
-loop-holds c = let a = c .before .args in (omega arith, swept-start (operations (a .f)) (a .q) (a .n) (a .m .now) (c .before .pre .0))
+loop-holds c =
+    let a = c .before .args in
+    (omega arith, swept-start (operations (a .f)) (a .q) (a .n) (a .m .now) (c .before .pre .0))
 
 sweep-row-requires : tie.Need-sweep-row-requires Inv-loop μ-loop
 sweep-row-requires c κs =
@@ -24,7 +26,8 @@ sweep-row-requires c κs =
     let s = c .before .before .before .before in (
       l .inv .1 .size,
       s .pre .1,
-      λ j h. same-number (sym (l .inv .1 .rest (s .args .n) j (omega arith) (omega arith) (omega arith))) (s .pre .2 j h),
+      λ j h. same-number (sym (l .inv .1 .rest (s .args .n) j (omega arith) (omega arith) (omega arith)))
+          (s .pre .2 j h),
       omega arith,
       s .pre .3,
     )
@@ -38,8 +41,11 @@ loop-less c = omega arith
 loop-again : tie.Need-loop-again Inv-loop μ-loop
 loop-again c =
     let l = c .before .before .before .loop in
-    let a = c .before .before .before .before .before .args in
-    (omega arith, swept-next (operations (a .f)) (a .q) (a .n) (l .i) (a .m .now) (l .m) _ (omega arith) (omega arith) (l .inv .1) (c .sweep-row .ensures))
+    let a = c .before .before .before .before .before .args in (
+      omega arith,
+      swept-next (operations (a .f)) (a .q) (a .n) (l .i) (a .m .now) (l .m) _ (omega arith) (omega arith) (l .inv .1)
+          (c .sweep-row .ensures),
+    )
 
 returns : tie.Need-returns Inv-loop μ-loop
 returns c =

@@ -7,7 +7,8 @@ reciprocal-by-requires : tie.Need-reciprocal-by-requires
 reciprocal-by-requires c κs = let t = c .before in rw (t .before .enum-told .given .1) (t .small-reciprocals .ensures)
 
 reciprocal-by-requires-2 : tie.Need-reciprocal-by-requires-2
-reciprocal-by-requires-2 c κs = let t = c .before in rw (t .before .enum-told2 .given .1) (t .large-reciprocals .ensures)
+reciprocal-by-requires-2 c κs =
+    let t = c .before in rw (t .before .enum-told2 .given .1) (t .large-reciprocals .ensures)
 
 pub reciprocal-spec : {M : Type 1} → statement M
 reciprocal-spec =

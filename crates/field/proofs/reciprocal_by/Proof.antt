@@ -21,10 +21,12 @@ use Rattle.field.proofs.reciprocal_by.Statement.{statement}
 use Rattle.field.proofs.reciprocal_by.Tie as tie
 
 -- a number is an element where it is not past the table's end
-past : (f : Field) (table : List ℕ) (a : ℕ) → table ≡ reciprocals (bits f) (modulus f) → length table < a → isElement f a ≡ false
+past : (f : Field) (table : List ℕ) (a : ℕ) → table ≡ reciprocals (bits f) (modulus f) → length table < a
+    → isElement f a ≡ false
 past f table a e h = let size = reciprocals-size (bits f) (modulus f) table e in le-ltb a (2 ^ bits f) (omega arith)
 
-within : (f : Field) (table : List ℕ) (a : ℕ) → table ≡ reciprocals (bits f) (modulus f) → a ≤ length table → isElement f a ≡ true
+within : (f : Field) (table : List ℕ) (a : ℕ) → table ≡ reciprocals (bits f) (modulus f) → a ≤ length table
+    → isElement f a ≡ true
 within f table a e h = let size = reciprocals-size (bits f) (modulus f) table e in lt-ltb a (2 ^ bits f) (omega arith)
 
 returns : tie.Need-returns
@@ -55,8 +57,10 @@ returns-3 c =
     let s = first .before .before in
     let x = s .args in
     given (reciprocalQuestions (x .f) (x .a))
-    (passed-answers (reciprocalQuestions (x .f) (x .a))
-    (within (x .f) (x .table .now) (x .a) (s .pre) (first .if1 .left), (ap not (ne-eqb (x .a) 0 (second .if2 .left)), tt)))
+    (passed-answers (reciprocalQuestions (x .f) (x .a)) (
+      within (x .f) (x .table .now) (x .a) (s .pre) (first .if1 .left),
+      (ap not (ne-eqb (x .a) 0 (second .if2 .left)), tt),
+    ))
     (c .inverse .ensures ∙ inverse-at (degree (x .f)) (x .table .now) (s .pre) (x .a))
 
 pub reciprocal-by-spec : {M : Type 1} → statement M

@@ -1,31 +1,31 @@
 -- `key_reader::key_of` meets its contract: each part is read.
-use Prim.Native.Nat.{ℕ, _+_, _-_}
-use mathlib.Core.Path.{_≡_, ap, ap₂, _∙_}
-use native.Mathlib.Omega.{arith}
-use lib.ListN.{length}
-use Rattle.base.specs.Digits.{part}
+use Prim.Native.Nat.{ℕ}
+use mathlib.Core.Path.{ap, ap₂, _∙_}
+use mathlib.Core.List.{List}
 use Rattle.action.specs.Action.{pairOf}
-use Rattle.key.specs.Keys.{matrixBytes, listPlace, entries, wholeMatrix}
+use Rattle.key.specs.Keys.{entries, wholeMatrix}
+use Rattle.key.proofs.FileLaws.{part-taken}
 use borrow.Author.Needs.{needs}
 use Rattle.key_reader.proofs.key_of.Statement.{statement}
 use Rattle.key_reader.proofs.key_of.Tie as tie
 
 returns : tie.Need-returns
 returns c =
-    let ts = c .before .before in
-    let pair = ts .before in
-    let list = pair .before in
-    let s = list .before .before .before .before in
+    let w = c .before .before in
+    let m = w .before in
+    let p = m .before .before in
+    let l = p .before in
+    let e = l .before in
+    let s = e .before .before in
     let b = s .args .bits in
     let file = s .args .file .now in
-    let m : 3 + b + matrixBytes b - (3 + b) ≡ matrixBytes b = omega arith in
-    let n : length file - (listPlace b + 3) ≡ matrixBytes b = omega (arith, s .pre .1) in
-    let first = list .before .matrix .ensures ∙ ap (λ (k : ℕ). wholeMatrix (entries b (part (3 + b) k file))) m in
-    let second = c .matrix2 .ensures ∙ ap (λ (k : ℕ). wholeMatrix (entries b (part (listPlace b + 3) k file))) n in
+    let whole : List ℕ → List ℕ = λ xs. wholeMatrix (entries b xs) in
+    let first = m .matrix .ensures ∙ ap whole (part-taken b 3 file (e .first-place .ensures) (l .list-place .ensures)) in
+    let second = c .matrix2 .ensures ∙ ap whole (part-taken b 5 file (p .second-place .ensures) (s .pre .1)) in
     λ j. record {
       field = s .args .f;
-      «t_values» = ts .t-values .ensures j;
-      pair = (pair .with .ensures ∙ ap₂ pairOf first (list .order .ensures)) j;
+      «t_values» = s .pre .2 j;
+      pair = (w .with .ensures ∙ ap₂ pairOf first (s .pre .3)) j;
       second = second j;
     }
 
@@ -33,16 +33,12 @@ pub key-of-spec : {M : Type 1} → statement M
 key-of-spec =
     tie.close
     (tie.spec
-    (λ c. search needs)
-    (λ c. search needs)
-    (λ c. search needs)
-    (λ c. search needs)
-    (λ c. search needs)
-    (λ c. search needs)
-    (λ c. search needs)
-    (λ c. search needs)
     (λ c κs. search needs)
     (λ c κs. search needs)
+    (λ c κs. search needs)
+    (λ c. search needs)
+    (λ c. search needs)
+    (λ c. search needs)
     (λ c κs. search needs)
     (λ c κs. search needs)
     (λ c. search needs)

@@ -1,15 +1,16 @@
 -- `key_reader::read_key` meets its contract: over the field that goes with the length, or refused.
-use mathlib.Core.Path.{_≡_, sym, ap₂, _∙_}
+use mathlib.Core.Path.{_≡_, sym, ap₂}
 use mathlib.Core.Bool.{Bool, _||_}
 use mathlib.Core.List.{List}
 use native.Mathlib.Omega.{arith}
 use Prim.Native.Nat.{ℕ}
 use borrow.Author.Tests.{ne-eqb}
 use lib.ListN.{length, drop}
-use Rattle.base.proofs.QuestionLaws.{fails, granted-refused}
+use Rattle.base.proofs.QuestionLaws.{fails}
 use Rattle.field.specs.declared.Field.the-variants.{Gf32, Gf256}
-use Rattle.key.specs.Keys.{keyQuestions, keyAnswer, keyOf, zeroKey}
+use Rattle.key.specs.Keys.{keyQuestions, keyAnswer}
 use Rattle.key.proofs.Widths.{field-of-length}
+use Rattle.key.proofs.KeyFacts.{reads-refused}
 use borrow.Author.Needs.{needs}
 use Rattle.key_reader.proofs.read_key.Statement.{statement}
 use Rattle.key_reader.proofs.read_key.Tie as tie
@@ -31,8 +32,7 @@ refused file p q =
 returns-3 : tie.Need-returns-3
 returns-3 c =
     let file = c .before .before .before .before .args .file .now in
-    let is = sym (refused file (c .before .before .if1 .left) (c .before .if2 .left)) in
-    record { answer-is = is; key-is = c .zero-key .ensures ∙ sym (granted-refused (keyOf file) zeroKey (λ z. let e : _≡_ {A = ℕ} 1 0 = is ∙ z in omega arith)) }
+    reads-refused file 1 (refused file (c .before .before .if1 .left) (c .before .if2 .left)) (λ z. omega arith) (c .refused .ensures)
 
 pub read-key-spec : {M : Type 1} → statement M
 read-key-spec =

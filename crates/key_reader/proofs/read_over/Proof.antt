@@ -1,18 +1,19 @@
 -- `key_reader::read_over` meets its contract: the questions that ask no more than the bits of an element, then 26 of
 -- the matrices that were read; the key, or zeros.
-use Prim.Native.Nat.{ℕ}
+use Prim.Native.Nat.{ℕ, _≤_}
 use mathlib.Core.Path.{_≡_, sym, ap, _∙_}
 use mathlib.Core.List.{List, [], _∷_, _++_}
 use native.Mathlib.Omega.{arith}
 use borrow.Author.Tests.{not-true, not-false}
 use lib.ListN.{length}
 use Rattle.base.specs.Questions.{Question, _else_, firstNo}
-use Rattle.base.proofs.QuestionLaws.{all-passed, refused-there, passes, fails, granted-zero, granted-refused}
+use Rattle.base.proofs.QuestionLaws.{all-passed, refused-there, passes, fails}
 use Rattle.field.specs.Fields.{bits, keyBytes}
 use Rattle.field.specs.declared.Field.{Field}
 use Rattle.key.specs.declared.Key.{Key}
-use Rattle.key.specs.Keys.{keyField, entries, firstBytes, secondBytes, wholeMatrix, bothInvertible, partQuestions, keyQuestionsOver, keyAnswer, keyParts, keyOf, zeroKey}
-use Rattle.key.proofs.Widths.{told-width, told-bytes, eitherLength, length-passes}
+use Rattle.key.specs.Keys.{keyField, fileBytes, entries, firstBytes, secondBytes, wholeMatrix, bothInvertible, partQuestions, keyQuestionsOver, keyAnswer, keyParts, keyOf}
+use Rattle.key.proofs.Widths.{told-narrow, told-bytes, eitherLength, length-passes}
+use Rattle.key.proofs.KeyFacts.{reads-refused, reads-accepted}
 use borrow.Author.Needs.{needs}
 use Rattle.key_reader.proofs.read_over.Statement.{statement}
 use Rattle.key_reader.proofs.read_over.Tie as tie
@@ -39,9 +40,15 @@ field b = start b .args .f
 abbrev file : tie.After-bits-of → List ℕ
 file b = start b .args .file .now
 
-answer-is : (a : tie.After-answer) → let b = a .before in a .answer .result ≡ firstNo (partQuestions (bits (field b)) (file b))
+sized : (b : tie.After-bits-of) → (b .bits-of .result ≤ 8) × (length (file b) ≡ fileBytes (b .bits-of .result))
+sized b = (told-narrow (field b) (b .bits-of .ensures), told-bytes (field b) (b .bits-of .ensures) (start b .pre .1))
+
+abbrev bits-at : tie.After-answer → tie.After-bits-of
+bits-at a = a .before .before .before .before .before
+
+answer-is : (a : tie.After-answer) → let b = bits-at a in a .answer .result ≡ firstNo (partQuestions (bits (field b)) (file b))
 answer-is a =
-    let b = a .before in a .answer .ensures ∙ ap (λ (n : ℕ). firstNo (partQuestions n (file b))) (b .bits-of .ensures)
+    let b = bits-at a in a .answer .ensures ∙ ap (λ (n : ℕ). firstNo (partQuestions n (file b))) (b .bits-of .ensures)
 
 asked-here : (b : tie.After-bits-of) → keyAnswer (file b) ≡ firstNo (partQuestions (bits (field b)) (file b) ++ last (field b) (file b))
 asked-here b = asked (field b) (file b) (start b .pre .0) (start b .pre .1)
@@ -50,68 +57,67 @@ held : (b : tie.After-bits-of) → keyParts (field b) (bits (field b)) (file b) 
 unfolding keyOf
 held b = ap (λ (f : Field). keyParts f (bits f) (file b)) (start b .pre .0)
 
-past-7 : (c : tie.Else1) → let b = c .before .before in keyAnswer (file b) ≡ firstNo (last (field b) (file b))
+past-7 : (c : tie.Else1) → let b = bits-at (c .before) in keyAnswer (file b) ≡ firstNo (last (field b) (file b))
 past-7 c =
-    let b = c .before .before in
+    let b = bits-at (c .before) in
     asked-here b ∙ all-passed (partQuestions (bits (field b)) (file b)) (last (field b) (file b)) tt (sym (answer-is (c .before)) ∙ c .if1 .left)
 
 abbrev at-7 : tie.After-both-invertible → tie.Else1
 at-7 c = c .before .before .before .before .before
 
-key-is : (k : tie.After-key-of) → let b = k .before .before .before in k .key-of .result ≡ keyParts (field b) (bits (field b)) (file b)
+key-is : (k : tie.After-key-of) → let b = bits-at (k .before .before) in k .key-of .result ≡ keyParts (field b) (bits (field b)) (file b)
 key-is k =
-    let b = k .before .before .before in
+    let b = bits-at (k .before .before) in
     k .key-of .ensures ∙ ap (λ (n : ℕ). keyParts (field b) n (file b)) (b .bits-of .ensures)
 
-found : (c : tie.After-both-invertible) → let b = at-7 c .before .before in let n = bits (field b) in
+found : (c : tie.After-both-invertible) → let b = bits-at (at-7 c .before) in let n = bits (field b) in
     bothInvertible (field b) (wholeMatrix (entries n (firstBytes n (file b)))) (wholeMatrix (entries n (secondBytes n (file b)))) ≡ c .both-invertible .result
 found c =
-    let b = at-7 c .before .before in
+    let b = bits-at (at-7 c .before) in
     sym (c .both-invertible .ensures ∙ ap (λ (k : Key). bothInvertible (field b) (k .pair .matrix) (k .second)) (key-is (c .before .before .before .before)))
 
 answer-requires : tie.Need-answer-requires
-answer-requires c κs = (told-width (field c) (c .bits-of .ensures), told-bytes (field c) (c .bits-of .ensures) (start c .pre .1))
+answer-requires c κs =
+    let o = c .before .before in
+    let s = sized (o .before .before) in
+    (s .0, s .1, o .before .t-values .ensures, o .order .ensures)
 
 returns : tie.Need-returns
 returns c =
     let a = c .before .before in
-    let b = a .before in
+    let b = bits-at a in
     let f = field b in
-    let is : a .answer .result ≡ keyAnswer (file b) =
-    answer-is a
-    ∙ sym (asked-here b ∙ refused-there (partQuestions (bits f) (file b)) (last f (file b)) tt (λ z. c .before .if1 .taken (answer-is a ∙ z))) in
-    record {
-      answer-is = is;
-      key-is = c .zero-key .ensures ∙ sym (granted-refused (keyOf (file b)) zeroKey (λ z. c .before .if1 .taken (is ∙ z)));
-    }
+    let is =
+    asked-here b ∙ refused-there (partQuestions (bits f) (file b)) (last f (file b)) tt (λ z. c .before .if1 .taken (answer-is a ∙ z)) ∙ sym (answer-is a) in
+    reads-refused (file b) (a .answer .result) is (c .before .if1 .taken) (c .refused .ensures)
 
 key-of-requires : tie.Need-key-of-requires
 key-of-requires c κs =
-    let b = c .before .before in (told-width (field b) (b .bits-of .ensures), told-bytes (field b) (b .bits-of .ensures) (start b .pre .1))
+    let o = c .before .before .before .before in
+    let s = sized (o .before .before) in
+    (s .0, s .1, o .before .t-values .ensures, o .order .ensures)
 
 returns-2 : tie.Need-returns-2
 returns-2 c =
     let i = c .before .before in
-    let b = at-7 i .before .before in
-    let is : 26 ≡ keyAnswer (file b) = sym (past-7 (at-7 i) ∙ fails 26 [] (found i ∙ not-true _ (c .before .if2 .taken))) in
-    record { answer-is = is; key-is = c .zero-key2 .ensures ∙ sym (granted-refused (keyOf (file b)) zeroKey (λ z. omega arith)) }
+    reads-refused (file (bits-at (at-7 i .before))) 26 (past-7 (at-7 i) ∙ fails 26 [] (found i ∙ not-true _ (c .before .if2 .taken))) (λ z. omega arith)
+    (c .refused2 .ensures)
 
 returns-3 : tie.Need-returns-3
 unfolding firstNo
 returns-3 c =
     let i = c .before in
-    let b = at-7 i .before .before in
-    let zero : keyAnswer (file b) ≡ 0 = past-7 (at-7 i) ∙ passes 26 [] (found i ∙ not-false _ (c .if2 .left)) in
-    record {
-      answer-is = at-7 i .if1 .left ∙ sym zero;
-      key-is = key-is (i .before .before .before .before) ∙ held b ∙ sym (granted-zero (keyOf (file b)) zeroKey zero);
-    }
+    let b = bits-at (at-7 i .before) in
+    reads-accepted (file b) (past-7 (at-7 i) ∙ passes 26 [] (found i ∙ not-false _ (c .if2 .left))) (at-7 i .if1 .left)
+    (key-is (i .before .before .before .before) ∙ held b)
 
 pub read-over-spec : {M : Type 1} → statement M
 read-over-spec =
     tie.close
     (tie.spec
     (λ c κs. search needs)
+    (λ c κs. sized c)
+    (λ c κs. sized (c .before))
     answer-requires
     (λ c κs. search needs)
     returns

@@ -11,9 +11,8 @@ use Rattle.base.specs.Questions.{Question, firstNo}
 use Rattle.base.proofs.QuestionLaws.{passes, fails}
 use Rattle.field.specs.Fields.{keyBytes}
 use Rattle.operands.specs.Operands.{elements, fit}
-use Rattle.key.specs.Keys.{wholeMatrix, bothInvertible, keyWriterQuestions}
-use Rattle.key.specs.Parts.{fileBytes}
-use Rattle.key.proofs.Widths.{file-bytes, told-width}
+use Rattle.key.specs.Keys.{fileBytes, wholeMatrix, bothInvertible, keyWriterQuestions}
+use Rattle.key.proofs.Widths.{file-bytes, told-narrow}
 use Rattle.key_writer.proofs.answer.Statement.{statement}
 use Rattle.key_writer.proofs.answer.Tie as tie
 
@@ -103,7 +102,7 @@ unfolding firstNo
 returns-7 c = let b = c .before in sym (past-5 (b .before .before .before .before .before) ∙ passes 26 (rest 6 (at-6 b)) (test-6 b ∙ not-false _ (c .if6 .left)))
 
 file-bytes-requires : tie.Need-file-bytes-requires
-file-bytes-requires c κs = told-width (c .args .f) (c .pre) .narrow
+file-bytes-requires c κs = told-narrow (c .args .f) (c .pre)
 
 pub answer-spec : {M : Type 1} → statement M
 answer-spec =

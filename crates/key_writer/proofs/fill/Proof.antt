@@ -1,16 +1,17 @@
--- `key_writer::fill` meets its contract: each part in its place, one after another.
-use Prim.Native.Nat.{ℕ, _+_, _-_, _*_, _^_, _<_}
-use mathlib.Core.Path.{_≡_, refl, sym, ap, ap₂, _∙_, subst}
-use mathlib.Core.List.{List, [], _∷_, _++_}
+-- `key_writer::fill` meets its contract: N and q, and then each part behind those that stand in front.
+use Prim.Native.Nat.{ℕ, _+_, _/_, _%_, _^_, _≤_}
+use mathlib.Core.Path.{_≡_, refl, ap, ap₂, _∙_}
+use mathlib.Core.List.{List, [], _∷_, _++_, append-assoc, append-nil}
 use native.Mathlib.Omega.{arith}
-use lib.ListN.{set, getD}
-use Rattle.base.specs.Digits.{value, digits}
-use Rattle.base.proofs.DigitLaws.{length-digits}
-use Rattle.base.proofs.PackLaws.{length-part}
-use Rattle.key.specs.Keys.{matrixBytes, listPlace, packedMatrix, keyFile}
-use Rattle.key.specs.Parts.{fileBytes}
-use Rattle.key.proofs.MatrixLaws.{as-many-bytes, eight-fit, packed-size}
-use Rattle.key.proofs.FileLaws.{placed, Laid, laid-first, laid-to, laid-all}
+use lib.ListN.{length}
+use lib.Pow.{pow-mono}
+use lib.Seq.{take-all}
+use Rattle.base.specs.Lists.{overlaid}
+use Rattle.base.specs.Digits.{digits}
+use Rattle.base.specs.Packing.{rowBytes, packedRow}
+use Rattle.base.proofs.RowLaws.{length-packed-row}
+use Rattle.base.proofs.FileLaws.{laid-next}
+use Rattle.key.specs.Keys.{keyPlace, keyFile}
 use borrow.Author.Needs.{needs}
 use Rattle.key_writer.proofs.fill.Statement.{statement}
 use Rattle.key_writer.proofs.fill.Tie as tie
@@ -19,238 +20,162 @@ use Rattle.key_writer.proofs.fill.Tie as tie
 abbrev start : tie.After-power → tie.Start
 start p = p .before .before .before .before .before .before
 
-abbrev at-2 : tie.After-slice-known2 → tie.After-power
+abbrev at-0 : tie.After-put → tie.After-power
+at-0 c = c .before .before .before
+
+abbrev at-1 : tie.After-pack-at → tie.After-put
+at-1 c = c .before .before .before .before
+
+abbrev at-2 : tie.After-pack-at2 → tie.After-pack-at
 at-2 c = c .before .before .before .before
 
-abbrev at-3 : tie.After-slice-known3 → tie.After-power
-at-3 c = at-2 (c .before .before .before .before)
+abbrev at-3 : tie.After-pack-at3 → tie.After-pack-at2
+at-3 c = c .before .before .before .before
 
-abbrev at-4 : tie.After-slice-known4 → tie.After-power
-at-4 c = at-3 (c .before .before .before .before)
+abbrev at-4 : tie.After-pack-at4 → tie.After-pack-at3
+at-4 c = c .before .before .before .before
 
-abbrev at-5 : tie.After-slice-known5 → tie.After-power
-at-5 c = at-4 (c .before .before .before .before)
+abbrev start-1 : tie.After-pack-at → tie.Start
+start-1 c = start (at-0 (at-1 c))
 
-abbrev at-6 : tie.After-slice-known6 → tie.After-power
-at-6 c = at-5 (c .before .before .before .before)
+abbrev start-2 : tie.After-pack-at2 → tie.Start
+start-2 c = start-1 (at-2 c)
 
-abbrev b : tie.After-power → ℕ
-b p = start p .args .bits
+abbrev start-3 : tie.After-pack-at3 → tie.Start
+start-3 c = start-2 (at-3 c)
 
--- the output after each part
-abbrev out-1 : tie.After-power → List ℕ
-out-1 p = set (start p .args .out .now) 0 8
+-- ---- sizes: where each part ends, and the output as long as it was
 
-abbrev out-2 : tie.After-slice-known2 → List ℕ
-out-2 c = placed 1 2 (out-1 (at-2 c)) (c .before .before .spell .last .0)
+small : (p : tie.After-power) → p .power .result ≤ 256
+small p = let h : 2 ^ start p .args .bits ≤ 2 ^ 8 = pow-mono (start p .pre .0) in omega (arith, p .power .ensures)
 
-abbrev out-3 : tie.After-slice-known3 → List ℕ
-out-3 c = let n = b (at-3 c) in placed 3 (3 + n - 3) (out-2 (c .before .before .before .before)) (c .before .before .regroup .last .1 .1 .1 .0)
+-- a packed row of n numbers
+row-size : (b n : ℕ) (xs : List ℕ) → length xs ≡ n → length (packedRow b xs) ≡ rowBytes b n
+row-size b n xs l = length-packed-row b xs ∙ ap (rowBytes b) l
 
-abbrev out-4 : tie.After-slice-known4 → List ℕ
-out-4 c =
-    let n = b (at-4 c) in
-    placed (3 + n) (listPlace n - (3 + n)) (out-3 (c .before .before .before .before)) (c .before .before .put-matrix .last .1 .0)
+ends-1 : (c : tie.After-pack-at) → c .pack-at .result ≡ keyPlace (start-1 c .args .bits) 3
+ends-1 c =
+    let s = start-1 c in
+    c .pack-at .ensures .ends ∙ ap (λ (n : ℕ). 3 + n) (row-size (s .args .bits) 8 (s .args .ts .now) (s .pre .2 .ts-size))
 
-abbrev out-5 : tie.After-slice-known5 → List ℕ
-out-5 c =
-    let n = b (at-5 c) in
-    placed (listPlace n) (listPlace n + 3 - listPlace n) (out-4 (c .before .before .before .before)) (c .before .before .regroup2 .last .1 .1 .1 .0)
+ends-2 : (c : tie.After-pack-at2) → c .pack-at2 .result ≡ keyPlace (start-2 c .args .bits) 4
+ends-2 c =
+    let s = start-2 c in
+    c .pack-at2 .ensures .ends ∙ ap₂ _+_ (ends-1 (at-2 c)) (row-size (s .args .bits) 57 (s .args .first .now) (s .pre .2 .first-size))
 
--- the end of the file
-abbrev end : ℕ → ℕ
-end n = listPlace n + 3 + matrixBytes n
+ends-3 : (c : tie.After-pack-at3) → c .pack-at3 .result ≡ keyPlace (start-3 c .args .bits) 5
+ends-3 c =
+    let s = start-3 c in
+    c .pack-at3 .ensures .ends ∙ ap₂ _+_ (ends-2 (at-3 c)) (row-size 3 8 (s .args .order .now) (s .pre .2 .order-size))
 
-abbrev out-6 : tie.After-slice-known6 → List ℕ
-out-6 c =
-    let n = b (at-6 c) in
-    placed (listPlace n + 3) (end n - (listPlace n + 3)) (out-5 (c .before .before .before .before)) (c .before .before .put-matrix2 .last .1 .0)
+length-1 : (c : tie.After-pack-at) → length (c .pack-at .last .0) ≡ length (start-1 c .args .out .now)
+length-1 c = c .pack-at .kept .0 ∙ at-1 c .put .kept .0
 
--- the bytes that are written by then
-abbrev front-1 : List ℕ
-front-1 = 8 ∷ []
+length-2 : (c : tie.After-pack-at2) → length (c .pack-at2 .last .0) ≡ length (start-2 c .args .out .now)
+length-2 c = c .pack-at2 .kept .0 ∙ length-1 (at-2 c)
 
-abbrev front-2 : tie.After-power → List ℕ
-front-2 p = front-1 ++ digits 256 2 (2 ^ b p)
+length-3 : (c : tie.After-pack-at3) → length (c .pack-at3 .last .0) ≡ length (start-3 c .args .out .now)
+length-3 c = c .pack-at3 .kept .0 ∙ length-2 (at-3 c)
 
-abbrev front-3 : tie.After-power → List ℕ
-front-3 p = front-2 p ++ digits 256 (b p) (value (2 ^ b p) (start p .args .ts .now))
+-- ---- what stands in front
 
-abbrev front-4 : tie.After-power → List ℕ
-front-4 p = front-3 p ++ packedMatrix (b p) (start p .args .first .now)
+-- N and q
+abbrev head : ℕ → List ℕ
+head b = 8 ∷ digits 256 2 (2 ^ b)
 
-abbrev front-5 : tie.After-power → List ℕ
-front-5 p = front-4 p ++ digits 256 3 (value 8 (start p .args .order .now))
+head-is : (b r : ℕ) → r ≡ 2 ^ b → r ≤ 256 → 8 ∷ r / 256 ∷ r % 256 ∷ [] ≡ head b
+unfolding digits
+head-is b r e h =
+    let x : r / 256 ≡ 2 ^ b / 256 % 256 = omega arith in
+    let y : r % 256 ≡ 2 ^ b / 1 % 256 = omega arith in
+    ap₂ (λ (x y : ℕ). 8 ∷ x ∷ y ∷ []) x y
 
-abbrev front-6 : tie.After-power → List ℕ
-front-6 p = front-5 p ++ packedMatrix (b p) (start p .args .second .now)
+abbrev front-1 : tie.Start → List ℕ
+front-1 s = head (s .args .bits) ++ packedRow (s .args .bits) (s .args .ts .now)
 
-laid-1 : (p : tie.After-power) → Laid (fileBytes (b p)) 1 front-1 (out-1 p)
-laid-1 p = laid-first (fileBytes (b p)) (start p .args .out .now) (start p .pre .3) (omega arith)
+abbrev front-2 : tie.Start → List ℕ
+front-2 s = front-1 s ++ packedRow (s .args .bits) (s .args .first .now)
 
-laid-2 : (c : tie.After-slice-known2) → let p = at-2 c in Laid (fileBytes (b p)) 3 (front-2 p) (out-2 c)
-laid-2 c =
-    let p = at-2 c in
-    laid-to (fileBytes (b p)) 1 3 (digits 256 2 (2 ^ b p)) (laid-1 p)
-    (c .before .before .spell .ensures ∙ ap₂ (digits 256) (length-part 1 2 (out-1 p) (omega (arith, laid-1 p .size))) (p .power .ensures))
-    (length-digits 256 2 (2 ^ b p)) (omega arith) (omega arith)
+abbrev front-3 : tie.Start → List ℕ
+front-3 s = front-2 s ++ packedRow 3 (s .args .order .now)
 
-laid-3 : (c : tie.After-slice-known3) → let p = at-3 c in Laid (fileBytes (b p)) (3 + b p) (front-3 p) (out-3 c)
-laid-3 c =
-    let p = at-3 c in
-    let n = b p in
-    let w = c .before .before .before .before in
-    let ts = start p .args .ts .now in
-    let e : 3 + n - 3 ≡ n = omega arith in
-    laid-to (fileBytes n) 3 (3 + n) (digits 256 n (value (2 ^ n) ts)) (laid-2 w)
-    (c .before .before .regroup .ensures
-    ∙ ap₂ (λ (k t : ℕ). digits 256 k (value t ts)) (length-part 3 (3 + n - 3) (out-2 w) (omega (arith, laid-2 w .size)) ∙ e) (p .power .ensures))
-    (length-digits 256 n (value (2 ^ n) ts) ∙ sym e) (omega arith) (omega arith)
+abbrev front-4 : tie.Start → List ℕ
+front-4 s = front-3 s ++ packedRow (s .args .bits) (s .args .second .now)
 
-laid-4 : (c : tie.After-slice-known4) → let p = at-4 c in Laid (fileBytes (b p)) (listPlace (b p)) (front-4 p) (out-4 c)
-laid-4 c =
-    let p = at-4 c in
-    let n = b p in
-    let first = start p .args .first .now in
-    let e : matrixBytes n ≡ listPlace n - (3 + n) = omega arith in
-    laid-to (fileBytes n) (3 + n) (listPlace n) (packedMatrix n first) (laid-3 (c .before .before .before .before)) (c .before .before .put-matrix .ensures)
-    (packed-size n first ∙ e) (omega arith) (omega arith)
-
-laid-5 : (c : tie.After-slice-known5) → let p = at-5 c in Laid (fileBytes (b p)) (listPlace (b p) + 3) (front-5 p) (out-5 c)
-laid-5 c =
-    let p = at-5 c in
-    let n = b p in
-    let w = c .before .before .before .before in
-    let v = value 8 (start p .args .order .now) in
-    let e : listPlace n + 3 - listPlace n ≡ 3 = omega arith in
-    laid-to (fileBytes n) (listPlace n) (listPlace n + 3) (digits 256 3 v) (laid-4 w)
-    (c .before .before .regroup2 .ensures
-    ∙ ap (λ (k : ℕ). digits 256 k v) (length-part (listPlace n) (listPlace n + 3 - listPlace n) (out-4 w) (omega (arith, laid-4 w .size)) ∙ e))
-    (length-digits 256 3 v ∙ sym e) (omega arith) (omega arith)
-
-laid-6 : (c : tie.After-slice-known6) → let p = at-6 c in Laid (fileBytes (b p)) (fileBytes (b p)) (front-6 p) (out-6 c)
-laid-6 c =
-    let p = at-6 c in
-    let n = b p in
-    let second = start p .args .second .now in
-    let e : matrixBytes n ≡ end n - (listPlace n + 3) = omega arith in
-    let whole : end n ≡ fileBytes n = omega arith in
-    subst (λ (k : ℕ). Laid (fileBytes n) k (front-6 p) (out-6 c)) whole
-    (laid-to (fileBytes n) (listPlace n + 3) (end n) (packedMatrix n second) (laid-5 (c .before .before .before .before)) (c .before .before .put-matrix2 .ensures)
-    (packed-size n second ∙ e) (omega arith) (omega arith))
-
-part-spell-end : tie.Need-part-spell-end
-part-spell-end c = omega (arith, laid-1 c .size)
-
-part-regroup-end : tie.Need-part-regroup-end
-part-regroup-end c = omega (arith, laid-2 c .size)
-
-part-put-matrix-end : tie.Need-part-put-matrix-end
-part-put-matrix-end c = omega (arith, laid-3 c .size)
-
-part-regroup-end-2 : tie.Need-part-regroup-end-2
-part-regroup-end-2 c = omega (arith, laid-4 c .size)
-
-part-put-matrix-end-2 : tie.Need-part-put-matrix-end-2
-part-put-matrix-end-2 c = omega (arith, laid-5 c .size)
-
-regroup-requires : tie.Need-regroup-requires
-regroup-requires c κs =
-    let p = at-2 (c .before) in
+laid-0 : (c : tie.After-put) → let a = start (at-0 c) .args in c .put .last .0 ≡ overlaid (head (a .bits)) (a .out .now)
+laid-0 c =
+    let p = at-0 c in
     let s = start p in
-    let n = b p in
-    let e : 3 + n - 3 ≡ n = omega arith in
-    record {
-      below = subst (λ (t : ℕ). (k : ℕ) → getD (s .args .ts .now) k 0 < t) (sym (p .power .ensures)) (s .pre .1 .ts-below);
-      source = s .pre .2 .ts-size;
-      output = size n (length-part 3 (3 + n - 3) (out-2 (c .before)) (omega (arith, laid-2 (c .before) .size)) ∙ e);
-      fits = eight-fit n (s .pre .0) (p .power .ensures);
-      as-many = sym (as-many-bytes n (s .pre .0) (p .power .ensures));
-      positive = omega arith;
-      a-byte = omega arith;
-    }
-  where
-    size : (n : ℕ) {m : ℕ} → m ≡ n → m ≡ 1 * n
-    size n e = omega arith
+    let out = s .args .out .now in
+    let three = take-all (length out) (8 ∷ p .power .result / 256 ∷ p .power .result % 256 ∷ []) (omega (arith, s .pre .3)) in
+    c .put .ensures ∙ ap (λ (l : List ℕ). overlaid l out) (three ∙ head-is (s .args .bits) (p .power .result) (p .power .ensures) (small p))
 
-put-matrix-requires : tie.Need-put-matrix-requires
-put-matrix-requires c κs =
-    let s = start (at-3 (c .before)) in
-    let n = b (at-3 (c .before)) in
-    let e : listPlace n - (3 + n) ≡ matrixBytes n = omega arith in
-    (s .pre .0, s .pre .1 .first-below, s .pre .2 .first-size, length-part (3 + n) (listPlace n - (3 + n)) (out-3 (c .before)) (omega (arith, laid-3 (c .before) .size)) ∙ e)
+laid-1 : (c : tie.After-pack-at) → let s = start-1 c in
+    (c .pack-at .last .0 ≡ overlaid (front-1 s) (s .args .out .now)) × (c .pack-at .result ≡ length (front-1 s))
+unfolding digits
+laid-1 c = let s = start-1 c in laid-next (head (s .args .bits)) (s .args .out .now) (c .pack-at .ensures) (laid-0 (at-1 c)) refl
 
-regroup-requires-2 : tie.Need-regroup-requires-2
-regroup-requires-2 c κs =
-    let s = start (at-4 (c .before)) in
-    let n = b (at-4 (c .before)) in
-    let e : listPlace n + 3 - listPlace n ≡ 3 = omega arith in
-    record {
-      below = s .pre .1 .order-below;
-      source = s .pre .2 .order-size;
-      output = length-part (listPlace n) (listPlace n + 3 - listPlace n) (out-4 (c .before)) (omega (arith, laid-4 (c .before) .size)) ∙ e;
-      fits = omega arith;
-      as-many = refl;
-      positive = omega arith;
-      a-byte = omega arith;
-    }
+laid-2 : (c : tie.After-pack-at2) → let s = start-2 c in
+    (c .pack-at2 .last .0 ≡ overlaid (front-2 s) (s .args .out .now)) × (c .pack-at2 .result ≡ length (front-2 s))
+laid-2 c = let s = start-2 c in let l = laid-1 (at-2 c) in laid-next (front-1 s) (s .args .out .now) (c .pack-at2 .ensures) (l .0) (l .1)
 
-put-matrix-requires-2 : tie.Need-put-matrix-requires-2
-put-matrix-requires-2 c κs =
-    let s = start (at-5 (c .before)) in
-    let n = b (at-5 (c .before)) in
-    let e : end n - (listPlace n + 3) ≡ matrixBytes n = omega arith in (
-      s .pre .0,
-      s .pre .1 .second-below,
-      s .pre .2 .second-size,
-      length-part (listPlace n + 3) (end n - (listPlace n + 3)) (out-5 (c .before)) (omega (arith, laid-5 (c .before) .size)) ∙ e,
-    )
+laid-3 : (c : tie.After-pack-at3) → let s = start-3 c in
+    (c .pack-at3 .last .0 ≡ overlaid (front-3 s) (s .args .out .now)) × (c .pack-at3 .result ≡ length (front-3 s))
+laid-3 c = let s = start-3 c in let l = laid-2 (at-3 c) in laid-next (front-2 s) (s .args .out .now) (c .pack-at3 .ensures) (l .0) (l .1)
+
+-- ---- the needs
+
+cast-t16 : tie.Need-cast-t16
+cast-t16 c = omega (arith, small (c .before))
+
+pack-at-requires : tie.Need-pack-at-requires
+pack-at-requires c κs =
+    let q = c .before .before .before in
+    let s = start (at-0 q) in
+    (s .pre .0, s .pre .1 .ts-below, omega (arith, ap (rowBytes (s .args .bits)) (s .pre .2 .ts-size), q .put .kept .0, s .pre .3))
+
+pack-at-requires-2 : tie.Need-pack-at-requires-2
+pack-at-requires-2 c κs =
+    let q = c .before .before .before in
+    let s = start-1 q in
+    (s .pre .0, s .pre .1 .first-below, omega (arith, ends-1 q, ap (rowBytes (s .args .bits)) (s .pre .2 .first-size), length-1 q, s .pre .3))
+
+pack-at-requires-3 : tie.Need-pack-at-requires-3
+pack-at-requires-3 c κs =
+    let q = c .before .before .before in
+    let s = start-2 q in
+    (omega arith, s .pre .1 .order-below, omega (arith, ends-2 q, ap (rowBytes 3) (s .pre .2 .order-size), length-2 q, s .pre .3))
+
+pack-at-requires-4 : tie.Need-pack-at-requires-4
+pack-at-requires-4 c κs =
+    let q = c .before .before .before in
+    let s = start-3 q in
+    (s .pre .0, s .pre .1 .second-below, omega (arith, ends-3 q, ap (rowBytes (s .args .bits)) (s .pre .2 .second-size), length-3 q, s .pre .3))
 
 same-length : tie.Need-same-length
-same-length c = laid-6 c .size ∙ sym (start (at-6 c) .pre .3)
+same-length c = c .before .before .pack-at4 .kept .0 ∙ length-3 (at-4 (c .before .before))
 
 returns : tie.Need-returns
 unfolding keyFile
 returns c =
-    let p = at-6 c in
-    let n = b p in
-    let a = start p .args in
-    laid-all (fileBytes n) front-1 (digits 256 2 (2 ^ n)) (digits 256 n (value (2 ^ n) (a .ts .now))) (packedMatrix n (a .first .now))
-    (digits 256 3 (value 8 (a .order .now))) (packedMatrix n (a .second .now)) (out-6 c) (laid-6 c)
+    let q = c .before .before in
+    let s = start-3 (at-4 q) in
+    let l = laid-3 (at-4 q) in
+    laid-next (front-3 s) (s .args .out .now) (q .pack-at4 .ensures) (l .0) (l .1) .0
+    ∙ ap (λ (l : List ℕ). overlaid l (s .args .out .now)) (simp (append-assoc, append-nil))
 
 pub fill-spec : {M : Type 1} → statement M
 fill-spec =
     tie.close
     (tie.spec
     (λ c κs. search needs)
+    cast-t16
     (λ c. search needs)
     (λ c. search needs)
-    (λ c. search needs)
-    (λ c. search needs)
-    (λ c. search needs)
-    (λ c. search needs)
-    (λ c. search needs)
-    (λ c. search needs)
-    (λ c. search needs)
-    (λ c. search needs)
-    (λ c. search needs)
-    part-spell-end
     (λ c κs. search needs)
-    (λ c. search needs)
-    (λ c. search needs)
-    part-regroup-end
-    regroup-requires
-    (λ c. search needs)
-    (λ c. search needs)
-    part-put-matrix-end
-    put-matrix-requires
-    (λ c. search needs)
-    (λ c. search needs)
-    part-regroup-end-2
-    regroup-requires-2
-    (λ c. search needs)
-    (λ c. search needs)
-    part-put-matrix-end-2
-    put-matrix-requires-2
+    pack-at-requires
+    pack-at-requires-2
+    pack-at-requires-3
+    pack-at-requires-4
     same-length
     returns)

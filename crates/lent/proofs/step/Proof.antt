@@ -13,10 +13,10 @@ multiplied : (m : tie.After-multiply) → let a = m .before .before .args in
 multiplied m = rw (sym (m .before .field-of .ensures)) (m .multiply .ensures)
 
 returns : tie.Need-returns
-returns c = kept (multiplied (c .before .before)) (c .if1 .taken)
+returns c = let t = c .before in kept (multiplied (t .before .before)) (c .refused .ensures) (t .if1 .taken)
 
 returns-2 : tie.Need-returns-2
 returns-2 c = changed (multiplied (c .before .before)) (c .if1 .left)
 
 pub step-spec : {M : Type 1} → statement M
-step-spec = tie.close (tie.spec (λ c κs. search needs) (λ c κs. search needs) returns returns-2)
+step-spec = tie.close (tie.spec (λ c κs. search needs) (λ c κs. search needs) (λ c κs. search needs) returns returns-2)

@@ -13,7 +13,8 @@ product-of-requires c κs =
 returns : tie.Need-returns
 returns c =
     let l = c .before in
-    c .product-of .ensures ∙ sum-product (l .before .before .before .pre) (l .before .logarithm .ensures) (l .logarithm2 .ensures)
+    c .product-of .ensures
+    ∙ sum-product (l .before .before .before .pre) (l .before .logarithm .ensures) (l .logarithm2 .ensures)
 
 pub times-spec : {M : Type 1} → statement M
 times-spec =

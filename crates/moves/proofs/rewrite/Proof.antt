@@ -17,7 +17,7 @@ use Rattle.rewriting.specs.Rewriting.{steps, moveQuestions, listQuestions, rewr
 use Rattle.rewriting.specs.Leaving.{moved, Leaves}
 use Rattle.rewriting.proofs.CodeList.{listed, leaves-as}
 use Rattle.rewriting.proofs.RewriterAnswer.{afterWord, past-room, past-word}
-use Rattle.moves.specs.Meaning.{Rewrote}
+use Rattle.moves.specs.Rewriter.{Rewrote}
 use Rattle.moves.proofs.CodeRewrite.{rewriter-answer, rewrote}
 use Rattle.moves.proofs.RewritingKeepsMeaning.{rewrote-whole}
 use borrow.Author.Needs.{needs}
@@ -53,8 +53,9 @@ module _ (s : tie.Start) where
   out = s .args .out .now
 
   -- a refusal leaves the output as it was
-  refused : {n : ℕ} → firstNo (rewriterQuestions (length out) word moves) ≡ n → (n ≡ 0 → ⊥) → Rewrote word moves out out n 0
-  refused {n} e h = rewrote-whole word moves (wrote-refused _ _ out n e h)
+  refused : {answer bytes : ℕ} (n : ℕ) → (answer ≡ n) × (bytes ≡ 0) → firstNo (rewriterQuestions (length out) word moves) ≡ n → (n ≡ 0 → ⊥)
+      → Rewrote word moves out out answer bytes
+  refused n r e h = rewrote-whole word moves (wrote-refused _ _ out n r e h)
 
 -- ---- what the questions passed tell
 
@@ -95,27 +96,31 @@ few c =
 
 returns : tie.Need-returns
 returns c =
-    let s = c .before .before .before .before in
-    refused s (fails 15 (wordQuestions (word s) ++ afterWord (word s) (moves s)) (lt-leb 5002 (length (out s)) (c .if1 .taken))) (omega arith)
+    let t = c .before in
+    let s = t .before .before .before .before in
+    refused s 15 (c .refused .ensures)
+    (fails 15 (wordQuestions (word s) ++ afterWord (word s) (moves s)) (lt-leb 5002 (length (out s)) (t .if1 .taken))) (omega arith)
 
 returns-2 : tie.Need-returns-2
 unfolding wordAnswer
 returns-2 c =
-    let t = c .before .before .before in
+    let r = c .before in
+    let t = r .before .before .before in
     let s = at-1 t in
-    let e = c .before .before .read-word .ensures .answer-is in
-    refused s
-    (past-1 t ∙ refused-there (wordQuestions (word s)) (afterWord (word s) (moves s)) tt (λ z. c .if2 .taken (e ∙ z)) ∙ sym e)
-    (c .if2 .taken)
+    let e = r .before .before .read-word .ensures .answer-is in
+    refused s _ (c .refused2 .ensures)
+    (past-1 t ∙ refused-there (wordQuestions (word s)) (afterWord (word s) (moves s)) tt (λ z. r .if2 .taken (e ∙ z)) ∙ sym e)
+    (r .if2 .taken)
 
 returns-3 : tie.Need-returns-3
 returns-3 c =
-    let t = c .before .before in
+    let r = c .before in
+    let t = r .before .before in
     let s = at-2 t in
-    let e = c .before .list-answer .ensures in
-    refused s
-    (past-2 t ∙ refused-there (listQuestions (moves s)) (moveQuestions (steps (moves s)) (codes (word s))) tt (λ z. c .if3 .taken (e ∙ z)) ∙ sym e)
-    (c .if3 .taken)
+    let e = r .before .list-answer .ensures in
+    refused s _ (c .refused3 .ensures)
+    (past-2 t ∙ refused-there (listQuestions (moves s)) (moveQuestions (steps (moves s)) (codes (word s))) tt (λ z. r .if3 .taken (e ∙ z)) ∙ sym e)
+    (r .if3 .taken)
 
 long-enough : (c : tie.Else3) → 2 ≤ length (word (at-3 c))
 long-enough c = accepted-word (word (at-3 c)) (word-accepted (c .before .before)) .long
@@ -136,13 +141,14 @@ all-moves-requires c κs =
 
 returns-4 : tie.Need-returns-4
 returns-4 c =
-    let m = c .before .before .before in
+    let r = c .before in
+    let m = r .before .before .before in
     let e = asked-3 m in
     let t = e .before .before in
     let s = at-2 t in
-    refused s
+    refused s _ (c .refused4 .ensures)
     (rewriter-answer (word s) (moves s) (out s) (t .before .before .before .if1 .left) (word-accepted t) (list-accepted e) ∙ sym (made m .answer-is))
-    (c .if4 .taken)
+    (r .if4 .taken)
 
 slice-aggregate-write-word : tie.Need-slice-aggregate-write-word
 slice-aggregate-write-word c =
@@ -163,6 +169,6 @@ returns-5 c =
 pub rewrite-spec : {M : Type 1} → statement M
 rewrite-spec =
     tie.close
-    (tie.spec returns (λ c κs. search needs) returns-2 (λ c κs. search needs) returns-3 long-enough long-enough (λ c. search needs) (λ c. search needs)
-    unpack-requires (λ c. search needs) all-moves-requires returns-4 (λ c. search needs) slice-aggregate-write-word (λ c κs. search needs)
-    (λ c. search needs) returns-5)
+    (tie.spec (λ c κs. search needs) returns (λ c κs. search needs) (λ c κs. search needs) returns-2 (λ c κs. search needs) (λ c κs. search needs) returns-3
+    long-enough long-enough (λ c. search needs) (λ c. search needs) unpack-requires (λ c. search needs) all-moves-requires (λ c κs. search needs) returns-4
+    (λ c. search needs) slice-aggregate-write-word (λ c κs. search needs) (λ c. search needs) returns-5)

@@ -7,13 +7,13 @@ use native.Mathlib.Omega.{arith}
 use borrow.Author.Needs.{needs}
 use borrow.Author.Tests.{ne-eqb}
 use lib.Dec.{eqb}
-use Rattle.base.specs.Lists.{every, count}
+use Rattle.base.specs.Lists.{every, count, tally}
 use Rattle.operands.proofs.all_nonzero.Statement.{statement}
 use Rattle.operands.proofs.all_nonzero.Tie as tie
 
 -- a number that is nowhere is counted 0 times
 none : (a : ℕ) (xs : List ℕ) → eqb (count a xs) 0 ≡ every (λ x. not (eqb x a)) xs
-unfolding every count
+unfolding every tally
 none a [] = refl
 none a (x ∷ xs) = go (eqb x a) (none a xs)
   where

@@ -6,19 +6,20 @@ use mathlib.Core.List.{List}
 use mathlib.Core.Logic.{⊎-elim}
 use native.Mathlib.Omega.{arith}
 use borrow.Author.Tests.{eq-eqb, ne-eqb}
+use lib.Dec.{eqb}
 use lib.ListN.{length, take, getD, length-take}
 use lib.Seq.{take-all}
-use Rattle.base.specs.Lists.{count}
-use Rattle.base.proofs.ListLaws.{count-more, count-le}
+use Rattle.base.specs.Lists.{count, tally}
+use Rattle.base.proofs.ListLaws.{tally-more, tally-le}
 use Rattle.operands.proofs.count.Statement.{statement}
 use Rattle.operands.proofs.count.Tie as tie
 
 -- one more element, which is the number or not
 hit : (a : ℕ) (xs : List ℕ) (k : ℕ) → k < length xs → getD xs k 0 ≡ a → count a (take (k + 1) xs) ≡ count a (take k xs) + 1
-hit a xs k h e = count-more a xs k h ∙ ap (λ (b : Bool). cond b (count a (take k xs) + 1) (count a (take k xs))) (eq-eqb (getD xs k 0) a e)
+hit a xs k h e = tally-more (λ x. eqb x a) xs k h ∙ ap (λ (b : Bool). cond b (count a (take k xs) + 1) (count a (take k xs))) (eq-eqb (getD xs k 0) a e)
 
 miss : (a : ℕ) (xs : List ℕ) (k : ℕ) → k < length xs → (getD xs k 0 ≡ a → ⊥) → count a (take (k + 1) xs) ≡ count a (take k xs)
-miss a xs k h e = count-more a xs k h ∙ ap (λ (b : Bool). cond b (count a (take k xs) + 1) (count a (take k xs))) (ne-eqb (getD xs k 0) a e)
+miss a xs k h e = tally-more (λ x. eqb x a) xs k h ∙ ap (λ (b : Bool). cond b (count a (take k xs) + 1) (count a (take k xs))) (ne-eqb (getD xs k 0) a e)
 
 abbrev Inv-loop : tie.InvT-loop
 Inv-loop a xs n₀ i₀ n i = (i ≤ length xs) × (count a (take i xs) ≡ n)
@@ -27,14 +28,14 @@ abbrev μ-loop : tie.MeasureT-loop
 μ-loop a xs n₀ i₀ n i = length xs - i
 
 loop-holds : tie.Need-loop-holds Inv-loop μ-loop
-unfolding count
+unfolding tally
 loop-holds c = (omega arith, refl)
 
 add-n : tie.Need-add-n Inv-loop μ-loop
 add-n c =
     let l = c .before .before .before .loop in
     let a = c .before .before .before .before .args in
-    omega (arith, count-le (a .a) (take (l .i) (a .xs .now)), length-take (l .i) (a .xs .now))
+    omega (arith, tally-le (λ x. eqb x (a .a)) (take (l .i) (a .xs .now)), length-take (l .i) (a .xs .now))
 
 loop-again : tie.Need-loop-again Inv-loop μ-loop
 loop-again c =

@@ -60,13 +60,16 @@ stack-reduced c =
 
 returns : tie.Need-returns
 returns c =
-    let s = c .before .before .before in
-    wrote-refused _ _ (s .args .out .now) 15 (fails 15 (wordQuestions (word s)) (lt-leb 5002 (room s) (c .if1 .taken))) (eqb-false 15 0 refl)
+    let t = c .before in
+    let s = t .before .before .before in
+    wrote-refused _ _ (s .args .out .now) 15 (c .refused .ensures) (fails 15 (wordQuestions (word s)) (lt-leb 5002 (room s) (t .if1 .taken))) (eqb-false 15 0 refl)
 
 returns-2 : tie.Need-returns-2
 returns-2 c =
-    let r = c .before .read-word in
-    wrote-refused _ _ (at-1 (c .before .before) .args .out .now) (r .result .answer) (past-1 (c .before .before) ∙ sym (r .ensures .answer-is)) (c .if2 .taken)
+    let t = c .before in
+    let r = t .before in
+    wrote-refused _ _ (at-1 (r .before) .args .out .now) (r .read-word .result .answer) (c .refused2 .ensures)
+    (past-1 (r .before) ∙ sym (r .read-word .ensures .answer-is)) (t .if2 .taken)
 
 sub-part : tie.Need-sub-part
 sub-part c = accepted-word (word (at-2 c)) (accepted c) .long
@@ -104,5 +107,5 @@ returns-3 c =
 pub free-reduce-spec : {M : Type 1} → statement M
 free-reduce-spec =
     tie.close
-    (tie.spec returns (λ c κs. search needs) returns-2 sub-part sub-part (λ c. search needs) (λ c. search needs) cancel-requires
+    (tie.spec (λ c κs. search needs) returns (λ c κs. search needs) (λ c κs. search needs) returns-2 sub-part sub-part (λ c. search needs) (λ c. search needs) cancel-requires
     array-share-prefix-stack slice-aggregate-write-word (λ c κs. search needs) (λ c. search needs) returns-3)

@@ -42,20 +42,24 @@ past-2 c = past-1 (c .before) ∙ passes 10 (rest 2 (at-2 c)) (le-leb (length (c
 
 returns : tie.Need-returns
 returns c =
-    let s = c .before .before .before in
-    wrote-refused _ _ (s .args .out .now) 15 (fails 15 (rest 1 s) (lt-leb 5002 (room s) (c .if1 .taken))) (omega arith)
+    let t = c .before in
+    let s = t .before .before .before in
+    wrote-refused _ _ (s .args .out .now) 15 (c .refused .ensures) (fails 15 (rest 1 s) (lt-leb 5002 (room s) (t .if1 .taken))) (omega arith)
 
 returns-2 : tie.Need-returns-2
 returns-2 c =
-    let s = at-1 (c .before) in
-    wrote-refused _ _ (s .args .out .now) 10 (past-1 (c .before) ∙ fails 10 (rest 2 s) (lt-leb (length (codes s)) 10000 (c .if2 .taken))) (omega arith)
+    let t = c .before in
+    let s = at-1 (t .before) in
+    wrote-refused _ _ (s .args .out .now) 10 (c .refused2 .ensures)
+    (past-1 (t .before) ∙ fails 10 (rest 2 s) (lt-leb (length (codes s)) 10000 (t .if2 .taken))) (omega arith)
 
 returns-3 : tie.Need-returns-3
 returns-3 c =
-    let a = c .before .all-codes in
-    let s = at-2 (c .before .before) in
-    wrote-refused _ _ (s .args .out .now) 12
-    (past-2 (c .before .before) ∙ fails 12 (rest 3 s) (sym (a .ensures) ∙ not-true _ (c .if3 .taken))) (omega arith)
+    let t = c .before in
+    let a = t .before in
+    let s = at-2 (a .before) in
+    wrote-refused _ _ (s .args .out .now) 12 (c .refused3 .ensures)
+    (past-2 (a .before) ∙ fails 12 (rest 3 s) (sym (a .all-codes .ensures) ∙ not-true _ (t .if3 .taken))) (omega arith)
 
 lettered : (c : tie.Else3) → every isLetter (codes (at-2 (c .before .before))) ≡ true
 lettered c = sym (c .before .all-codes .ensures) ∙ not-false _ (c .if3 .left)
@@ -76,4 +80,7 @@ returns-4 c =
     (w .write-file .ensures .0 ∙ sym (length-wordFile (codes s))) (w .write-file .ensures .1)
 
 pub write-word-spec : {M : Type 1} → statement M
-write-word-spec = tie.close (tie.spec returns returns-2 (λ c κs. search needs) returns-3 write-file-requires (λ c. search needs) returns-4)
+write-word-spec =
+    tie.close
+    (tie.spec (λ c κs. search needs) returns (λ c κs. search needs) returns-2 (λ c κs. search needs) (λ c κs. search needs) returns-3 write-file-requires
+    (λ c. search needs) returns-4)

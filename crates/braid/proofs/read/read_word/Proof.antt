@@ -7,15 +7,17 @@ use Rattle.braid.proofs.read.read_word.Statement.{statement}
 use Rattle.braid.proofs.read.read_word.Tie as tie
 
 returns : tie.Need-returns
-returns c = read-refused (c .before .before .before .args .file .now) _ (sym (c .before .word-answer .ensures)) (c .if1 .taken)
+returns c =
+    let w = c .before .before in
+    read-refused (w .before .before .args .file .now) _ (c .refused .ensures) (sym (w .word-answer .ensures)) (c .before .if1 .taken)
 
-number-requires : tie.Need-number-requires
-number-requires c κs = accepted-word (c .before .before .before .args .file .now) (sym (c .before .word-answer .ensures) ∙ c .if1 .left) .long
+stated-requires : tie.Need-stated-requires
+stated-requires c κs = accepted-word (c .before .before .before .args .file .now) (sym (c .before .word-answer .ensures) ∙ c .if1 .left) .long
 
 returns-2 : tie.Need-returns-2
 returns-2 c =
     read-accepted (c .before .before .before .before .args .file .now) (sym (c .before .before .word-answer .ensures) ∙ c .before .if1 .left) _
-    (c .number .ensures)
+    (c .stated .ensures)
 
 pub read-word-spec : {M : Type 1} → statement M
-read-word-spec = tie.close (tie.spec (λ c κs. search needs) returns number-requires returns-2)
+read-word-spec = tie.close (tie.spec (λ c κs. search needs) (λ c κs. search needs) returns stated-requires returns-2)

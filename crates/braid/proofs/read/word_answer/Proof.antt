@@ -34,19 +34,25 @@ at-2 c = at-1 (c .before .before)
 abbrev at-3 : tie.Else3 → tie.Start
 at-3 c = at-2 (c .before)
 
-abbrev at-filled : tie.After-is-filled → tie.Start
-at-filled c = at-3 (c .before .before .before)
+abbrev at-lettered : tie.After-all-letters → tie.Else3
+at-lettered c = c .before .before
+
+abbrev at-filled : tie.After-is-filled → tie.Else4
+at-filled c = c .before
+
+abbrev at-4 : tie.Else4 → tie.Start
+at-4 c = at-3 (at-lettered (c .before))
 
 -- what the two tests of the half bytes tell of the file
-lettered : (c : tie.After-is-filled) (b : Bool) → c .before .all-letters .result ≡ b → every isLetter (codes (file (at-filled c))) ≡ b
+lettered : (c : tie.After-all-letters) (b : Bool) → c .all-letters .result ≡ b → every isLetter (codes (file (at-3 (at-lettered c)))) ≡ b
 lettered c b e =
-    let n = c .before .before .before .before .before .number in
-    ap (every isLetter) (sym (codes-there (file (at-filled c)) (n .ensures))) ∙ sym (c .before .all-letters .ensures) ∙ e
+    let n = at-lettered c .before .before .stated in
+    ap (every isLetter) (sym (codes-there (file (at-3 (at-lettered c))) (n .ensures))) ∙ sym (c .all-letters .ensures) ∙ e
 
-filled : (c : tie.After-is-filled) (b : Bool) → c .is-filled .result ≡ b → every (λ h. eqb h 0) (filler (file (at-filled c))) ≡ b
+filled : (c : tie.After-is-filled) (b : Bool) → c .is-filled .result ≡ b → every (λ h. eqb h 0) (filler (file (at-4 (at-filled c)))) ≡ b
 filled c b e =
-    let n = c .before .before .before .before .before .number in
-    ap (every (λ h. eqb h 0)) (sym (filler-there (file (at-filled c)) (n .ensures))) ∙ sym (c .is-filled .ensures) ∙ e
+    let n = at-lettered (at-filled c .before) .before .before .stated in
+    ap (every (λ h. eqb h 0)) (sym (filler-there (file (at-4 (at-filled c))) (n .ensures))) ∙ sym (c .is-filled .ensures) ∙ e
 
 past-1 : (c : tie.Else1) → wordAnswer (file (at-1 c)) ≡ firstNo (rest 1 (at-1 c))
 unfolding wordAnswer
@@ -60,8 +66,8 @@ past-3 c =
     past-2 (c .before)
     ∙ passes 11 (rest 3 (at-3 c)) (eq-eqb (length (file (at-3 c))) (needed (stated (file (at-3 c)))) (omega arith))
 
-past-4 : (c : tie.Else4) → wordAnswer (file (at-filled (c .before))) ≡ firstNo (rest 4 (at-filled (c .before)))
-past-4 c = past-3 (c .before .before .before .before) ∙ passes 12 (rest 4 (at-filled (c .before))) (lettered (c .before) _ (not-false _ (c .if4 .left)))
+past-4 : (c : tie.Else4) → wordAnswer (file (at-4 c)) ≡ firstNo (rest 4 (at-4 c))
+past-4 c = past-3 (at-lettered (c .before)) ∙ passes 12 (rest 4 (at-4 c)) (lettered (c .before) _ (not-false _ (c .if4 .left)))
 
 returns : tie.Need-returns
 unfolding wordAnswer
@@ -75,24 +81,27 @@ returns-2 c =
 returns-3 : tie.Need-returns-3
 returns-3 c =
     let s = at-2 (c .before) in
-    let n = c .before .before .number in
+    let n = c .before .before .stated in
     sym (past-2 (c .before) ∙ fails 11 (rest 3 s) (ne-eqb (length (file s)) (needed (stated (file s))) (λ e. c .if3 .taken (rw (n .ensures) e))))
 
 returns-4 : tie.Need-returns-4
 returns-4 c =
-    sym
-    (past-3 (c .before .before .before .before)
-    ∙ fails 12 (rest 4 (at-filled (c .before))) (lettered (c .before) _ (not-true _ (c .if4 .taken))))
+    let t = at-lettered (c .before) in
+    sym (past-3 t ∙ fails 12 (rest 4 (at-3 t)) (lettered (c .before) _ (not-true _ (c .if4 .taken))))
 
 returns-5 : tie.Need-returns-5
-returns-5 c = sym (past-4 (c .before) ∙ fails 13 (rest 5 (at-filled (c .before .before))) (filled (c .before .before) _ (not-true _ (c .if5 .taken))))
+returns-5 c =
+    let t = at-filled (c .before) in
+    sym (past-4 t ∙ fails 13 (rest 5 (at-4 t)) (filled (c .before) _ (not-true _ (c .if5 .taken))))
 
 returns-6 : tie.Need-returns-6
 unfolding firstNo
-returns-6 c = sym (past-4 (c .before) ∙ passes 13 (rest 5 (at-filled (c .before .before))) (filled (c .before .before) _ (not-false _ (c .if5 .left))))
+returns-6 c =
+    let t = at-filled (c .before) in
+    sym (past-4 t ∙ passes 13 (rest 5 (at-4 t)) (filled (c .before) _ (not-false _ (c .if5 .left))))
 
 pub word-answer-spec : {M : Type 1} → statement M
 word-answer-spec =
     tie.close
     (tie.spec returns (λ c κs. search needs) returns-2 (λ c. search needs) (λ c. search needs) returns-3 (λ c. search needs) (λ c. search needs)
-    (λ c. search needs) (λ c κs. search needs) (λ c κs. search needs) returns-4 returns-5 returns-6)
+    (λ c. search needs) (λ c κs. search needs) returns-4 (λ c κs. search needs) returns-5 returns-6)

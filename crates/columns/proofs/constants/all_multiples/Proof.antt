@@ -10,15 +10,19 @@ use Rattle.columns.proofs.constants.all_multiples.Statement.{statement}
 use Rattle.columns.proofs.constants.all_multiples.Tie as tie
 
 abbrev Inv-loop : tie.InvT-loop
-Inv-loop list₀ from numbers bits modulus a₀ list a = (a ≤ 8) × AllFilled (polynomials bits modulus) bits numbers from a list₀ list
+Inv-loop list₀ from numbers bits modulus a₀ list a =
+    (a ≤ 8) × AllFilled (polynomials bits modulus) bits numbers from a list₀ list
 
 abbrev μ-loop : tie.MeasureT-loop
 μ-loop list₀ from numbers bits modulus a₀ list a = 8 - a
 
 loop-holds : tie.Need-loop-holds Inv-loop μ-loop
 loop-holds c =
-    let a = c .args in
-    (omega arith, none-row (polynomials (a .bits) (a .modulus)) (a .bits) (a .numbers .now) (a .from) (a .list .now) (c .pre .0) (c .pre .1))
+    let a = c .args in (
+      omega arith,
+      none-row (polynomials (a .bits) (a .modulus)) (a .bits) (a .numbers .now) (a .from) (a .list .now)
+          (c .pre .0) (c .pre .1),
+    )
 
 multiples-requires : tie.Need-multiples-requires Inv-loop μ-loop
 multiples-requires c κs =
@@ -32,7 +36,8 @@ loop-again c =
     let s = c .before .before .before .before .before in
     let a = s .args in (
       omega arith,
-      next-row (polynomials (a .bits) (a .modulus)) (a .bits) (a .numbers .now) (a .from) (a .list .now) (l .a) (l .list) (c .multiples .last .0)
+      next-row (polynomials (a .bits) (a .modulus)) (a .bits) (a .numbers .now) (a .from) (a .list .now) (l .a)
+          (l .list) (c .multiples .last .0)
           (s .pre .3) (omega arith) (l .inv .1) (c .multiples .ensures),
     )
 

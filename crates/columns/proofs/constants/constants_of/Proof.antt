@@ -14,7 +14,8 @@ returns : tie.Need-returns
 returns c =
     let s = c .before .before .before .before in
     let a = s .args in
-    both-rows (polynomials (a .bits) (a .modulus)) (a .bits) (a .t-values .now) (a .reciprocals .now) _ (c .before .before .all-multiples .last .0) (c .all-multiples2 .last .0)
+    both-rows (polynomials (a .bits) (a .modulus)) (a .bits) (a .t-values .now) (a .reciprocals .now) _
+    (c .before .before .all-multiples .last .0) (c .all-multiples2 .last .0)
     (s .pre .0) (s .pre .2) (c .before .before .all-multiples .ensures) (c .all-multiples2 .ensures)
 
 pub constants-of-spec : {M : Type 1} → statement M

@@ -16,18 +16,25 @@ abbrev μ-loop : tie.MeasureT-loop
 μ-loop list₀ at number bits modulus size product₀ i₀ list product i = bits - i
 
 rem-product : tie.Need-rem-product Inv-loop μ-loop
-rem-product c = omega (arith, size-is (c .before .before .args .bits) (c .before .before .pre .2), pow-pos (c .before .before .args .bits))
+rem-product c =
+    omega (
+      arith,
+      size-is (c .before .before .args .bits) (c .before .before .pre .2),
+      pow-pos (c .before .before .args .bits),
+    )
 
 loop-holds : tie.Need-loop-holds Inv-loop μ-loop
 loop-holds c =
     let a = c .before .before .args in
     let pre = c .before .before .pre in (
       omega arith,
-      rw (c .wide .ensures .0, size-is (a .bits) (pre .2)) (none-filled (pre .3) (pre .2) (a .number) (a .at) (a .list .now) (pre .1)),
+      rw (c .wide .ensures .0, size-is (a .bits) (pre .2))
+          (none-filled (pre .3) (pre .2) (a .number) (a .at) (a .list .now) (pre .1)),
     )
 
 times-x-requires : tie.Need-times-x-requires Inv-loop μ-loop
-times-x-requires c κs = let pre = c .before .before .before .before .pre in (pre .3, pre .2, c .before .loop .inv .1 .below)
+times-x-requires c κs =
+    let pre = c .before .before .before .before .pre in (pre .3, pre .2, c .before .loop .inv .1 .below)
 
 loop-again : tie.Need-loop-again Inv-loop μ-loop
 loop-again c =
@@ -36,7 +43,8 @@ loop-again c =
     let pre = c .before .before .before .before .before .pre in (
       omega arith,
       rw (c .times-x .ensures .0)
-          (next-filled (pre .3) (pre .2) (a .number) (a .at) (l .i) (a .list .now) (l .list) (l .product) (pre .0) (omega arith) (l .inv .1)),
+          (next-filled (pre .3) (pre .2) (a .number) (a .at) (l .i) (a .list .now) (l .list) (l .product) (pre .0)
+          (omega arith) (l .inv .1)),
     )
 
 returns : tie.Need-returns Inv-loop μ-loop

@@ -27,8 +27,10 @@ loop-again c =
 returns : tie.Need-returns Inv-loop μ-loop
 returns c =
     let l = c .before .loop in
-    let e : l .c ≡ 8 = omega arith in
-    (l .inv .1 .places, all-held (c .before .before .args .m .now) (l .columns) (c .before .before .pre) (rw e at (l .inv .1)))
+    let e : l .c ≡ 8 = omega arith in (
+      l .inv .1 .places,
+      all-held (c .before .before .args .m .now) (l .columns) (c .before .before .pre) (rw e at (l .inv .1)),
+    )
 
 pub columns-of-spec : {M : Type 1} → statement M
 columns-of-spec =

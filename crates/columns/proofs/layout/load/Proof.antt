@@ -40,7 +40,10 @@ add-x : tie.Need-add-x Inv-loop μ-loop
 add-x c =
     let l = c .before .before .before .before .loop in
     let a = c .before .before .before .before .before .args in
-    record { fits = load-fits (a .m .now) (a .column) (l .i) (l .x) (c .wide .result) (omega arith) (c .wide .ensures .1) (l .inv .1) }
+    record {
+      fits = load-fits (a .m .now) (a .column) (l .i) (l .x) (c .wide .result) (omega arith)
+          (c .wide .ensures .1) (l .inv .1);
+    }
 
 add-i : tie.Need-add-i Inv-loop μ-loop
 add-i c = omega arith
@@ -54,7 +57,8 @@ loop-again c =
     let l = c .before .before .before .before .loop in
     let a = c .before .before .before .before .before .args in (
       omega arith,
-      next-loaded (a .m .now) (a .column) (l .i) (l .x) (c .wide .result) (omega arith) (c .wide .ensures .1) (l .inv .1)
+      next-loaded (a .m .now) (a .column) (l .i) (l .x) (c .wide .result) (omega arith)
+          (c .wide .ensures .1) (l .inv .1)
           (c .wide .ensures .0 ∙ ap (λ (k : ℕ). getD (a .m .now) k 0) (c .before .before .place .ensures .0)),
     )
 

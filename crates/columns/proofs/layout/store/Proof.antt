@@ -35,7 +35,8 @@ loop-again c =
     let l = c .before .before .loop in
     let a = c .before .before .before .args in (
       omega arith,
-      rw (c .place .ensures .0) (next-stored (a .x) (a .column) (l .r) (a .m .now) (l .m) (l .rest) (omega arith) (omega arith) (l .inv .1)),
+      rw (c .place .ensures .0)
+          (next-stored (a .x) (a .column) (l .r) (a .m .now) (l .m) (l .rest) (omega arith) (omega arith) (l .inv .1)),
     )
 
 returns : tie.Need-returns Inv-loop μ-loop

@@ -1,53 +1,87 @@
--- `crossing_lines::line::line` meets its contract: its bytes are added one after another.
-use Prim.Native.Nat.{_<_}
-use mathlib.Core.Path.{_≡_}
+-- `crossing_lines::line::line` meets its contract: two labels and the number are added one after another.
+use Prim.Native.Nat.{_+_, _≤_}
+use mathlib.Core.Path.{_≡_, ap, _∙_}
+use mathlib.Core.List.{[], _∷_}
 use native.Mathlib.Omega.{arith}
 use borrow.Author.Needs.{needs}
-use lib.IntN.{pos, _-ℤ_}
-use lib.ListN.{length, length-set}
-use Rattle.crossing_lines.proofs.LineLaws.{line-added}
+use lib.ListN.{length, length-append}
+use mir.Syntax.{w32}
+use mir.Val.{toZ, ofZ}
+use Rattle.text.specs.Decimal.{decimal, signedText}
+use Rattle.crossing.specs.Crossings.{pairAt}
+use Rattle.crossing.specs.declared.Two.{Two}
+use Rattle.crossing_lines.proofs.LineLaws.{smaller-short, larger-short, number-short, line-added, read-back}
 use Rattle.crossing_lines.proofs.line.line.Statement.{statement}
 use Rattle.crossing_lines.proofs.line.line.Tie as tie
 
--- the number ends within the text
-within : (c : tie.After-signed) → c .signed .result < length (c .signed .last .0)
-within c =
-    let s = c .before .before .before in
-    let kept : length (c .signed .last .0) ≡ length (s .args .text .now) = simp length-set at (c .signed .kept .0) in
-    omega (arith, c .signed .ensures .1)
+-- the first label
+module _ (c : tie.After-wide) where
+  abbrev start : tie.Start
+  start = c .before .before .before .before
 
-same-length : tie.Need-same-length
-same-length c = simp length-set (simp length-set at (c .before .before .signed .kept .0))
+  smaller-is : c .wide .result ≡ pairAt (start .args .k) .smaller
+  smaller-is = c .wide .ensures ∙ ap (λ (t : Two). t .smaller) (c .before .before .pair-at .ensures)
 
-slice-write-text-5 : tie.Need-slice-write-text-5
-slice-write-text-5 c = within (c .before .before)
+  smaller-fits : length (decimal (c .wide .result)) ≤ 1
+  smaller-fits = rw smaller-is (smaller-short (start .args .k) (start .pre .1))
+
+-- where it ends
+first-end : (c : tie.After-decimal) → c .decimal .result ≤ start (c .before) .args .at + 2
+first-end c = omega (arith, c .decimal .ensures .end-is, length-append (decimal (c .before .wide .result)) (32 ∷ []), smaller-fits (c .before))
+
+-- the second label
+module _ (c : tie.After-wide2) where
+  abbrev one : tie.After-decimal
+  one = c .before .before .before .before
+
+  larger-is : c .wide2 .result ≡ pairAt (start (one .before) .args .k) .larger
+  larger-is = c .wide2 .ensures ∙ ap (λ (t : Two). t .larger) (one .before .before .before .pair-at .ensures)
+
+  larger-fits : length (decimal (c .wide2 .result)) ≤ 1
+  larger-fits = rw larger-is (larger-short (start (one .before) .args .k) (start (one .before) .pre .1))
+
+second-end : (c : tie.After-decimal2) → c .decimal2 .result ≤ start (one (c .before) .before) .args .at + 4
+second-end c =
+    omega (
+      arith,
+      c .decimal2 .ensures .end-is,
+      length-append (decimal (c .before .wide2 .result)) (32 ∷ []),
+      larger-fits (c .before),
+      first-end (one (c .before)),
+    )
+
+-- the number
+module _ (c : tie.After-signed-arg) where
+  abbrev two : tie.After-decimal2
+  two = c .before .before .before
+
+  abbrev begin : tie.Start
+  begin = start (one (two .before) .before)
+
+  number-is : toZ w32 (ofZ w32 (begin .args .number)) ≡ begin .args .number
+  number-is = read-back (begin .args .number) (begin .pre .2)
+
+  number-fits : length (signedText (toZ w32 (ofZ w32 (begin .args .number)))) ≤ 6
+  number-fits = rw number-is (number-short (begin .args .number) (begin .pre .2))
 
 returns : tie.Need-returns
 returns c =
-    let d = c .before .before in
-    let s = d .before .before .before in
-    let a = s .args in
-    let e = d .signed .ensures in (
-      line-added (a .text .now) (a .at) (omega arith) (a .a) (a .b) (s .pre .2) (s .pre .3) (pos (a .s .generators) -ℤ pos (a .s .inverses)) (e .0) (within d),
-      omega (arith, e .1),
-    )
+    let s = c .before .before in
+    let d = two (s .before) in
+    let e = one (d .before) in
+    let b = begin (s .before) in
+    line-added (b .args .k) (b .pre .1) (smaller-is (e .before)) (larger-is (d .before)) (number-is (s .before)) (omega arith)
+    (omega (arith, first-end e, e .decimal .kept .0)) (e .decimal .ensures) (d .decimal2 .ensures) (s .signed .ensures)
 
 pub line-spec : {M : Type 1} → statement M
 line-spec =
     tie.close
     (tie.spec
-    (λ c. search needs)
-    (λ c. search needs)
-    (λ c. search needs)
-    (λ c. simp length-set (omega arith))
-    (λ c. search needs)
-    (λ c. search needs)
-    (λ c. simp length-set (omega arith))
-    (λ c. search needs)
-    (λ c. simp length-set (omega arith))
-    (λ c. search needs)
     (λ c κs. search needs)
-    slice-write-text-5
+    (λ c κs. search needs)
+    (λ c κs. omega (arith, smaller-fits c))
+    (λ c κs. search needs)
+    (λ c κs. omega (arith, larger-fits c, first-end (one c), one c .decimal .kept .0))
+    (λ c κs. omega (arith, number-fits c, second-end (two c), two c .decimal2 .kept .0, one (two c .before) .decimal .kept .0))
     (λ c. search needs)
-    same-length
     returns)

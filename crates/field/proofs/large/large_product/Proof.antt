@@ -16,7 +16,8 @@ returns : tie.Need-returns
 returns c =
     let x = c .before .args in
     given (productQuestions Gf256 (x .a) (x .b))
-    (passed-answers (productQuestions Gf256 (x .a) (x .b)) (lt-ltb (x .a) 256 (omega arith), (lt-ltb (x .b) 256 (omega arith), tt)))
+    (passed-answers (productQuestions Gf256 (x .a) (x .b))
+    (lt-ltb (x .a) 256 (omega arith), (lt-ltb (x .b) 256 (omega arith), tt)))
     (c .times .ensures)
 
 pub large-product-spec : {M : Type 1} → statement M

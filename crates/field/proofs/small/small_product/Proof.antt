@@ -22,7 +22,8 @@ returns-2 c =
     let first = c .before in
     let x = first .before .args in
     refused (productQuestions Gf32 (x .a) (x .b)) 16
-    (passes 17 ((isElement Gf32 (x .b) else 17) ∷ []) (lt-ltb (x .a) 32 (first .if1 .left)) ∙ fails 17 [] (le-ltb (x .b) 32 (c .if2 .taken)))
+    (passes 17 ((isElement Gf32 (x .b) else 17) ∷ []) (lt-ltb (x .a) 32 (first .if1 .left))
+    ∙ fails 17 [] (le-ltb (x .b) 32 (c .if2 .taken)))
 
 returns-3 : tie.Need-returns-3
 returns-3 c =
@@ -30,7 +31,8 @@ returns-3 c =
     let first = second .before in
     let x = first .before .args in
     given (productQuestions Gf32 (x .a) (x .b))
-    (passed-answers (productQuestions Gf32 (x .a) (x .b)) (lt-ltb (x .a) 32 (first .if1 .left), (lt-ltb (x .b) 32 (second .if2 .left), tt)))
+    (passed-answers (productQuestions Gf32 (x .a) (x .b))
+    (lt-ltb (x .a) 32 (first .if1 .left), (lt-ltb (x .b) 32 (second .if2 .left), tt)))
     (c .product .ensures)
 
 pub small-product-spec : {M : Type 1} → statement M

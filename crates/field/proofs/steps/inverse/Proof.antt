@@ -23,4 +23,5 @@ returns-2 c =
 
 pub inverse-spec : {M : Type 1} → statement M
 inverse-spec =
-    tie.close (tie.spec (λ c. search needs) (λ c. search needs) (λ c. search needs) shared-slice-read-result returns returns-2)
+    tie.close (tie.spec (λ c. search needs) (λ c. search needs) (λ c. search needs) shared-slice-read-result
+    returns returns-2)

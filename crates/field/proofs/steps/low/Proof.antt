@@ -20,7 +20,8 @@ sub-result c = rw (shifted (c .args .bits) (c .pre)) (pow-pos (c .args .bits))
 
 returns : tie.Need-returns
 returns c =
-    ap (λ (x : ℕ). bitAnd (c .args .a) (x - 1)) (shifted (c .args .bits) (c .pre)) ∙ and-mask (c .args .a) (c .args .bits)
+    ap (λ (x : ℕ). bitAnd (c .args .a) (x - 1)) (shifted (c .args .bits) (c .pre))
+    ∙ and-mask (c .args .a) (c .args .bits)
 
 pub low-spec : {M : Type 1} → statement M
 low-spec = tie.close (tie.spec (λ c. search needs) sub-result returns)

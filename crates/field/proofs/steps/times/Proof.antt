@@ -31,7 +31,8 @@ loop-holds c =
       omega arith,
       pow-pos (a .bits),
       rw (c .low .ensures) (mod-lt (a .a) (pow-pos (a .bits))),
-      ap₂ (λ (t k : ℕ). horner (a .bits) (a .modulus) t k (a .b)) (c .low .ensures) e ∙ times-low (c .before .pre .0) (a .a) (a .b),
+      ap₂ (λ (t k : ℕ). horner (a .bits) (a .modulus) t k (a .b)) (c .low .ensures) e
+          ∙ times-low (c .before .pre .0) (a .a) (a .b),
     )
 
 mul-total : tie.Need-mul-total Inv-loop μ-loop
@@ -60,9 +61,11 @@ loop-again c =
     let p = s .args .modulus in
     let e : n - l .i ≡ suc (n - (l .i + 1)) = omega arith in (
       omega arith,
-      xor-lt n (l .total) (l .rest % 2 * l .t) (l .inv .1) (digit-below (l .rest % 2) (l .t) (2 ^ n) (omega arith) (l .inv .2)),
+      xor-lt n (l .total) (l .rest % 2 * l .t) (l .inv .1)
+          (digit-below (l .rest % 2) (l .t) (2 ^ n) (omega arith) (l .inv .2)),
       c .times-x .ensures .1,
-      ap (λ (t : ℕ). bitXor (bitXor (l .total) (l .rest % 2 * l .t)) (horner n p t (n - (l .i + 1)) (l .rest / 2))) (c .times-x .ensures .0)
+      ap (λ (t : ℕ). bitXor (bitXor (l .total) (l .rest % 2 * l .t)) (horner n p t (n - (l .i + 1)) (l .rest / 2)))
+          (c .times-x .ensures .0)
           ∙ turn (s .pre .0) (l .total) (l .t) (n - (l .i + 1)) (l .rest) (l .inv .2)
           ∙ ap (λ (k : ℕ). bitXor (l .total) (horner n p (l .t) k (l .rest))) (sym e)
           ∙ l .inv .3,
@@ -80,7 +83,8 @@ returns c =
     let l = c .before .loop in
     let a = c .before .before .before .args in
     let e : a .bits - l .i ≡ 0 = omega arith in
-    sym (xor-zero-r (l .total)) ∙ ap (λ (k : ℕ). bitXor (l .total) (horner (a .bits) (a .modulus) (l .t) k (l .rest))) (sym e) ∙ l .inv .3
+    sym (xor-zero-r (l .total))
+    ∙ ap (λ (k : ℕ). bitXor (l .total) (horner (a .bits) (a .modulus) (l .t) k (l .rest))) (sym e) ∙ l .inv .3
 
 pub times-spec : {M : Type 1} → statement M
 times-spec =

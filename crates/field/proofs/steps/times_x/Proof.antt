@@ -16,7 +16,11 @@ mul-result : tie.Need-mul-result
 mul-result c =
     let n = c .args .bits in
     let b : 2 ^ n ≤ 2 ^ 8 = pow-mono (c .pre .1) in
-    omega (arith, digit-below (c .args .a * 2 / 2 ^ n) (c .args .modulus) (2 ^ suc n) (top-below (c .pre .0) (c .args .a * 2) (omega arith)) (c .pre .0 .to))
+    omega (
+      arith,
+      digit-below (c .args .a * 2 / 2 ^ n) (c .args .modulus) (2 ^ suc n)
+          (top-below (c .pre .0) (c .args .a * 2) (omega arith)) (c .pre .0 .to),
+    )
 
 returns : tie.Need-returns
 returns c =

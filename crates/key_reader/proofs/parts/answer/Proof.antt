@@ -1,16 +1,13 @@
--- `key_reader::parts::answer` meets its contract: one question after another. `past-k`: the first k questions are
+-- `key_reader::parts::answer` meets its contract: one question after another. `past-k`: the questions up to k are
 -- passed, so the answer is that of the rest.
-use Prim.Native.Nat.{ℕ, _^_, _≤_}
-use mathlib.Core.Path.{_≡_, sym, ap, _∙_, subst}
+use Prim.Native.Nat.{ℕ, _^_}
+use mathlib.Core.Path.{_≡_, sym, ap, _∙_}
 use mathlib.Core.List.{List}
-use native.Mathlib.Omega.{arith}
 use borrow.Author.Tests.{eq-eqb, ne-eqb, not-true, not-false}
 use borrow.Author.Needs.{needs}
-use lib.ListN.{length, drop, getD}
+use lib.ListN.{drop, getD}
 use Rattle.base.specs.Questions.{Question, firstNo}
-use Rattle.base.specs.Digits.{part}
 use Rattle.base.proofs.QuestionLaws.{passes, fails}
-use Rattle.base.proofs.PackLaws.{below-part, length-part}
 use Rattle.braid.specs.Strands.{isOrder}
 use Rattle.operands.specs.Operands.{nonzero}
 use Rattle.key.specs.Keys.{tValues, labels, fieldSize, startsWithOnes, partQuestions}
@@ -24,22 +21,25 @@ file s = s .args .file .now
 abbrev rest : ℕ → tie.Start → List Question
 rest k s = drop k (partQuestions (s .args .bits) (file s))
 
+abbrev Past : ℕ → tie.Start → Type 0
+Past k s = firstNo (rest 0 s) ≡ firstNo (rest k s)
+
 -- ---- where the function was entered
 
-abbrev at-2 : tie.Else1 → tie.Start
-at-2 c = c .before .before .before
+abbrev at-2 : tie.After-shared-slice-known2 → tie.Start
+at-2 c = c .before .before
 
 abbrev at-3 : tie.After-power → tie.Start
 at-3 c = at-2 (c .before .before .before)
 
 abbrev at-4 : tie.After-all-nonzero → tie.Start
-at-4 c = at-3 (c .before .before .before .before)
+at-4 c = at-3 (c .before .before .before)
 
 abbrev at-5 : tie.After-starts-with-ones → tie.Start
-at-5 c = at-4 (c .before .before .before)
+at-5 c = at-4 (c .before .before)
 
 abbrev at-6 : tie.After-is-order → tie.Start
-at-6 c = at-5 (c .before .before .before .before)
+at-6 c = at-5 (c .before .before .before)
 
 abbrev at-7 : tie.After-filler-is-zero → tie.Start
 at-7 c = at-6 (c .before .before)
@@ -47,82 +47,65 @@ at-7 c = at-6 (c .before .before)
 -- ---- what the tests on the T-values and the labels found
 
 test-4 : (c : tie.After-all-nonzero) → let s = at-4 c in nonzero (tValues (s .args .bits) (file s)) ≡ c .all-nonzero .result
-test-4 c = sym (c .all-nonzero .ensures ∙ ap (λ (ts : List ℕ). nonzero ts) (c .before .before .t-values .ensures))
+test-4 c = sym (c .all-nonzero .ensures ∙ ap (λ (ts : List ℕ). nonzero ts) (at-4 c .pre .2))
 
 test-5 : (c : tie.After-starts-with-ones) → let s = at-5 c in startsWithOnes (tValues (s .args .bits) (file s)) ≡ c .starts-with-ones .result
-test-5 c =
-    sym (c .starts-with-ones .ensures ∙ ap (λ (ts : List ℕ). startsWithOnes ts) (c .before .before .before .before .before .t-values .ensures))
+test-5 c = sym (c .starts-with-ones .ensures ∙ ap (λ (ts : List ℕ). startsWithOnes ts) (at-5 c .pre .2))
 
 test-6 : (c : tie.After-is-order) → let s = at-6 c in isOrder (labels (s .args .bits) (file s)) ≡ c .is-order .result
-test-6 c = sym (c .is-order .ensures ∙ ap (λ (ls : List ℕ). isOrder ls) (c .before .before .order .ensures))
+test-6 c = sym (c .is-order .ensures ∙ ap (λ (ls : List ℕ). isOrder ls) (at-6 c .pre .3))
 
 -- ---- the questions that are passed
 
-abbrev Past : ℕ → tie.Start → Type 0
-Past k s = firstNo (rest 0 s) ≡ firstNo (rest k s)
-
-past-2 : (c : tie.Else1) → Past 1 (at-2 c)
-past-2 c = passes 2 (rest 1 (at-2 c)) (eq-eqb (getD (file (at-2 c)) 0 0) 8 (c .if1 .left))
+past-2 : (c : tie.Else1) → Past 1 (at-2 (c .before))
+past-2 c = let s = at-2 (c .before) in passes 2 (rest 1 s) (eq-eqb (getD (file s) 0 0) 8 (c .if1 .left))
 
 past-3 : (c : tie.Else2) → Past 2 (at-3 (c .before))
 past-3 c =
     let b = c .before in
     let s = at-3 b in
-    past-2 (b .before .before .before)
-    ∙ passes 3 (rest 2 s) (eq-eqb (fieldSize (file s)) (2 ^ s .args .bits) (sym (b .before .number .ensures) ∙ c .if2 .left ∙ b .power .ensures))
+    past-2 (b .before .before)
+    ∙ passes 3 (rest 2 s) (eq-eqb (fieldSize (file s)) (2 ^ s .args .bits) (sym (b .before .two-bytes .ensures .0) ∙ c .if2 .left ∙ b .power .ensures))
 
 past-4 : (c : tie.Else3) → Past 3 (at-4 (c .before))
-past-4 c =
-    past-3 (c .before .before .before .before) ∙ passes 4 (rest 3 (at-4 (c .before))) (test-4 (c .before) ∙ not-false _ (c .if3 .left))
+past-4 c = let b = c .before in past-3 (b .before .before) ∙ passes 4 (rest 3 (at-4 b)) (test-4 b ∙ not-false _ (c .if3 .left))
 
 past-5 : (c : tie.Else4) → Past 4 (at-5 (c .before))
-past-5 c = past-4 (c .before .before .before) ∙ passes 5 (rest 4 (at-5 (c .before))) (test-5 (c .before) ∙ not-false _ (c .if4 .left))
+past-5 c = let b = c .before in past-4 (b .before) ∙ passes 5 (rest 4 (at-5 b)) (test-5 b ∙ not-false _ (c .if4 .left))
 
 past-6 : (c : tie.Else5) → Past 5 (at-6 (c .before))
-past-6 c =
-    past-5 (c .before .before .before .before) ∙ passes 6 (rest 5 (at-6 (c .before))) (test-6 (c .before) ∙ not-false _ (c .if5 .left))
-
-past-7 : (c : tie.Else6) → Past 6 (at-7 (c .before))
-past-7 c =
-    past-6 (c .before .before) ∙ passes 7 (rest 6 (at-7 (c .before))) (sym (c .before .filler-is-zero .ensures) ∙ not-false _ (c .if6 .left))
+past-6 c = let b = c .before in past-5 (b .before .before) ∙ passes 6 (rest 5 (at-6 b)) (test-6 b ∙ not-false _ (c .if5 .left))
 
 -- ---- the returns
 
 returns : tie.Need-returns
-returns c = let s = c .before .before .before in sym (fails 2 (rest 1 s) (ne-eqb (getD (file s) 0 0) 8 (c .if1 .taken)))
-
-number-requires : tie.Need-number-requires
-number-requires c κs =
-    let s = at-2 (c .before) in
-    let all = file s in
-    let byte = c .before .before .before .shared-slice-known .given in
-    let n : length (part 1 2 all) ≡ 2 = length-part 1 2 all (omega (arith, s .pre .1)) in
-    (below-part 256 1 2 all (λ k. omega (arith, byte k)), subst (λ (n : ℕ). 256 ^ n ≤ 2 ^ 64) (sym n) (omega arith))
+returns c = let s = at-2 (c .before) in sym (fails 2 (rest 1 s) (ne-eqb (getD (file s) 0 0) 8 (c .if1 .taken)))
 
 returns-2 : tie.Need-returns-2
 returns-2 c =
     let b = c .before in
     let s = at-3 b in
     sym
-    (past-2 (b .before .before .before)
+    (past-2 (b .before .before)
     ∙ fails 3 (rest 2 s)
-    (ne-eqb (fieldSize (file s)) (2 ^ s .args .bits) (λ e. c .if2 .taken (b .before .number .ensures ∙ e ∙ sym (b .power .ensures)))))
+    (ne-eqb (fieldSize (file s)) (2 ^ s .args .bits) (λ e. c .if2 .taken (b .before .two-bytes .ensures .0 ∙ e ∙ sym (b .power .ensures)))))
 
 returns-3 : tie.Need-returns-3
-returns-3 c = let b = c .before in sym (past-3 (b .before .before .before) ∙ fails 4 (rest 3 (at-4 b)) (test-4 b ∙ not-true _ (c .if3 .taken)))
+returns-3 c = let b = c .before in sym (past-3 (b .before .before) ∙ fails 4 (rest 3 (at-4 b)) (test-4 b ∙ not-true _ (c .if3 .taken)))
 
 returns-4 : tie.Need-returns-4
-returns-4 c = let b = c .before in sym (past-4 (b .before .before) ∙ fails 5 (rest 4 (at-5 b)) (test-5 b ∙ not-true _ (c .if4 .taken)))
+returns-4 c = let b = c .before in sym (past-4 (b .before) ∙ fails 5 (rest 4 (at-5 b)) (test-5 b ∙ not-true _ (c .if4 .taken)))
 
 returns-5 : tie.Need-returns-5
-returns-5 c = let b = c .before in sym (past-5 (b .before .before .before) ∙ fails 6 (rest 5 (at-6 b)) (test-6 b ∙ not-true _ (c .if5 .taken)))
+returns-5 c = let b = c .before in sym (past-5 (b .before .before) ∙ fails 6 (rest 5 (at-6 b)) (test-6 b ∙ not-true _ (c .if5 .taken)))
 
 returns-6 : tie.Need-returns-6
 returns-6 c = let b = c .before in sym (past-6 (b .before) ∙ fails 7 (rest 6 (at-7 b)) (sym (b .filler-is-zero .ensures) ∙ not-true _ (c .if6 .taken)))
 
 returns-7 : tie.Need-returns-7
 unfolding firstNo
-returns-7 c = sym (past-7 c)
+returns-7 c =
+    let b = c .before in sym (past-6 (b .before) ∙ passes 7 (rest 6 (at-7 b)) (sym (b .filler-is-zero .ensures) ∙ not-false _ (c .if6 .left)))
 
 pub answer-spec : {M : Type 1} → statement M
 answer-spec =
@@ -130,20 +113,13 @@ answer-spec =
     (tie.spec
     (λ c. search needs)
     returns
-    (λ c. search needs)
-    (λ c. search needs)
-    (λ c. search needs)
-    number-requires
+    (λ c κs. search needs)
     (λ c κs. search needs)
     returns-2
-    (λ c κs. search needs)
-    (λ c. search needs)
     (λ c κs. search needs)
     returns-3
     (λ c κs. search needs)
     returns-4
-    (λ c κs. search needs)
-    (λ c. search needs)
     (λ c κs. search needs)
     returns-5
     (λ c κs. search needs)

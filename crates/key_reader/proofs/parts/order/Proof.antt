@@ -1,9 +1,8 @@
 -- `key_reader::parts::order` meets its contract.
-use Prim.Native.Nat.{ℕ, _+_, _-_}
-use mathlib.Core.Path.{_≡_, ap, _∙_}
-use native.Mathlib.Omega.{arith}
-use Rattle.base.specs.Digits.{value, digits, part}
-use Rattle.key.specs.Keys.{listPlace, labels}
+use mathlib.Core.Path.{ap, _∙_}
+use Rattle.base.specs.Packing.{unpackedRow}
+use Rattle.key.specs.Keys.{labels}
+use Rattle.key.proofs.FileLaws.{part-taken}
 use borrow.Author.Needs.{needs}
 use Rattle.key_reader.proofs.parts.order.Statement.{statement}
 use Rattle.key_reader.proofs.parts.order.Tie as tie
@@ -11,20 +10,17 @@ use Rattle.key_reader.proofs.parts.order.Tie as tie
 returns : tie.Need-returns
 unfolding labels
 returns c =
-    let a = c .before .before .before .args in
-    let at = listPlace (a .bits) in
-    let n : at + 3 - at ≡ 3 = omega arith in
-    c .eight .ensures ∙ ap (λ (n : ℕ). digits 8 8 (value 256 (part at n (a .file .now)))) n
+    let e = c .before .before in
+    let l = e .before in
+    let a = l .before .before .args in
+    c .eight .ensures ∙ ap (unpackedRow 3 8) (part-taken (a .bits) 4 (a .file .now) (l .list-place .ensures) (e .second-place .ensures))
 
 pub order-spec : {M : Type 1} → statement M
 order-spec =
     tie.close
     (tie.spec
-    (λ c. search needs)
-    (λ c. search needs)
-    (λ c. search needs)
-    (λ c. search needs)
-    (λ c. search needs)
+    (λ c κs. search needs)
+    (λ c κs. search needs)
     (λ c. search needs)
     (λ c. search needs)
     (λ c. search needs)

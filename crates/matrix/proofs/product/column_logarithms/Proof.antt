@@ -11,7 +11,8 @@ use Rattle.matrix.proofs.product.column_logarithms.Statement.{statement
 use Rattle.matrix.proofs.product.column_logarithms.Tie as tie
 
 abbrev Inv-loop : tie.InvT-loop
-Inv-loop m table column f logs₀ k₀ logs k = (k ≤ 8) × (length logs ≡ 8) × LogarithmsOf table (λ j. entry m j column) k logs
+Inv-loop m table column f logs₀ k₀ logs k =
+    (k ≤ 8) × (length logs ≡ 8) × LogarithmsOf table (λ j. entry m j column) k logs
 
 abbrev μ-loop : tie.MeasureT-loop
 μ-loop m table column f logs₀ k₀ logs k = 8 - k
@@ -48,7 +49,8 @@ loop-again c =
     let a = b .before .before .before .before .args in (
       omega arith,
       length-set (l .logs) (l .k) _ ∙ l .inv .1,
-      logarithms-next (a .table .now) (λ j. entry (a .m .now) j (a .column)) (l .k) (l .logs) _ (omega (arith, l .inv .1)) (l .inv .2)
+      logarithms-next (a .table .now) (λ j. entry (a .m .now) j (a .column)) (l .k) (l .logs) _
+          (omega (arith, l .inv .1)) (l .inv .2)
           (same-number (ap (λ (i : ℕ). getD (a .m .now) i 0) (b .place .ensures .0)) (c .logarithm .ensures)),
     )
 

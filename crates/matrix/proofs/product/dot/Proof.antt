@@ -62,7 +62,8 @@ loop-again c =
       omega arith,
       ap₂ (operations (a .f) .add) (l .inv .1)
           (c .product-of .ensures
-          ∙ ap (λ (i : ℕ). getD (a .table .now) (256 + (getD (a .a .now) i 0 + getD (a .b .now) (l .k) 0)) 0) (p .place .ensures .0))
+          ∙ ap (λ (i : ℕ). getD (a .table .now) (256 + (getD (a .a .now) i 0 + getD (a .b .now) (l .k) 0)) 0)
+          (p .place .ensures .0))
           ∙ sym (sum-next (operations (a .f)) (terms (a .table .now) (a .a .now) (a .b .now) (a .row)) (l .k)),
     )
 

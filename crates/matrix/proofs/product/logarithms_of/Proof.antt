@@ -42,7 +42,8 @@ loop-again c =
     let a = c .before .before .before .before .before .args in (
       omega arith,
       length-set (l .logs) (l .i) _ ∙ l .inv .1,
-      logarithms-next (a .table .now) (λ k. getD (a .m .now) k 0) (l .i) (l .logs) _ (omega (arith, l .inv .1)) (l .inv .2) (c .logarithm .ensures),
+      logarithms-next (a .table .now) (λ k. getD (a .m .now) k 0) (l .i) (l .logs) _ (omega (arith, l .inv .1))
+          (l .inv .2) (c .logarithm .ensures),
     )
 
 returns : tie.Need-returns Inv-loop μ-loop

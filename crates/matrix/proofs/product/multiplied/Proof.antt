@@ -37,8 +37,10 @@ fill-column-requires c κs =
     let s = l .before .before .before in (
       l .loop .inv .1,
       s .pre,
-      all-near (s .pre) (λ k. getD (s .args .a .now) k 0) 64 (l .before .logarithms-of .result) (l .before .logarithms-of .ensures .1),
-      all-near (s .pre) (λ j. entry (s .args .b .now) j (l .loop .c)) 8 (k .column-logarithms .result) (k .column-logarithms .ensures .1),
+      all-near (s .pre) (λ k. getD (s .args .a .now) k 0) 64 (l .before .logarithms-of .result)
+          (l .before .logarithms-of .ensures .1),
+      all-near (s .pre) (λ j. entry (s .args .b .now) j (l .loop .c)) 8 (k .column-logarithms .result)
+          (k .column-logarithms .ensures .1),
       omega arith,
     )
 
@@ -55,8 +57,10 @@ loop-again c =
     let s = l .before .before .before in (
       omega arith,
       c .fill-column .ensures .size,
-      columns-next (s .pre) (s .args .a .now) (l .before .logarithms-of .result) (s .args .b .now) (l .before .logarithms-of .ensures .1) (l .loop .c) (l .loop .m) _
-          (k .column-logarithms .result) (omega arith) (k .column-logarithms .ensures .1) (c .fill-column .ensures) (l .loop .inv .2),
+      columns-next (s .pre) (s .args .a .now) (l .before .logarithms-of .result) (s .args .b .now)
+          (l .before .logarithms-of .ensures .1) (l .loop .c) (l .loop .m) _
+          (k .column-logarithms .result) (omega arith) (k .column-logarithms .ensures .1) (c .fill-column .ensures)
+          (l .loop .inv .2),
     )
 
 returns : tie.Need-returns Inv-loop μ-loop
@@ -65,7 +69,8 @@ returns c =
     let l = c .before in
     let s = l .before .before .before in
     let a = s .args .a .now in
-    by-entries (l .loop .m) (λ r. rowBy (operations (s .args .f)) 8 (entry a r) (entry (s .args .b .now))) (l .loop .inv .1)
+    by-entries (l .loop .m) (λ r. rowBy (operations (s .args .f)) 8 (entry a r) (entry (s .args .b .now)))
+    (l .loop .inv .1)
     (λ r k hr hk. l .loop .inv .2 r k hr (omega arith))
 
 pub multiplied-spec : {M : Type 1} → statement M

@@ -1,0 +1,112 @@
+// Rows of numbers of at most eight bits, the most significant bit first, packed into bytes and filled with zero bits to
+// a byte. Eight numbers at a time are as many bytes as a number has bits; the last ones, under eight, are in the bytes
+// that are left.
+use crate::digits::number;
+use crate::digits::spell;
+ghost use mathlib.Core.Path.{_≡_};
+ghost use lib.Dec.{eqb};
+ghost use Prim.Native.Nat.{_+_, _^_, _≤_};
+ghost use lib.ListN.{length};
+ghost use Rattle.base.specs.Packing.{Below, rowBytes, fillerBits, packedRow, unpackedRow, rowFiller, Regroups, regrouped};
+ghost use Rattle.base.specs.Files.{Laid};
+
+// How many numbers n bits write.
+pub fn power(n: usize) -> u64
+    requires { ⌜ n ≤ 8 ⌝ }
+    ensures { λ r. ⌜ r ≡ 2 ^ n ⌝ }
+{
+    1 << n
+}
+
+// The bytes that a row of n numbers needs.
+pub fn row_bytes(bits: usize, n: usize) -> usize
+    requires { ⌜ bits ≤ 8 ⌝ }
+    ensures { λ r. ⌜ r ≡ rowBytes bits n ⌝ }
+{
+    n / 8 * bits + (n % 8 * bits + 7) / 8
+}
+
+// How many numbers the filler bits after a row of n numbers write. Those after its last n % 8 numbers are as many.
+fn fillers(bits: usize, n: usize) -> u64
+    requires { ⌜ bits ≤ 8 ⌝ }
+    ensures { λ r. ⌜ r ≡ 2 ^ fillerBits bits n ⌝ }
+{
+    let last = n % 8 * bits;
+    power((last + 7) / 8 * 8 - last)
+}
+
+// Are all filler bits after a row of n numbers zero?
+pub fn filler_is_zero(bytes: &[u8], bits: usize, n: usize) -> bool
+    requires { ⌜ (bits ≤ 8) × (length (now bytes) ≡ rowBytes bits n) ⌝ }
+    ensures { λ r. ⌜ r ≡ eqb (rowFiller bits n (now (bytes .entry))) 0 ⌝ }
+{
+    if bytes.len() == 0 {
+        return true;
+    }
+    let last = bytes[bytes.len() - 1] as u64;
+    last % fillers(bits, n) == 0
+}
+
+// Regroups digits: m digits to one base become n digits to another, group by group. Then what is left of the source,
+// times `up` and by `down`, is spelled in what is left of the output.
+fn regroup(
+    src: &[u8],
+    m: usize,
+    base: u64,
+    dst: &mut [u8],
+    n: usize,
+    to: u64,
+    groups: usize,
+    up: u64,
+    down: u64,
+)
+    requires { ⌜ Regroups (now src) m base (length (now dst)) n to groups up down ⌝ }
+    ensures { λ r. ⌜ now (dst .exit) ≡ regrouped (now (src .entry)) m base (length (now (dst .entry))) n to groups up down ⌝ }
+{
+    let mut i = 0;
+    let mut j = 0;
+    let mut k = 0;
+    while k < groups {
+        let ie = i + m;
+        let je = j + n;
+        let v = number(&src[i..ie], base);
+        spell(&mut dst[j..je], to, v);
+        i = ie;
+        j = je;
+        k += 1;
+    }
+    let rest = number(&src[i..], base);
+    spell(&mut dst[j..], to, rest * up / down);
+}
+
+// Unpacks a row: as many numbers as there is room for, from just the bytes that they need.
+pub fn unpack(bytes: &[u8], bits: usize, row: &mut [u8])
+    requires { ⌜ (bits ≤ 8) × (length (now bytes) ≡ rowBytes bits (length (now row))) ⌝ }
+    ensures { λ r. ⌜ now (row .exit) ≡ unpackedRow bits (length (now (row .entry))) (now (bytes .entry)) ⌝ }
+{
+    let n = row.len();
+    let size = power(bits);
+    let unit = fillers(bits, n);
+    regroup(bytes, bits, 256, row, 8, size, n / 8, 1, unit);
+}
+
+// Packs a row into just the bytes that it needs.
+pub fn pack(row: &[u8], bits: usize, bytes: &mut [u8])
+    requires { ⌜ (bits ≤ 8) × Below (2 ^ bits) (now row) × (length (now bytes) ≡ rowBytes bits (length (now row))) ⌝ }
+    ensures { λ r. ⌜ now (bytes .exit) ≡ packedRow bits (now (row .entry)) ⌝ }
+{
+    let n = row.len();
+    let size = power(bits);
+    let unit = fillers(bits, n);
+    regroup(row, 8, size, bytes, bits, 256, n / 8, unit, 1);
+}
+
+// Packs a row at a place of an output: the place after it.
+pub fn pack_at(out: &mut [u8], at: usize, row: &[u8], bits: usize) -> usize
+    requires { ⌜ (bits ≤ 8) × Below (2 ^ bits) (now row) × (at + rowBytes bits (length (now row)) ≤ length (now out)) ⌝ }
+    ensures { λ r. ⌜ Laid at (packedRow bits (now (row .entry))) (now (out .entry)) (now (out .exit)) r ⌝ }
+{
+    let end = at + row_bytes(bits, row.len());
+    pack(row, bits, &mut out[at..end]);
+    end
+}

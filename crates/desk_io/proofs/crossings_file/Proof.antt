@@ -1,0 +1,12 @@
+-- `desk_io::crossings_file` is safe: what is written lies within its text.
+use borrow.Author.Needs.{needs}
+use Rattle.io.proofs.Counting.{counts}
+use Rattle.text.proofs.TextLaws.{told-within}
+use Rattle.desk_io.proofs.crossings_file.Statement.{statement}
+use Rattle.desk_io.proofs.crossings_file.Tie as tie
+
+tell-text-requires : tie.Need-tell-text-requires
+tell-text-requires c κs = counts _ _ (told-within (c .word-text .ensures .0))
+
+pub crossings-file-spec : {M : Type 1} → statement M
+crossings-file-spec = tie.close (tie.spec (λ c. search needs) (λ c κs. search needs) (λ c κs. search needs) tell-text-requires (λ c. search needs))

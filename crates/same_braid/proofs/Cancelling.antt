@@ -1,0 +1,41 @@
+-- Cancellations leave the same braid: one move of kind 1, a row of them, and so free reduction.
+use Prim.Native.Nat.{ℕ, _+_}
+use mathlib.Core.Path.{_≡_, subst}
+use mathlib.Core.List.{List, [], _∷_, _++_}
+use native.Mathlib.Omega.{arith}
+use lib.ListN.{take, drop, getD}
+use Rattle.base.specs.Questions.{firstNo}
+use Rattle.base.proofs.ListLaws.{every-getD}
+use Rattle.braid.specs.Letters.{isLetter}
+use Rattle.braid.specs.Cancellation.{Cancels, done, then, removal}
+use Rattle.braid.specs.Reduction.{reduced}
+use Rattle.braid.proofs.LetterLaws.{Lettered}
+use Rattle.braid.proofs.CancellationLaws.{around, accepted-fits, accepted-inverse, reduced-reached}
+use Rattle.same_braid.specs.SameBraid.{SameBraid}
+use Rattle.same_braid.proofs.Laws.{same-lettered, same-none, same-then, same-inside}
+use Rattle.same_braid.proofs.Relations.{cancelled}
+
+-- in a word, the part x of n letters from a place on gives way to y
+pub same-at : (w : List ℕ) (place n : ℕ) {x y : List ℕ} → take place w ++ (x ++ drop (place + n) w) ≡ w → SameBraid x y
+    → SameBraid w (take place w ++ (y ++ drop (place + n) w))
+same-at w place n {x} {y} whole s =
+    subst (λ (t : List ℕ). SameBraid t (take place w ++ (y ++ drop (place + n) w))) whole (same-inside (take place w) (drop (place + n) w) s)
+
+-- one move of kind 1
+pub removal-same : (place : ℕ) (w : List ℕ) → firstNo (removal place w .questions) ≡ 0 → Lettered w → SameBraid w (removal place w .word)
+removal-same place w a e =
+    let c : ℕ = getD w place 0 in
+    let fits = accepted-fits place w a in
+    let part : SameBraid (c ∷ getD w (place + 1) 0 ∷ []) [] =
+    rw (accepted-inverse place w a) (cancelled c (every-getD isLetter w e place (omega arith))) in
+    same-at w place 2 (around place w fits) part
+
+-- a row of them
+cancels-same : {w v : List ℕ} → Cancels w v → Lettered w → SameBraid w v
+cancels-same {w} done e = same-none w
+cancels-same (then {w = w} place a rest) e =
+    let s = removal-same place w a e in same-then s (cancels-same rest (same-lettered s e))
+
+-- the freely reduced word
+pub reduced-same : (w : List ℕ) → Lettered w → SameBraid w (reduced w)
+reduced-same w e = cancels-same (reduced-reached w) e

@@ -1,0 +1,2 @@
+pub mod SameBraids
+pub mod FreeReduction

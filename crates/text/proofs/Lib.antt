@@ -1,0 +1,5 @@
+pub mod DecimalLaws
+pub mod IntegerLaws
+pub mod TextLaws
+pub mod CutLaws
+pub mod EnoughLaws

@@ -1,0 +1,25 @@
+// Text in buffers that are lent: numbers in decimal added to it; and the part of a buffer that was read.
+ghost use Prim.Native.Nat.{min};
+ghost use mathlib.Core.Path.{_≡_};
+ghost use Rattle.base.specs.Digits.{part as partOf};
+
+mod number; // number.rt: numbers in decimal
+
+pub use number::decimal;
+pub use number::signed;
+
+fn least(a: usize, b: usize) -> usize
+    ensures { λ r. ⌜ r ≡ min a b ⌝ }
+{
+    if a < b { a } else { b }
+}
+
+// Up to `most` bytes from a place on: fewer, or none, where the buffer ends before.
+pub fn part(bytes: &[u8], at: usize, most: usize) -> &[u8]
+    ensures { λ r. ⌜ now r ≡ partOf at most (now (bytes .entry)) ⌝ }
+{
+    let start = least(at, bytes.len());
+    let rest = &bytes[start..];
+    let n = least(most, rest.len());
+    &rest[..n]
+}
