@@ -1,16 +1,16 @@
-# Sourced by ./walnut: `shorten --all`. Every slip of a folder is shortened by one run of the program for some hundred
-# slips; a bad one is told and the next one taken.
+# Sourced by ./walnut: `shorten --all`, which shortens every slip of a folder. One run of the program does some hundred
+# slips. A bad slip is reported, and the next one follows.
 
-# what is counted
+# What is counted.
 declare -A refusals=()
 slips=0 opened=0 unread=0 unwritten=0 unjudged=0 before=0 after=0 ended=yes on_disk=yes
 
-# on a terminal, how far it is
+# Progress, on a terminal only.
 progress() { [ -t 2 ] && printf '\r%s: %s of %s slips' "$name" "$slips" "$1" >&2; }
 no_progress() { [ -t 2 ] && printf '\r\033[K' >&2; }
 
-# one slip's lines, from standard input
-slip() { # NAME
+# slip NAME: reads the program's lines about one slip from standard input, and reports them.
+slip() {
     local line
     IFS= read -r line || return 1
     case $line in
@@ -31,17 +31,18 @@ slip() { # NAME
     slips=$((slips + 1))
     no_progress
     put "$1: $line"
-    # what is wrong with the key is told once, in the end
+    # A fault of the key is reported once, in the summary.
     case $line in
         'answer '[1-7] | 'answer 26' | 'no'*) ;;
         *) about_slip "$answer" "$key" "$folder/$1.digest" "$folder/$1.sig" ;;
     esac
-    [ ! -f "$folder/$1.new" ] || say "an older $1.new is still there"
+    [ ! -f "$folder/$1.new" ] || say "an older '$1.new' is still there: do not send it"
     return 0
 }
 
-# some slips by one run of the program; where no new file may take NAME.new, it gets a name that none can take
-some() { # ALL NAME..
+# some ALL NAME..: shortens these slips by one run of the program. If NAME.new may not be replaced, the program gets a
+# name that it cannot write.
+some() {
     local all=$1 arguments=() each new
     shift
     for each in "$@"; do
@@ -50,7 +51,7 @@ some() { # ALL NAME..
         arguments+=("$folder/$each.digest" "$folder/$each.sig" "$new")
     done
     local done=0 line
-    # the status comes as a last line: bash 5.2 now and then gives another one to wait
+    # The status comes as a last line, because `wait` of bash 5.2 sometimes gives another one.
     {
         for each in "$@"; do
             slip "$each" || break
@@ -58,9 +59,9 @@ some() { # ALL NAME..
             [ $((slips % 100)) -ne 0 ] || progress "$all"
         done
         IFS= read -r line && [ "$line" = 'ended 0' ] || { ended=no; cat >/dev/null; }
-    } < <("$bin/shorten" "$beside" "$key" "${arguments[@]}" </dev/null 2>"$said"; echo "ended $?")
+    } < <("$bin/new_word" shorten "$beside" "$key" "${arguments[@]}" </dev/null 2>"$said"; echo "ended $?")
     no_progress
-    # those names were told before the run
+    # The names that cannot be written were reported before the run.
     grep -v '\.new/\.: ' -- "$said" >&2
     unjudged=$((unjudged + $# - done))
 }
@@ -68,23 +69,24 @@ some() { # ALL NAME..
 summary() {
     local refused=$((slips - opened - unread)) number
     put "$((slips + unjudged)) slips: $opened opened, $refused refused, $unread could not be read"
-    put "of those that opened, $unwritten could not be written; of the others, bytes $before to $after"
+    put "of the $opened opened, $unwritten could not be written; the others had $before bytes and have $after"
     for number in $(printf '%s\n' "${!refusals[@]}" | sort -n); do
         put "refused with $number: ${refusals[$number]}"
-        told "$number"
+        say_failed "$number"
         case $number in [1-7] | 26) about_key "$number" "$key"; hex_hint "$key" ;; esac
+        say_to_do "$number"
     done
-    [ "$on_disk" = yes ] || say "'$folder' could not be written to its disk: make room, and shorten again"
+    [ "$on_disk" = yes ] || say "the new files in '$folder' could not be saved to the disk: make room, and run it again"
     if [ "$unjudged" -ne 0 ] || [ "$ended" = no ]; then
-        say "$unjudged slips were not judged: the program did not run to its end"
+        say "$unjudged slips were not judged: the program did not run to its end. 'bash .ci/run' shows what fails"
         exit 3
     fi
-    [ $((unread + unwritten)) -eq 0 ] || { say "some files could not be read or written: see above"; exit 1; }
+    [ $((unread + unwritten)) -eq 0 ] || { say "some files could not be read or written, see above"; exit 1; }
     [ "$on_disk" = yes ] || exit 1
     [ "$refused" -eq 0 ] || exit 4
 }
 
-# the NAMEs of the folder's slips, each with a zero byte after it
+# The NAMEs of the folder's slips, each followed by a zero byte.
 slip_names() {
     local each
     shopt -s nullglob
@@ -94,15 +96,16 @@ slip_names() {
     done
 }
 
-shorten_all() { # FOLDER KEY
+# shorten_all FOLDER KEY
+shorten_all() {
     folder=$1 key=$2
-    [ ! -f "$1" ] || [ ! -d "$2" ] || say "the names look to be in the wrong order; the order is FOLDER KEY"
+    [ ! -f "$1" ] || [ ! -d "$2" ] || say "the names seem to be in the wrong order; the order is FOLDER KEY"
     if [ ! -d "$folder" ] || [ ! -r "$folder" ]; then
-        say "'$folder' is no folder that can be read: mend the name"
+        say "'$folder' is not a readable folder: correct the name"
         exit 1
     fi
     if [ ! -f "$key" ] || [ ! -r "$key" ]; then
-        say "'$key' is no file that can be read: mend the name, or fetch the key again"
+        say "'$key' is not a readable file: correct the name, or fetch the key again"
         exit 1
     fi
     need programs
@@ -111,7 +114,7 @@ shorten_all() { # FOLDER KEY
         names+=("$each")
     done < <(slip_names | LC_ALL=C sort -zu)
     if [ ${#names[@]} -eq 0 ]; then
-        say "'$folder' holds no NAME.digest and NAME.sig: name the folder that the slips are in"
+        say "'$folder' holds no NAME.digest and no NAME.sig: give the name of the folder with the slips"
         exit 1
     fi
     beside_place "$folder/"
@@ -127,7 +130,7 @@ shorten_all() { # FOLDER KEY
         fi
     done
     [ ${#some[@]} -eq 0 ] || some "${#names[@]}" "${some[@]}"
-    # the program waits for no file of many: all of them reach the disk before the summary
+    # The program does not wait for each file. All of them reach the disk here, before the summary.
     sync -f -- "$folder" || on_disk=no
     summary
 }

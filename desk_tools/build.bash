@@ -1,12 +1,17 @@
-# Sourced by ./walnut: has what a verb needs proved and built, once for each state of the sources.
-# `need programs` gives the programs in $bin, `need library` the shared library in $lib; the caller has set $root.
+# Sourced by ./walnut: proves and builds what a command needs, once for each state of the sources.
+# `need programs` builds the programs in $bin, and `need library` the shared library in $lib. The caller sets $root.
 bin=$root/target/bin
 lib=$root/target/library
 
-# the programs that the verbs run
-programs=(desk desk_files shorten rewrite reduce crossings_file)
+# The programs that the commands run, from their section of crates.txt.
+programs=($(awk -F: '/^#/ { here = /^# Programs that \.\/walnut runs/; next } here && NF > 1 { print $1 }' \
+    "$root/crates.txt"))
+if [ ${#programs[@]} -eq 0 ]; then
+    echo "crates.txt has no section '# Programs that ./walnut runs'" >&2
+    return 1
+fi
 
-# what a need stands on, and what it makes, by their contents
+# For each need: a sum of its sources, a sum of what was built, and how to build it.
 sum_of() { (cd "$root" && find "$@" -type f -print0 | LC_ALL=C sort -z | xargs -0 sha256sum | sha256sum); }
 sources_programs() { sum_of crates crates.txt; }
 sources_library() { sum_of crates crates.txt include library; }
@@ -15,16 +20,16 @@ made_library() { (cd "$lib" && cat libwalnut.so | sha256sum) 2>/dev/null; }
 make_programs() { (cd "$root" && rt check "${programs[@]}"); }
 make_library() { (cd "$root" && ./library); }
 
-# is what was made that of the sources as they stand?
+# current NEED: succeeds if what is built was built from the present sources.
 current() { [ "$(cat "$root/target/walnut-$1.stamp" 2>/dev/null)" = "$("sources_$1"; "made_$1")" ]; }
 
-# one build at a time
+# Only one build runs at a time.
 build() {
     mkdir -p "$root/target" && exec 9>"$root/target/walnut.lock" && flock 9 || return 1
     current "$1" && return 0
     local before
     before=$("sources_$1")
-    echo "$name: proving and building the $1, once; this takes some minutes .." >&2
+    echo "$name: proving and building the $1; this takes a few minutes, once" >&2
     "make_$1" >&2 </dev/null 9>&- || return 1
     { echo "$before"; "made_$1"; } >"$root/target/walnut-$1.stamp"
 }
@@ -32,8 +37,8 @@ build() {
 need() {
     current "$1" && return 0
     if ! build "$1"; then
-        echo "$name: not proved or not built, so there is no answer: see above, and that rt is installed;" \
-            "'bash .ci/run' says what fails" >&2
+        echo "$name: not proved or not built, so there is no answer. Read the lines above, and check that rt is" \
+            "installed; 'bash .ci/run' shows what fails" >&2
         exit 3
     fi
     exec 9>&-

@@ -1,7 +1,7 @@
-# Sourced by ./walnut: what goes to standard error about a refusal. It names the file, its size and what was wanted, and
-# what a person at a desk can do. Nothing here decides anything: the answer stands already.
+# Sourced by ./walnut: the messages about a refusal. They say what failed, in which file, and what a person can do.
+# Nothing here decides anything: the answer is known before.
 
-# the bytes of a key, and of the digest that goes with it, and the elements of its field, at both strengths
+# For each length of a key file: the length of its digest, and the number of elements of its field.
 declare -A digest_bytes=([83]=32 [128]=64) elements=([83]=32 [128]=256)
 
 say() { printf '%s: %s\n' "$name" "$*" >&2; }
@@ -9,14 +9,16 @@ say() { printf '%s: %s\n' "$name" "$*" >&2; }
 # '1 letter', '2 letters'
 count() { if [ "$1" -eq 1 ]; then echo "1 $2"; else echo "$1 $2s"; fi; }
 
-# what failed and what to do, from answers.txt
-told() { awk -F ' *[|] *' -v n="$1" -v name="$name" '$1 == n { print name ": " $2 ": " $3 }' "$root/answers.txt" >&2; }
+# say_failed ANSWER, say_to_do ANSWER: what failed, and what a person can do about it, from answers.txt.
+of_answer() { awk -F ' *[|] *' -v n="$1" -v column="$2" '$1 == n { print $column }' "$root/answers.txt"; }
+say_failed() { say "$(of_answer "$1" 2)"; }
+say_to_do() { say "$(of_answer "$1" 3)"; }
 
-# ---- what a file looks like; nothing is said of what is no regular file
+# ---- what a file looks like; there is no message about a file that is not regular
 
 size() { [ -f "$1" ] && stat -L -c %s -- "$1"; }
 
-# the number that two bytes of a file write, the first two or those from a place on
+# first_two FILE [PLACE]: the number in the file's first two bytes, or in the two at a place.
 first_two() {
     local high low
     read -r high low < <(od -An -tu1 -j"${2-0}" -N2 -- "$1")
@@ -31,11 +33,11 @@ joined() {
 key_sizes() { joined $(printf '%s\n' "${!digest_bytes[@]}" | sort -n); }
 digest_sizes() { joined $(printf '%s\n' "${digest_bytes[@]}" | sort -n); }
 
-# the bytes of a word of so many letters, and of a list of so many moves
+# The bytes that a number of letters or moves needs.
 word_bytes() { echo $((2 + ($1 + 1) / 2)); }
 moves_bytes() { echo $((2 + 3 * $1)); }
 
-# has the file as many bytes as the number in its first two needs?
+# as_stated BYTES FILE: succeeds if the file has as many bytes as the number in its first two needs.
 as_stated() { local n; n=$(size "$2") && [ "$n" -ge 2 ] && [ "$n" -eq "$("$1" "$(first_two "$2")")" ]; }
 
 is_key() { local n; n=$(size "$1") && [ -n "${digest_bytes[$n]-}" ]; }
@@ -43,7 +45,7 @@ is_digest() { local n; n=$(size "$1") && [[ " ${digest_bytes[*]} " == *" $n "* ]
 is_word() { as_stated word_bytes "$1"; }
 is_moves() { as_stated moves_bytes "$1"; }
 
-# does a file hold hexadecimal text, and nothing else?
+# is_hex FILE: succeeds if the file holds hexadecimal text and nothing else.
 is_hex() {
     local n
     n=$(size "$1") && [ "$n" -ge 4 ] && [ "$n" -le 70000 ] || return 1
@@ -54,115 +56,137 @@ hex_hint() {
     local file
     for file in "$@"; do
         if is_hex "$file"; then
-            say "'$file' looks like text in hexadecimal: hand in the bytes themselves" \
-                "(xxd -r -p makes them of such text)"
+            say "'$file' looks like hexadecimal text: pass the bytes themselves ('xxd -r -p' converts such text)"
         fi
     done
 }
 
-# a file that looks to be of another kind than the one wanted: a key, a word, or moves
-kind_hint() { # WANTED FILE
+# kind_hint WANTED FILE: says if the file has the length of another kind: key, word or moves.
+kind_hint() {
     local kind
     for kind in key word moves; do
         if [ "$kind" != "$1" ] && ! "is_$1" "$2" && "is_$kind" "$2"; then
-            say "'$2' is as long as a file of the kind '$kind': ./walnut show $kind ${2@Q}"
+            say "'$2' has the length of another kind of file; try: ./walnut show $kind ${2@Q}"
         fi
     done
 }
 
 # ---- which file an answer is about
 
-about_key() { # ANSWER KEY
-    local n told
+# about_key ANSWER KEY: a refused key.
+about_key() {
+    local n fault=
     n=$(size "$2") || return 0
     case $1 in
-        2) told="; byte 0: $(($(first_two "$2") / 256)) strands, and not 8" ;;
-        3) told="; bytes 1 and 2: q is $(first_two "$2" 1); a key of $n bytes has q = ${elements[$n]-}" ;;
-        *) told="; a key has $(key_sizes)" ;;
+        1) fault="a key has $(key_sizes) bytes; " ;;
+        2) fault="byte 0 states $(($(first_two "$2") / 256)) strands, not 8; " ;;
+        3) fault="bytes 1 and 2 state q = $(first_two "$2" 1); a key of $n bytes needs q = ${elements[$n]-}; " ;;
     esac
-    say "the key is '$2', $(count "$n" byte)$told; for more: ./walnut show key ${2@Q}"
+    say "the key is '$2', $(count "$n" byte); ${fault}for more: ./walnut show key ${2@Q}"
 }
 
-about_digest() { # KEY DIGEST
+# about_digest KEY DIGEST: a refused digest.
+about_digest() {
     local n k
     n=$(size "$2") || return 0
     k=$(size "$1") || k=0
-    say "the digest is '$2', $(count "$n" byte); with this key a digest has ${digest_bytes[$k]-$(digest_sizes)}"
+    say "the digest is '$2', $(count "$n" byte); this key needs a digest of ${digest_bytes[$k]-$(digest_sizes)} bytes"
 }
 
-# a file that states in its first two bytes how many things it has
-about_stated() { # WHAT FILE THING BYTES MORE
+# about_length WHAT FILE THING BYTES: a file whose length is wrong. Its first two bytes state how many things it has.
+about_length() {
     local n things
     n=$(size "$2") || return 0
     if [ "$n" -lt 2 ]; then
-        say "the $1 is '$2', $(count "$n" byte); a $1 has at least 2"
+        say "the $1 is '$2', $(count "$n" byte); a $1 has at least 2 bytes"
     else
         things=$(first_two "$2")
-        say "the $1 is '$2', $n bytes; its first two state $(count "$things" "$3"), which take" \
-            "$("$4" "$things") bytes; $5"
+        say "the $1 is '$2', $n bytes; its first two bytes state $(count "$things" "$3"), so it needs" \
+            "$("$4" "$things") bytes"
     fi
 }
-about_word() { about_stated word "$1" letter word_bytes "for more: ./walnut show word ${1@Q}"; }
-about_moves() { # MOVES WORD
-    about_stated 'move list' "$1" move moves_bytes "for which fails: ./walnut show moves ${1@Q} ${2@Q}"
+
+# about_part WHAT FILE MORE: a file whose length is right. A command shows which part is wrong.
+about_part() {
+    local n
+    n=$(size "$2") && say "the $1 is '$2', $n bytes; $3"
 }
 
-# which files were judged
-about_all() { # KEY DIGEST SIGNATURE
+# about_word ANSWER WORD: a refused word.
+about_word() {
+    case $1 in
+        12 | 13) about_part word "$2" "for more: ./walnut show word ${2@Q}" ;;
+        *) about_length word "$2" letter word_bytes ;;
+    esac
+}
+
+# about_moves ANSWER MOVES WORD: a refused move list.
+about_moves() {
+    case $1 in
+        18 | 19 | 20) about_length 'move list' "$2" move moves_bytes ;;
+        *) about_part 'move list' "$2" "to see which move fails: ./walnut show moves ${2@Q} ${3@Q}" ;;
+    esac
+}
+
+# about_all KEY DIGEST SIGNATURE: names the files that were judged.
+about_all() {
     local key digest word
     key=$(size "$1") && digest=$(size "$2") && word=$(size "$3") || return 0
-    say "the key is '$1', $key bytes, the digest '$2', $digest bytes, and the word '$3', $word bytes"
+    say "the key is '$1', $key bytes, the digest is '$2', $digest bytes, and the word is '$3', $word bytes"
 }
 
-# three files that are key, digest and word in another order
+# slip_order KEY DIGEST SIGNATURE: says if these look like key, digest and word in another order.
 slip_order() {
     is_key "$1" && is_digest "$2" && is_word "$3" && return 0
     local order
     for order in "1 3 2" "2 1 3" "2 3 1" "3 1 2" "3 2 1"; do
         set -- "$1" "$2" "$3" $order
         if is_key "${!4}" && is_digest "${!5}" && is_word "${!6}"; then
-            say "the files look to be in the wrong order: '${!4}' is as long as a key, '${!5}' as a digest," \
-                "and '${!6}' is a word; the order is KEY DIGEST SIGNATURE"
+            say "the files seem to be in the wrong order: '${!4}' looks like the key, '${!5}' like the digest and" \
+                "'${!6}' like the signature; the order is KEY DIGEST SIGNATURE"
             return 0
         fi
     done
 }
 
-# a refused slip in three files
-about_slip() { # ANSWER KEY DIGEST SIGNATURE
+# about_slip ANSWER KEY DIGEST SIGNATURE: a refused slip in three files.
+about_slip() {
     local answer=$1
     shift
     case $answer in
         [1-7] | 26) about_key "$answer" "$1" ;;
         8) about_digest "$1" "$2" ;;
-        9 | 1[0-3]) about_word "$3" ;;
+        9 | 1[0-3]) about_word "$answer" "$3" ;;
         14) about_all "$@" ;;
     esac
     hex_hint "$@"
     slip_order "$@"
 }
 
-# a refused word, or move list
-about_rewrite() { # ANSWER WORD MOVES
+# about_rewrite ANSWER WORD MOVES: a refused word or move list.
+about_rewrite() {
     case $1 in
-        9 | 1[0-3]) about_word "$2" ;;
-        *) about_moves "$3" "$2" ;;
+        9 | 1[0-3]) about_word "$1" "$2" ;;
+        *) about_moves "$1" "$3" "$2" ;;
     esac
     hex_hint "$2" "$3"
     if ! is_word "$2" && is_moves "$2" && is_word "$3"; then
-        say "the files look to be in the wrong order: '$2' is a move list and '$3' a word; the order is WORD MOVES NEW"
+        say "the files seem to be in the wrong order: '$2' looks like the move list and '$3' like the word;" \
+            "the order is WORD MOVES NEW"
     fi
 }
 
-about_reduce() { # ANSWER WORD
-    about_word "$2"
+# about_reduce ANSWER WORD: a refused word.
+about_reduce() {
+    about_word "$1" "$2"
     hex_hint "$2"
     kind_hint word "$2"
 }
 
-# a refused slip end to end on standard input, where that is a file
+# A refused slip on standard input, if that is a file.
 about_input() {
     local n
     n=$(size /dev/stdin) || return 0
-    say "standard input has $(count "$n" byte); a slip has a key, $(key_sizes), its digest, $(digest_sizes), and a word"
+    say "standard input has $(count "$n" byte); a slip is a key of $(key_sizes) bytes, its digest of $(digest_sizes)" \
+        "bytes, and a word"
 }

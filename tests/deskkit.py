@@ -12,7 +12,8 @@ WALNUT = os.path.join(ROOT, "walnut")
 BIN = os.path.join(ROOT, "target", "bin")
 
 # what the verbs run
-PROGRAMS = ("desk", "desk_files", "shorten", "rewrite", "reduce", "crossings_file")
+LIST = 'root=$0; . "$0/desk_tools/build.bash"; echo "${programs[@]}"'
+PROGRAMS = subprocess.run(["bash", "-c", LIST, ROOT], check=True, stdout=subprocess.PIPE, text=True).stdout.split()
 
 runs = 0
 
@@ -94,10 +95,17 @@ def changed(data, place, byte):
 
 
 def answers():
-    """What failed and what to do, by number."""
+    """The two lines about each refusal, by its number: what failed, and what to do."""
     with open(os.path.join(ROOT, "answers.txt"), encoding="ascii") as lines:
         rows = [line.rstrip("\n").split(" | ") for line in lines if not line.startswith("#")]
-    return {int(row[0]): ": ".join(row[1:3]) for row in rows if len(row) == 3}
+    return {int(row[0]): (f"walnut: {row[1]}\n", f"walnut: {row[2]}\n") for row in rows if len(row) == 3}
+
+
+def in_order(name, said, texts, about):
+    """What failed comes first, then the file, then what to do."""
+    failed, to_do = texts
+    if not said.index(failed) < said.index(about) < said.index(to_do):
+        fail(f"{name}: another order than what failed, which file, what to do: {said!r}")
 
 
 # ---- another tree, with programs of its own

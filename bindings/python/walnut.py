@@ -15,15 +15,101 @@ import ctypes
 import enum
 import operator
 import os
-from ctypes import POINTER, Structure, c_bool, c_char_p, c_int32, c_size_t, c_uint8
 from typing import Any, Iterable, List, Tuple, Union
 
 __version__ = "0.1.0"
 
+# walnut.h: begin; tools/interface writes these lines
+from ctypes import POINTER, Structure, c_bool, c_char_p, c_int32, c_size_t, c_uint8
+
+# bytes of a key file over the field with 32 elements
+KEY_BYTES = 83
+# bytes of a key file over the field with 256 elements
+LARGE_KEY_BYTES = 128
+# bytes of the digest that goes with a key of 83 bytes
+DIGEST_BYTES = 32
+# bytes of the digest that goes with a key of 128 bytes
+LARGE_DIGEST_BYTES = 64
+# bytes of the longest word file; an output for words must have at least as many
 WORD_BYTES = 5002
+# bytes of the longest move list
 MOVES_BYTES = 12290
+# the most letters of a word
 LETTERS = 10000
+# the most moves of a list
 MOVES = 4096
+# bytes of stack that a call may take
+STACK_BYTES = 32768
+
+
+class _Element(Structure):
+    """An element of a field. On a refusal it is 0."""
+
+    _fields_ = [("answer", c_uint8), ("value", c_uint8)]
+
+
+class _Word(Structure):
+    """The number of letters of a word. On a refusal it is 0."""
+
+    _fields_ = [("answer", c_uint8), ("letters", c_size_t)]
+
+
+class _Written(Structure):
+    """The number of bytes written to the front of the output. On a refusal it is 0. Bytes after them do not change."""
+
+    _fields_ = [("answer", c_uint8), ("bytes", c_size_t)]
+
+
+class _Cloak(Structure):
+    """Whether a word cloaks. On a refusal it is false."""
+
+    _fields_ = [("answer", c_uint8), ("yes", c_bool)]
+
+
+class _Crossing(Structure):
+    """The signed number of crossings of two strands. On a refusal it is 0."""
+
+    _fields_ = [("answer", c_uint8), ("crossings", c_int32)]
+
+
+class _Pair(Structure):
+    """A matrix, with its entries as WALNUT_PLACE says, and a list of labels."""
+
+    _fields_ = [("matrix", c_uint8 * 64), ("labels", c_uint8 * 8)]
+
+
+class _Key(Structure):
+    """A key: its field, its T-values, the pair Pub(S), and `second`, the matrix of Pub(S'). On a refusal the field is
+    the one with 32 elements, and all numbers are 0."""
+
+    _fields_ = [
+        ("answer", c_uint8),
+        ("large", c_bool),
+        ("t_values", c_uint8 * 8),
+        ("pair", _Pair),
+        ("second", c_uint8 * 64),
+    ]
+
+
+# of each exported function: what it gives, then what it takes
+_FUNCTIONS: Any = {
+    "walnut_product": (_Element, c_bool, c_uint8, c_uint8),
+    "walnut_reciprocal": (_Element, c_bool, c_uint8),
+    "walnut_start": (_Pair,),
+    "walnut_multiply": (c_uint8, POINTER(_Pair), c_bool, c_char_p, c_uint8),
+    "walnut_read_key": (_Key, c_char_p, c_size_t),
+    "walnut_file_entries": (None, c_char_p, POINTER(c_uint8)),
+    "walnut_write_key": (c_uint8, c_bool, c_char_p, c_char_p, c_char_p, c_char_p, POINTER(c_uint8), c_size_t),
+    "walnut_read_word": (_Word, c_char_p, c_size_t),
+    "walnut_write_word": (_Written, c_char_p, c_size_t, POINTER(c_uint8), c_size_t),
+    "walnut_encode_digest": (_Written, c_char_p, c_size_t, POINTER(c_uint8), c_size_t),
+    "walnut_free_reduce": (_Written, c_char_p, c_size_t, POINTER(c_uint8), c_size_t),
+    "walnut_rewrite": (_Written, c_char_p, c_size_t, c_char_p, c_size_t, POINTER(c_uint8), c_size_t),
+    "walnut_verify": (c_uint8, c_char_p, c_size_t, c_char_p, c_size_t, c_char_p, c_size_t),
+    "walnut_cloaks": (_Cloak, c_char_p, c_size_t, c_char_p, c_size_t, c_char_p, c_size_t),
+    "walnut_crossings": (_Crossing, c_char_p, c_size_t, c_uint8, c_uint8),
+}
+# walnut.h: end
 
 # bytes, or numbers that are bytes
 Bytes = Union[bytes, bytearray, memoryview, Iterable[int]]
@@ -36,8 +122,8 @@ Move = Tuple[int, int]
 class Field(enum.Enum):
     """One of the two fields: as it is named to the library, the bytes of a key file over it, and of its digest."""
 
-    GF32 = (False, 83, 32)
-    GF256 = (True, 128, 64)
+    GF32 = (False, KEY_BYTES, DIGEST_BYTES)
+    GF256 = (True, LARGE_KEY_BYTES, LARGE_DIGEST_BYTES)
 
     def __init__(self, large: bool, key_bytes: int, digest_bytes: int) -> None:
         self.large = large
@@ -89,34 +175,34 @@ class Answer(enum.IntEnum):
 # what failed, for each answer
 TEXTS = {
     # answers.txt: begin; tools/answers writes these lines
-    0: "nothing: the input was accepted",
-    1: "the key file is neither 83 nor 128 bytes",
+    0: "nothing failed: the input is accepted",
+    1: "the key file has neither 83 nor 128 bytes",
     2: "the key is not for eight strands",
-    3: "the key's field does not go with its length: 32 elements with 83 bytes, 256 with 128",
-    4: "a T-value, or the number whose reciprocal is asked for, is zero",
+    3: "the key names the wrong field: 83 bytes need q = 32, 128 bytes need q = 256",
+    4: "a T-value is zero, or the reciprocal of zero was asked for",
     5: "the first two T-values are not both 1",
     6: "the list of labels is not 0 to 7, each once",
-    7: "filler bits of the key are not zero",
-    8: "the digest is not 32 or 64 bytes, or not the one of the two that goes with the key",
+    7: "the key's filler bits are not all zero",
+    8: "the digest has the wrong length: an 83-byte key needs 32 bytes, a 128-byte key 64",
     9: "the word has fewer than 2 bytes",
     10: "the word's number of letters is over 10,000",
-    11: "the word's length is not what its number of letters needs",
-    12: "a code is no letter",
-    13: "an odd word's last half byte is not 0",
-    14: "the matrices differ: the word is no signature of this digest under this key",
-    15: "the output has fewer than 5,002 bytes",
-    16: "the key's output has fewer than 83 bytes, or than 128 over the field with 256 elements",
-    17: "a T-value, matrix entry or operand is no element: not below 32, or 256 in the larger field",
+    11: "the word's length does not match its number of letters",
+    12: "a code is not a letter",
+    13: "the last half byte of an odd word is not 0",
+    14: "the matrices differ: the word is not a signature of this digest under this key",
+    15: "the output is too small: a word needs 5,002 bytes",
+    16: "the output is too small: a key needs 83 bytes, or 128 in the larger field",
+    17: "a T-value, matrix entry or operand is outside the field (0 to 31, or 0 to 255)",
     18: "the move list has fewer than 2 bytes",
     19: "the move list states more than 4,096 moves",
     20: "the move list's length is not 2 + 3 times its number of moves",
-    21: "a move's kind is none of 1, 2, 3, 16 to 22, 24 to 30",
-    22: "a move's letters do not exist from its place on, or an insertion's place is past the end",
-    23: "the letters at a move's place have not the kind's shape",
+    21: "a move's kind is unknown: kinds are 1, 2, 3, 16 to 22 and 24 to 30",
+    22: "a move reaches past the end of the word",
+    23: "the letters at the move's place do not match this kind of move",
     24: "an insertion would leave more than 10,000 letters",
-    25: "the list handed in is not 8 bytes, 0 to 7 each once",
+    25: "the list to cloak for is not 8 bytes, 0 to 7 each once",
     26: "a matrix of the key has no inverse",
-    27: "a label is over 7, or the two labels are equal",
+    27: "a label is over 7, or both labels are equal",
     # answers.txt: end
 }
 
@@ -140,42 +226,6 @@ class Refusal(Exception):
         return f"walnut.Refusal({self.number})"
 
 
-class _Element(Structure):
-    _fields_ = [("answer", c_uint8), ("value", c_uint8)]
-
-
-class _Number(Structure):
-    """walnut_word and walnut_written: an answer, and a number of letters or bytes."""
-
-    _fields_ = [("answer", c_uint8), ("number", c_size_t)]
-
-
-class _Cloak(Structure):
-    _fields_ = [("answer", c_uint8), ("yes", c_bool)]
-
-
-class _Crossing(Structure):
-    _fields_ = [("answer", c_uint8), ("crossings", c_int32)]
-
-
-class _Pair(Structure):
-    _fields_ = [("matrix", c_uint8 * 64), ("labels", c_uint8 * 8)]
-
-
-class _Key(Structure):
-    _fields_ = [
-        ("answer", c_uint8),
-        ("large", c_bool),
-        ("t_values", c_uint8 * 8),
-        ("pair", _Pair),
-        ("second", c_uint8 * 64),
-    ]
-
-
-_BYTES = [c_char_p, c_size_t]
-_OUT = [POINTER(c_uint8), c_size_t]
-
-
 def _library() -> ctypes.CDLL:
     name = "libwalnut.so.0"
     named = os.environ.get("WALNUT_LIB_DIR")
@@ -193,31 +243,9 @@ def _library() -> ctypes.CDLL:
 
 
 _lib = _library()
-
-
-def _exported(name: str, result: Any, *arguments: Any) -> Any:
-    function = getattr(_lib, "walnut_" + name)
-    function.restype = result
-    flat = [argument if isinstance(argument, list) else [argument] for argument in arguments]
-    function.argtypes = [kind for kinds in flat for kind in kinds]
-    return function
-
-
-_product = _exported("product", _Element, c_bool, c_uint8, c_uint8)
-_reciprocal = _exported("reciprocal", _Element, c_bool, c_uint8)
-_start = _exported("start", _Pair)
-_multiply = _exported("multiply", c_uint8, POINTER(_Pair), c_bool, c_char_p, c_uint8)
-_read_key = _exported("read_key", _Key, _BYTES)
-_file_entries = _exported("file_entries", None, c_char_p, POINTER(c_uint8))
-_write_key = _exported("write_key", c_uint8, c_bool, c_char_p, c_char_p, c_char_p, c_char_p, _OUT)
-_read_word = _exported("read_word", _Number, _BYTES)
-_write_word = _exported("write_word", _Number, _BYTES, _OUT)
-_encode_digest = _exported("encode_digest", _Number, _BYTES, _OUT)
-_free_reduce = _exported("free_reduce", _Number, _BYTES, _OUT)
-_rewrite = _exported("rewrite", _Number, _BYTES, _BYTES, _OUT)
-_verify = _exported("verify", c_uint8, _BYTES, _BYTES, _BYTES)
-_cloaks = _exported("cloaks", _Cloak, _BYTES, _BYTES, _BYTES)
-_crossings = _exported("crossings", _Crossing, _BYTES, c_uint8, c_uint8)
+for _name, (_result, *_taken) in _FUNCTIONS.items():
+    _function = getattr(_lib, _name)
+    _function.restype, _function.argtypes = _result, _taken
 
 
 def _granted(answer: int, value: Any = None) -> Any:
@@ -295,7 +323,7 @@ def _word_written(function: Any, **parts: Bytes) -> bytes:
     """What a writer of words wrote."""
     out = (c_uint8 * WORD_BYTES)()
     written = function(*_slices(**parts), out, WORD_BYTES)
-    return _granted(written.answer, bytes(out[: written.number]))
+    return _granted(written.answer, bytes(out[: written.bytes]))
 
 
 # ---- letters
@@ -411,7 +439,7 @@ class Pair:
     @classmethod
     def start(cls) -> "Pair":
         """The starting pair: the identity matrix with the list 0 to 7."""
-        return cls._of(_start())
+        return cls._of(_lib.walnut_start())
 
     @classmethod
     def _of(cls, pair: _Pair) -> "Pair":
@@ -420,7 +448,7 @@ class Pair:
     def multiply(self, field: Field, t_values: Bytes, letter: Letter) -> None:
         """Multiplies a letter into the pair, over a field. On a refusal the pair is as it was."""
         lent = _Pair((c_uint8 * 64)(*self.matrix), (c_uint8 * 8)(*self.labels))
-        _granted(_multiply(lent, _large(field), _fixed(t_values, 8, "t_values"), letter_code(letter)))
+        _granted(_lib.walnut_multiply(lent, _large(field), _fixed(t_values, 8, "t_values"), letter_code(letter)))
         self.matrix, self.labels = bytes(lent.matrix), bytes(lent.labels)
 
     def __eq__(self, other: object) -> bool:
@@ -463,19 +491,19 @@ def _shown(data: bytes) -> str:
 
 def product(field: Field, a: int, b: int) -> int:
     """The product of two elements of a field."""
-    element = _product(_large(field), _byte(a, "a"), _byte(b, "b"))
+    element = _lib.walnut_product(_large(field), _byte(a, "a"), _byte(b, "b"))
     return _granted(element.answer, element.value)
 
 
 def reciprocal(field: Field, a: int) -> int:
     """The reciprocal of an element other than zero of a field."""
-    element = _reciprocal(_large(field), _byte(a, "a"))
+    element = _lib.walnut_reciprocal(_large(field), _byte(a, "a"))
     return _granted(element.answer, element.value)
 
 
 def read_key(file: Bytes) -> Key:
     """The key that a key file holds."""
-    key = _read_key(*_slices(file=file))
+    key = _lib.walnut_read_key(*_slices(file=file))
     field = GF256 if key.large else GF32
     return _granted(key.answer, Key(field, bytes(key.t_values), Pair._of(key.pair), bytes(key.second)))
 
@@ -483,7 +511,7 @@ def read_key(file: Bytes) -> Key:
 def file_entries(matrix: Bytes) -> bytes:
     """The 57 entries that a key file has of a matrix, in the file's order: rows 1 to 7, then the last one of row 8."""
     entries = (c_uint8 * 57)()
-    _file_entries(_fixed(matrix, 64, "matrix"), entries)
+    _lib.walnut_file_entries(_fixed(matrix, 64, "matrix"), entries)
     return bytes(entries)
 
 
@@ -493,13 +521,13 @@ def write_key(field: Field, t_values: Bytes, labels: Bytes, first: Bytes, second
     out = (c_uint8 * field.key_bytes)()
     lists = [_fixed(t_values, 8, "t_values"), _fixed(labels, 8, "labels")]
     lists += [_fixed(first, 57, "first"), _fixed(second, 57, "second")]
-    return _granted(_write_key(large, *lists, out, field.key_bytes), bytes(out))
+    return _granted(_lib.walnut_write_key(large, *lists, out, field.key_bytes), bytes(out))
 
 
 def read_word(file: Bytes) -> int:
     """The number of letters of a word file; codes and spelled give the letters."""
-    word = _read_word(*_slices(file=file))
-    return _granted(word.answer, word.number)
+    word = _lib.walnut_read_word(*_slices(file=file))
+    return _granted(word.answer, word.letters)
 
 
 def write_word(letters: Union[str, Iterable[Letter]]) -> bytes:
@@ -507,23 +535,23 @@ def write_word(letters: Union[str, Iterable[Letter]]) -> bytes:
     given = letters.split() if isinstance(letters, str) else letters
     if not isinstance(given, Iterable):
         raise TypeError(f"letters: codes or text are needed, not {type(letters).__name__}")
-    return _word_written(_write_word, codes=[letter_code(letter) for letter in given])
+    return _word_written(_lib.walnut_write_word, codes=[letter_code(letter) for letter in given])
 
 
 def encode_digest(digest: Bytes) -> bytes:
     """The braid of a digest, of 32 bytes or 64, as a word file."""
-    return _word_written(_encode_digest, digest=digest)
+    return _word_written(_lib.walnut_encode_digest, digest=digest)
 
 
 def free_reduce(word: Bytes) -> bytes:
     """The freely reduced word of a word file."""
-    return _word_written(_free_reduce, word=word)
+    return _word_written(_lib.walnut_free_reduce, word=word)
 
 
 def rewrite(word: Bytes, moves: Union[bytes, bytearray, memoryview, Iterable[Move]]) -> bytes:
     """The word file that moves leave: the bytes of a move list's file, or (place, kind) of each move."""
     file = moves if isinstance(moves, (bytes, bytearray, memoryview)) else _moves_file(moves)
-    return _word_written(_rewrite, word=word, moves=file)
+    return _word_written(_lib.walnut_rewrite, word=word, moves=file)
 
 
 def verify(key: Bytes, digest: Bytes, word: Bytes) -> None:
@@ -534,17 +562,17 @@ def verify(key: Bytes, digest: Bytes, word: Bytes) -> None:
 
 def verdict(key: Bytes, digest: Bytes, word: Bytes) -> int:
     """The verdict's number: 0 where verify returns, else the refusal's. As a condition it is true on a failure."""
-    return _verify(*_slices(key=key, digest=digest, word=word))
+    return _lib.walnut_verify(*_slices(key=key, digest=digest, word=word))
 
 
 def cloaks(key: Bytes, labels: Bytes, word: Bytes) -> bool:
     """Does the word cloak for the list under the key's T-values, over the key's field?"""
-    cloak = _cloaks(*_slices(key=key, labels=labels, word=word))
+    cloak = _lib.walnut_cloaks(*_slices(key=key, labels=labels, word=word))
     return _granted(cloak.answer, cloak.yes)
 
 
 def crossings(word: Bytes, a: int, b: int) -> int:
     """How often the strands with labels a and b cross in the word, from the list 0 to 7: its generators that swap just
     these two, less its inverse letters that do."""
-    crossing = _crossings(*_slices(word=word), _label(a, "a"), _label(b, "b"))
+    crossing = _lib.walnut_crossings(*_slices(word=word), _label(a, "a"), _label(b, "b"))
     return _granted(crossing.answer, crossing.crossings)

@@ -1,6 +1,6 @@
-"""Files for people: shown in words, spelled back, drawn. Called by ./walnut, which checks the arguments.
+"""Shows files to people, spells them from text, and draws braids. ./walnut calls it, and checks the arguments.
 
-Every answer comes from the proved library, through its binding; what is printed and drawn is not proved.
+Every answer comes from the proved library, through its binding. What is printed and drawn is not proved.
 Exit status: 0 done; 4 a refusal; 1 a file could not be read or written; 3 the library could not be loaded.
 """
 
@@ -13,7 +13,7 @@ sys.path.insert(0, os.path.join(ROOT, "bindings", "python"))
 try:
     import walnut
 except OSError as error:
-    print(f"walnut: the library could not be loaded: {error}; './library' builds it again", file=sys.stderr)
+    print(f"walnut: the library could not be loaded: {error}; run './library' to build it", file=sys.stderr)
     sys.exit(3)
 
 import draw
@@ -42,15 +42,17 @@ def main(verb, *arguments):
     except Refused as refused:
         if refused.answer:
             print(f"answer {refused.answer}", flush=True)
-            say(f"{walnut.text(refused.answer)}: {to_do(refused.answer)}")
+            say(walnut.text(refused.answer))
         for line in refused.lines:
             say(line)
+        if refused.answer:
+            say(to_do(refused.answer))
         return 4
     except OSError as error:
-        # nothing more can be written where standard output was closed
+        # Python must not write to a standard output that was closed.
         sys.stdout = None
         say(f"{error.filename or 'standard output'}: {error.strerror}")
-        say("what is named above could not be read or written: mend the name, choose another place, or make room")
+        say("the file named above could not be read or written: correct its name, choose another place, or make room")
         return 1
 
 

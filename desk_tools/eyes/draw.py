@@ -1,6 +1,6 @@
-"""A braid as a picture, an SVG file: strands from left to right, the first place on top, each in the colour of its
-label. At a positive letter b_i the strand that comes from place i goes over, at an inverse letter under. Beside it the
-28 crossing numbers, as a triangle of shades."""
+"""Draws a braid as an SVG picture. Strands go from left to right, the first place on top, each in the colour of its
+label. At a positive letter b_i the strand from place i goes over; at an inverse letter it goes under. The 28 crossing
+numbers stand beside the braid, as a triangle of shades."""
 
 from itertools import combinations
 
@@ -13,7 +13,7 @@ from walnut import letter_text
 COLOURS = ["#1f77b4", "#d62728", "#2ca02c", "#9467bd", "#ff7f0e", "#17a2b8", "#8c564b", "#e0559f"]
 STRANDS = 8
 
-# letters in a row, and lengths in the picture
+# How many letters stand in a row, and lengths in the picture.
 ROW = 40
 WIDE = 30
 HIGH = 20
@@ -28,11 +28,11 @@ def main(path, picture):
     files.write(picture, svg(codes, crossings(file)).encode())
 
 
-# ---- what the letters do, by the library
+# ---- what the letters do, asked of the library
 
 
 def orders(codes):
-    """The list of labels before each letter, and after the last."""
+    """The list of labels before each letter and after the last one."""
     pair = walnut.Pair.start()
     lists = [list(pair.labels)]
     for code in codes:
@@ -58,12 +58,12 @@ def strand(label, path):
 
 
 def slope(x, start, end):
-    """From one place to another."""
+    """The curve from one place to another."""
     return f"M{x} {y(start)}C{x + WIDE / 2:g} {y(start)} {x + WIDE / 2:g} {y(end)} {x + WIDE} {y(end)}"
 
 
 def crossing(code, labels, x):
-    """One letter: the strand below, a white border about the one above, and the one above."""
+    """One letter: the lower strand, a white border around the upper one, and the upper one."""
     place = code % 8
     path = [slope(x, place, place + 1), slope(x, place + 1, place)]
     over = 1 if code >= 8 else 0
@@ -73,7 +73,7 @@ def crossing(code, labels, x):
 
 
 def straight(codes, lists):
-    """The parts of a row where strands go on: one line from each crossing of a strand to its next."""
+    """The straight parts of a row: for each strand, a line from one of its crossings to the next."""
     lines = []
     for place in range(STRANDS):
         start = 0
@@ -103,7 +103,7 @@ def ends(lists, width):
 
 
 def row(codes, lists, first, top):
-    """A row of letters, the first of which has this place in the word."""
+    """A row of letters. The first letter has this place in the word."""
     drawn = [crossing(code, labels, k * WIDE) for k, (code, labels) in enumerate(zip(codes, lists))]
     place = f'<text class="place" x="-10" y="-14">{first}:</text>'
     parts = [place, *names(codes), *ends(lists, len(codes) * WIDE), *straight(codes, lists), *drawn]
@@ -111,7 +111,7 @@ def row(codes, lists, first, top):
 
 
 def shade(number, most):
-    """White for none, blue for crossings of positive letters, red for inverse ones; the darker the more."""
+    """White for zero, blue above and red below. A darker shade is a number further from zero."""
     if not number:
         return "#ffffff"
     light = 235 - round(110 * abs(number) / most)
@@ -119,7 +119,7 @@ def shade(number, most):
 
 
 def triangle(counts, left, top):
-    """The crossing numbers of each two labels."""
+    """The crossing number of each two labels."""
     most = max(map(abs, counts.values())) or 1
     parts = [f'<text class="letter" x="{3.5 * CELL}" y="-14">crossings of two strands</text>']
     for (a, b), number in counts.items():
@@ -129,7 +129,7 @@ def triangle(counts, left, top):
             f'<rect x="{x}" y="{up}" width="{CELL}" height="{CELL}" fill="{shade(number, most)}"/>'
             f'<text x="{x + CELL / 2:g}" y="{up + CELL / 2 + 4:g}">{str(number).replace("-", "−")}</text></g>'
         )
-    # a label stands on the diagonal, left of its row and below its column
+    # A label stands on the diagonal, left of its row and below its column.
     for label in range(STRANDS):
         parts.append(name_of(label, "middle", (label - 0.5) * CELL, (label + 0.5) * CELL + 4))
     return f'<g transform="translate({left} {top})">\n' + "\n".join(parts) + "\n</g>"

@@ -1,11 +1,11 @@
-"""Reading and writing files, and where their parts stand. Whether a file is accepted is the library's to say."""
+"""Reads and writes files, and knows where their parts stand. The library alone decides whether a file is accepted."""
 
 import os
 import stat
 
 import walnut
 
-# the fields by the length of a key file, and the bits of an entry over each
+# The field for each length of a key file, and the bits of an entry in each field.
 FIELDS = {field.key_bytes: field for field in walnut.Field}
 BITS = {walnut.GF32: 5, walnut.GF256: 8}
 
@@ -13,7 +13,7 @@ TEXT_BYTES = 1_000_000
 
 
 class Refused(Exception):
-    """A file is refused: the answer, 0 where it is no question of the papers, and what to say about it."""
+    """A refused file: the answer, and the lines to print. The answer is 0 if no question of the papers fails."""
 
     def __init__(self, answer, *lines):
         super().__init__(answer, *lines)
@@ -30,7 +30,7 @@ def count(number, thing):
 
 
 def read(path, limit):
-    """The file's first bytes, one past its limit at most, to tell a longer one from a full one; and its size."""
+    """The file's bytes, up to one past the limit, so that a longer file shows; and the file's size."""
     with open(path, "rb") as file:
         data = file.read(limit + 1)
         status = os.fstat(file.fileno())
@@ -38,7 +38,7 @@ def read(path, limit):
 
 
 def write(path, data):
-    """Writes a file beside its place, which ./walnut has looked at, and gives it its name when it is whole."""
+    """Writes a file beside its place, and renames it when it is complete. ./walnut has checked the place."""
     beside = os.path.join(os.path.dirname(path), f".walnut-{os.getpid()}-{os.urandom(4).hex()}")
     try:
         with open(beside, "xb") as file:
@@ -57,18 +57,18 @@ def write(path, data):
 
 
 def half(data, place):
-    """The half byte at a place, the high half of a byte first."""
+    """The half byte at a place. The high half of a byte comes first."""
     byte = data[place // 2]
     return byte % 16 if place % 2 else byte // 16
 
 
-# a move's kind as text; 'insert' has a letter after it
+# The kinds of moves as text. After 'insert' stands a letter.
 KINDS = {walnut.REMOVE: "remove", walnut.SWAP: "swap", walnut.TURN: "turn"}
 INSERT = walnut.insert(0)
 
 
 def kind_is_known(kind):
-    """Is there such a kind? The library says so: it answers 21 if not, before it looks at the word."""
+    """Does this kind exist? If not, the library answers 21 before it looks at the word."""
     try:
         walnut.rewrite(bytes(2), [(0, kind)])
     except walnut.Refusal as refusal:
@@ -80,7 +80,7 @@ def kind_is_known(kind):
 
 
 class KeyParts:
-    """Where the parts of a key file over a field stand, by the bits of an entry: bytes from, and bytes."""
+    """Where the parts of a key file stand in one field: the first byte of each part, and its number of bytes."""
 
     def __init__(self, field):
         self.field = field
@@ -95,7 +95,7 @@ class KeyParts:
 
 
 def packed(file, part, bits, count):
-    """The first numbers of a part, of so many bits each, most significant bit first."""
+    """The first numbers of a part, each of so many bits. The most significant bit comes first."""
     start, length = part
     value = int.from_bytes(file[start : start + length], "big")
     return [value >> (8 * length - bits * (k + 1)) & (2**bits - 1) for k in range(count)]

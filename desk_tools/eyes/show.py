@@ -1,5 +1,5 @@
-"""Words, keys and move lists in words; of a refused file the first question that it fails, where in the file, and what
-stands there; of a move list that a word refuses, which move."""
+"""Prints words, keys and move lists as text. For a refused file it prints the first question that fails, where in the
+file that is, and what stands there. For a move list that a word refuses, it prints which move fails."""
 
 import walnut
 
@@ -7,7 +7,7 @@ import files
 from files import KeyParts, Refused, count
 from walnut import letter_text
 
-# letters in a row of text
+# How many letters stand in a row of text.
 ROW = 10
 
 
@@ -26,14 +26,14 @@ def places(first, count):
 def show_word(path):
     codes, size = word(path)[1:]
     size_told = f"a word of {count(len(codes), 'letter')} in {size} bytes"
-    print(f"# {size_told}; before the colon the place of a row's first letter")
+    print(f"# {size_told}; each row begins with the place of its first letter")
     width = len(str(len(codes)))
     for place in range(0, len(codes), ROW):
         print(f"{place:{width}}: " + " ".join(letter_text(code) for code in codes[place : place + ROW]))
 
 
 def word(path):
-    """The file of a word that the library accepts, its letters' codes, and its size."""
+    """An accepted word: its file, the codes of its letters, and the file's size."""
     file, size = files.read(path, walnut.WORD_BYTES)
     try:
         return file, walnut.codes(file), size
@@ -42,7 +42,7 @@ def word(path):
 
 
 def word_fault(path, file, size, answer):
-    """Where a refused word fails, and what stands there."""
+    """The place at which a refused word fails, and what stands there."""
     letters = int.from_bytes(file[:2], "big")
     at = f"'{path}', {count(size, 'byte')}, "
     stated = at + f"bytes 0 and 1: {file[:2].hex(' ')}, so it states {count(letters, 'letter')}"
@@ -51,20 +51,20 @@ def word_fault(path, file, size, answer):
     if answer == 10:
         return [f"{stated}; a word has at most {walnut.LETTERS}"]
     if answer == 11:
-        return [f"{stated}, which take {2 + (letters + 1) // 2} bytes; the file has {size}"]
+        return [f"{stated} and needs {2 + (letters + 1) // 2} bytes; the file has {size}"]
     if answer == 12:
         place = next(k for k in range(letters) if files.half(file[2:], k) % 8 == 7)
         code, byte = files.half(file[2:], place), 2 + place // 2
-        told = f"so the letter at place {place} has the code {code}; 7 and 15 are no letters"
+        told = f"so the letter at place {place} has the code {code}; 7 and 15 are not letters"
         return [at + f"byte {byte}: {file[byte]:02x}, {told}"]
-    return [f"{stated}; byte {size - 1}: {file[-1]:02x}, whose low half is no letter's and must be 0"]
+    return [f"{stated}; byte {size - 1}: {file[-1]:02x}, whose low half is unused and must be 0"]
 
 
 # ---- keys
 
 
 def table(entries):
-    """A matrix's 57 entries of a key file as eight rows: of row 8 the file has the last alone, and the others are 0."""
+    """The 57 entries of a key file as eight rows. The file has only the last entry of row 8; the others are 0."""
     rows = [entries[8 * r : 8 * r + 8] for r in range(7)] + [bytes(7) + entries[56:]]
     width = len(str(max(entries)))
     return ["  " + " ".join(f"{entry:{width}}" for entry in row) for row in rows]
@@ -91,16 +91,16 @@ def show_key(path):
 
 
 def key_fault(path, file, size, answer):
-    """Where a refused key fails, and what stands there."""
+    """The place at which a refused key fails, and what stands there."""
     at = f"'{path}', {count(size, 'byte')}, "
     if answer == 1:
-        return [f"'{path}' has {size} bytes; a key has {' or '.join(map(str, sorted(files.FIELDS)))}"]
+        return [f"'{path}' has {count(size, 'byte')}; a key has {' or '.join(map(str, sorted(files.FIELDS)))} bytes"]
     if answer == 2:
-        return [at + f"byte 0: {file[0]} strands, and not 8"]
+        return [at + f"byte 0 states {file[0]} strands, not 8"]
     parts = KeyParts(files.FIELDS[size])
     if answer == 3:
         q = int.from_bytes(file[1:3], "big")
-        return [at + f"bytes 1 and 2: q is {q}; a key of {size} bytes has q = {parts.size}"]
+        return [at + f"bytes 1 and 2 state q = {q}; a key of {size} bytes needs q = {parts.size}"]
     t_values = files.packed(file, parts.t_values, parts.bits, 8)
     labels = files.packed(file, parts.labels, 3, 8)
     if answer in (4, 5):
@@ -117,12 +117,12 @@ def fillers(file, parts):
     for name, (start, length) in (("Pub(S)", parts.first), ("Pub(S')", parts.second)):
         last = file[start + length - 1]
         if last % 2**parts.filler:
-            told = f"whose last {parts.filler} bits, after the matrix of {name}, are not zero"
+            told = f"whose last {parts.filler} bits, the filler after the matrix of {name}, must be 0"
             yield f"byte {start + length - 1}: {last:02x}, {told}"
 
 
 def no_inverses(at, file, parts, t_values, labels):
-    """The matrices without an inverse: the library refuses a key that has one of them beside the identity."""
+    """The matrices without an inverse. The library refuses a key with such a matrix beside the identity."""
     identity = walnut.file_entries(walnut.Pair.start().matrix)
     for name, part in (("Pub(S)", parts.first), ("Pub(S')", parts.second)):
         entries = files.packed(file, part, parts.bits, 57)
@@ -149,8 +149,8 @@ def show_moves(path, on=None):
     for number, (_, kind) in enumerate(moves, 1):
         if not known[kind]:
             raise Refused(21, unknown_kind(path, moves, number))
-    print(f"# a list of {count(len(moves), 'move')} in {size} bytes; before the colon a move's number;")
-    print("# places count from 0, in the word as it is then")
+    print(f"# a list of {count(len(moves), 'move')} in {size} bytes; each row begins with the number of its move")
+    print("# places count from 0, in the word that the earlier moves left")
     width = len(str(len(moves)))
     for number, (place, kind) in enumerate(moves, 1):
         text = f"{number:{width}}: at {place} {move_text(kind)}"
@@ -160,11 +160,11 @@ def show_moves(path, on=None):
 def unknown_kind(path, moves, number):
     place, kind = moves[number - 1]
     at = f"'{path}', {count(2 + 3 * len(moves), 'byte')}, byte {2 + 2 * len(moves) + number - 1}"
-    return f"{at}: {kind}, the kind of move {number}, at place {place}"
+    return f"{at}: move {number}, at place {place}, has the unknown kind {kind}"
 
 
 def made(listed, moves, on):
-    """Has the library make the moves one by one, each on the word that the last one left: which one is refused?"""
+    """Finds the move that the library refuses. Each move is made on the word that the one before it left."""
     file = word(on)[0]
     for number, (place, kind) in enumerate(moves, 1):
         try:
@@ -173,28 +173,28 @@ def made(listed, moves, on):
             if refusal.number == 21:
                 raise Refused(21, unknown_kind(listed, moves, number)) from None
             codes = walnut.codes(file)
-            there = " ".join(map(letter_text, codes[place : place + 3])) or "no letter"
-            told = f"{there} stands there, in a word of {count(len(codes), 'letter')} by then"
+            there = " ".join(map(letter_text, codes[place : place + 3])) or "nothing"
+            told = f"the word then has {count(len(codes), 'letter')}, and {there} stands at this place"
             first, last = 2 * number, 2 + 2 * len(moves) + number - 1
             at = f"'{listed}', {count(2 + 3 * len(moves), 'byte')}, bytes {first} and {first + 1}, and byte {last}"
             raise Refused(refusal.number, f"{at}: move {number}, at {place} {move_text(kind)}: {told}") from None
 
 
 def move_text(kind):
-    """A kind as text, as `spell` reads it."""
+    """A kind as the text that `spell` reads."""
     return files.KINDS.get(kind) or f"insert {letter_text(kind - files.INSERT)}"
 
 
 def move_told(place, kind):
     """What a move does."""
     if kind == 1:
-        return f"the letters at {place} and {place + 1} go: a letter and its inverse"
+        return f"removes the letters at {place} and {place + 1}, a letter and its inverse"
     if kind == 2:
-        return f"the letters at {place} and {place + 1} change places"
+        return f"swaps the letters at {place} and {place + 1}"
     if kind == 3:
-        return f"j k j at {place} to {place + 2} becomes k j k"
+        return f"turns j k j at {place} to {place + 2} into k j k"
     code = kind - files.INSERT
-    return f"{letter_text(code)} {letter_text(code ^ 8)} before place {place}"
+    return f"inserts {letter_text(code)} {letter_text(code ^ 8)} before place {place}"
 
 
 def list_fault(path, file, size, answer):
@@ -205,4 +205,4 @@ def list_fault(path, file, size, answer):
     stated = at + f"bytes 0 and 1: {file[:2].hex(' ')}, so it states {count(moves, 'move')}"
     if answer == 19:
         return f"{stated}; a list has at most {walnut.MOVES}"
-    return f"{stated}, which take {2 + 3 * moves} bytes; the file has {size}"
+    return f"{stated} and needs {2 + 3 * moves} bytes; the file has {size}"

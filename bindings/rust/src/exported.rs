@@ -1,34 +1,58 @@
-//! The exported functions, as `walnut.h` states them: answers as numbers, and what comes with a refusal as it is. They
-//! are private; `tests/compare` takes this file too, since it looks at what a refusal gives.
+//! The exported functions and their structs, as `walnut.h` declares them. `tests/compare` reads this file
+//! too. `tools/interface` writes it.
 
-use crate::Pair;
-
+/// An element of a field. On a refusal it is 0.
 #[repr(C)]
+#[derive(Clone, Copy, Debug, PartialEq, Eq)]
 pub struct Element {
     pub answer: u8,
     pub value: u8,
 }
 
-/// A word's letters or a writer's bytes: `walnut_word` and `walnut_written` have one layout.
+/// The number of letters of a word. On a refusal it is 0.
 #[repr(C)]
-pub struct Number {
+#[derive(Clone, Copy, Debug, PartialEq, Eq)]
+pub struct Word {
     pub answer: u8,
-    pub number: usize,
+    pub letters: usize,
 }
 
+/// The number of bytes written to the front of the output. On a refusal it is 0. Bytes after them do not change.
 #[repr(C)]
+#[derive(Clone, Copy, Debug, PartialEq, Eq)]
+pub struct Written {
+    pub answer: u8,
+    pub bytes: usize,
+}
+
+/// Whether a word cloaks. On a refusal it is false.
+#[repr(C)]
+#[derive(Clone, Copy, Debug, PartialEq, Eq)]
 pub struct Cloak {
     pub answer: u8,
     pub yes: bool,
 }
 
+/// The signed number of crossings of two strands. On a refusal it is 0.
 #[repr(C)]
+#[derive(Clone, Copy, Debug, PartialEq, Eq)]
 pub struct Crossing {
     pub answer: u8,
     pub crossings: i32,
 }
 
+/// A matrix, with its entries as WALNUT_PLACE says, and a list of labels.
 #[repr(C)]
+#[derive(Clone, Copy, Debug, PartialEq, Eq)]
+pub struct Pair {
+    pub matrix: [u8; 64],
+    pub labels: [u8; 8],
+}
+
+/// A key: its field, its T-values, the pair Pub(S), and `second`, the matrix of Pub(S'). On a refusal the field is the
+/// one with 32 elements, and all numbers are 0.
+#[repr(C)]
+#[derive(Clone, Copy, Debug, PartialEq, Eq)]
 pub struct Key {
     pub answer: u8,
     pub large: bool,
@@ -41,22 +65,22 @@ extern "C" {
     pub fn walnut_product(large: bool, a: u8, b: u8) -> Element;
     pub fn walnut_reciprocal(large: bool, a: u8) -> Element;
     pub fn walnut_start() -> Pair;
-    pub fn walnut_multiply(pair: *mut Pair, large: bool, t_values: *const u8, letter: u8) -> u8;
+    pub fn walnut_multiply(pair: *mut Pair, large: bool, t_values: *const [u8; 8], letter: u8) -> u8;
     pub fn walnut_read_key(file: *const u8, len: usize) -> Key;
-    pub fn walnut_file_entries(matrix: *const u8, entries: *mut u8);
+    pub fn walnut_file_entries(matrix: *const [u8; 64], entries: *mut [u8; 57]);
     pub fn walnut_write_key(
         large: bool,
-        t_values: *const u8,
-        labels: *const u8,
-        first: *const u8,
-        second: *const u8,
+        t_values: *const [u8; 8],
+        labels: *const [u8; 8],
+        first: *const [u8; 57],
+        second: *const [u8; 57],
         out: *mut u8,
         len: usize,
     ) -> u8;
-    pub fn walnut_read_word(file: *const u8, len: usize) -> Number;
-    pub fn walnut_write_word(codes: *const u8, n: usize, out: *mut u8, len: usize) -> Number;
-    pub fn walnut_encode_digest(digest: *const u8, n: usize, out: *mut u8, len: usize) -> Number;
-    pub fn walnut_free_reduce(word: *const u8, n: usize, out: *mut u8, len: usize) -> Number;
+    pub fn walnut_read_word(file: *const u8, len: usize) -> Word;
+    pub fn walnut_write_word(codes: *const u8, n: usize, out: *mut u8, len: usize) -> Written;
+    pub fn walnut_encode_digest(digest: *const u8, n: usize, out: *mut u8, len: usize) -> Written;
+    pub fn walnut_free_reduce(word: *const u8, n: usize, out: *mut u8, len: usize) -> Written;
     pub fn walnut_rewrite(
         word: *const u8,
         n: usize,
@@ -64,7 +88,7 @@ extern "C" {
         m: usize,
         out: *mut u8,
         len: usize,
-    ) -> Number;
+    ) -> Written;
     pub fn walnut_verify(
         key: *const u8,
         kn: usize,

@@ -9,13 +9,16 @@
 
 mod exported;
 mod letters;
+mod limits;
 mod moves;
 mod refusal;
 
 use exported::*;
 use refusal::granted;
 
+pub use exported::Pair;
 pub use letters::{codes, letters, Letter, Letters, NoLetter};
+pub use limits::*;
 pub use moves::{Move, Moves};
 pub use refusal::Refusal;
 
@@ -60,36 +63,11 @@ impl Field {
     }
 }
 
-/// The bytes of a key file over the field with 32 elements.
-pub const KEY_BYTES: usize = 83;
-/// The bytes of a key file over the field with 256 elements.
-pub const LARGE_KEY_BYTES: usize = 128;
-/// The bytes of the digest that goes with a key of [`KEY_BYTES`].
-pub const DIGEST_BYTES: usize = 32;
-/// The bytes of the digest that goes with a key of [`LARGE_KEY_BYTES`].
-pub const LARGE_DIGEST_BYTES: usize = 64;
-/// The bytes of the longest word file, and so the least that an output for words must have.
-pub const WORD_BYTES: usize = 5002;
-/// The bytes of the longest move list.
-pub const MOVES_BYTES: usize = 12290;
-/// The most letters of a word.
-pub const LETTERS: usize = 10000;
-/// The most moves of a list.
-pub const MOVES: usize = 4096;
-
 /// Where the entry in a row and a column of a matrix stands, both counted from 1 to 8: every matrix lies column by
 /// column, the first one first.
 pub fn place(row: usize, column: usize) -> usize {
     assert!((1..=8).contains(&row) && (1..=8).contains(&column), "rows and columns count from 1 to 8");
     8 * (column - 1) + (row - 1)
-}
-
-/// A matrix, column by column (see [`place`]), and a list of labels.
-#[repr(C)]
-#[derive(Clone, Copy, Debug, PartialEq, Eq)]
-pub struct Pair {
-    pub matrix: [u8; 64],
-    pub labels: [u8; 8],
 }
 
 /// A key: its field, its T-values, the pair Pub(S) and the matrix of Pub(S'), column by column too.
@@ -128,7 +106,7 @@ impl Pair {
     /// Multiplies a letter, given by its code, into the pair, over a field.
     pub fn multiply(&mut self, field: Field, t_values: &[u8; 8], letter: u8) -> Result<(), Refusal> {
         // SAFETY: see above.
-        let answer = unsafe { walnut_multiply(self, field.large(), t_values.as_ptr(), letter) };
+        let answer = unsafe { walnut_multiply(self, field.large(), t_values, letter) };
         granted(answer, ())
     }
 }
@@ -146,7 +124,7 @@ pub fn read_key(file: &[u8]) -> Result<Key, Refusal> {
 pub fn file_entries(matrix: &[u8; 64]) -> [u8; 57] {
     let mut entries = [0; 57];
     // SAFETY: see above.
-    unsafe { walnut_file_entries(matrix.as_ptr(), entries.as_mut_ptr()) };
+    unsafe { walnut_file_entries(matrix, &mut entries) };
     entries
 }
 
@@ -160,8 +138,7 @@ pub fn write_key<'a>(
     second: &[u8; 57],
     out: &'a mut [u8],
 ) -> Result<&'a mut [u8], Refusal> {
-    let (large, t_values, labels) = (field.large(), t_values.as_ptr(), labels.as_ptr());
-    let (first, second) = (first.as_ptr(), second.as_ptr());
+    let large = field.large();
     // SAFETY: see above.
     let answer =
         unsafe { walnut_write_key(large, t_values, labels, first, second, out.as_mut_ptr(), out.len()) };
@@ -172,34 +149,34 @@ pub fn write_key<'a>(
 pub fn read_word(file: &[u8]) -> Result<usize, Refusal> {
     // SAFETY: see above.
     let word = unsafe { walnut_read_word(file.as_ptr(), file.len()) };
-    granted(word.answer, word.number)
+    granted(word.answer, word.letters)
 }
 
 /// The part of the output that a writer of words wrote.
-fn written(written: Number, out: &mut [u8]) -> Result<&mut [u8], Refusal> {
-    granted(written.answer, written.number).map(|bytes| &mut out[..bytes])
+fn written(written: Written, out: &mut [u8]) -> Result<&mut [u8], Refusal> {
+    granted(written.answer, written.bytes).map(|bytes| &mut out[..bytes])
 }
 
 /// Writes the word file of codes, one to a byte; gives the part of the output that holds it. [`codes`] makes codes of
 /// text.
 pub fn write_word<'a>(codes: &[u8], out: &'a mut [u8]) -> Result<&'a mut [u8], Refusal> {
     // SAFETY: see above.
-    let number = unsafe { walnut_write_word(codes.as_ptr(), codes.len(), out.as_mut_ptr(), out.len()) };
-    written(number, out)
+    let file = unsafe { walnut_write_word(codes.as_ptr(), codes.len(), out.as_mut_ptr(), out.len()) };
+    written(file, out)
 }
 
 /// Writes the braid of a digest, of 32 bytes or 64, as a word file; gives the part of the output that holds it.
 pub fn encode_digest<'a>(digest: &[u8], out: &'a mut [u8]) -> Result<&'a mut [u8], Refusal> {
     // SAFETY: see above.
-    let number = unsafe { walnut_encode_digest(digest.as_ptr(), digest.len(), out.as_mut_ptr(), out.len()) };
-    written(number, out)
+    let file = unsafe { walnut_encode_digest(digest.as_ptr(), digest.len(), out.as_mut_ptr(), out.len()) };
+    written(file, out)
 }
 
 /// Writes the freely reduced word of a word file; gives the part of the output that holds it.
 pub fn free_reduce<'a>(word: &[u8], out: &'a mut [u8]) -> Result<&'a mut [u8], Refusal> {
     // SAFETY: see above.
-    let number = unsafe { walnut_free_reduce(word.as_ptr(), word.len(), out.as_mut_ptr(), out.len()) };
-    written(number, out)
+    let file = unsafe { walnut_free_reduce(word.as_ptr(), word.len(), out.as_mut_ptr(), out.len()) };
+    written(file, out)
 }
 
 /// Makes the moves of a list on a word file; gives the part of the output that holds the new word. [`Moves`] makes the
@@ -207,8 +184,8 @@ pub fn free_reduce<'a>(word: &[u8], out: &'a mut [u8]) -> Result<&'a mut [u8], R
 pub fn rewrite<'a>(word: &[u8], moves: &[u8], out: &'a mut [u8]) -> Result<&'a mut [u8], Refusal> {
     let (list, len) = (moves.as_ptr(), moves.len());
     // SAFETY: see above.
-    let number = unsafe { walnut_rewrite(word.as_ptr(), word.len(), list, len, out.as_mut_ptr(), out.len()) };
-    written(number, out)
+    let file = unsafe { walnut_rewrite(word.as_ptr(), word.len(), list, len, out.as_mut_ptr(), out.len()) };
+    written(file, out)
 }
 
 /// The verdict, over the key's field: is the word a signature of the digest under the key?

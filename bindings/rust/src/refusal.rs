@@ -7,33 +7,33 @@ use std::fmt;
 fn text(number: u8) -> &'static str {
     match number {
         // answers.txt: begin; tools/answers writes these lines
-        1 => "the key file is neither 83 nor 128 bytes",
+        1 => "the key file has neither 83 nor 128 bytes",
         2 => "the key is not for eight strands",
-        3 => "the key's field does not go with its length: 32 elements with 83 bytes, 256 with 128",
-        4 => "a T-value, or the number whose reciprocal is asked for, is zero",
+        3 => "the key names the wrong field: 83 bytes need q = 32, 128 bytes need q = 256",
+        4 => "a T-value is zero, or the reciprocal of zero was asked for",
         5 => "the first two T-values are not both 1",
         6 => "the list of labels is not 0 to 7, each once",
-        7 => "filler bits of the key are not zero",
-        8 => "the digest is not 32 or 64 bytes, or not the one of the two that goes with the key",
+        7 => "the key's filler bits are not all zero",
+        8 => "the digest has the wrong length: an 83-byte key needs 32 bytes, a 128-byte key 64",
         9 => "the word has fewer than 2 bytes",
         10 => "the word's number of letters is over 10,000",
-        11 => "the word's length is not what its number of letters needs",
-        12 => "a code is no letter",
-        13 => "an odd word's last half byte is not 0",
-        14 => "the matrices differ: the word is no signature of this digest under this key",
-        15 => "the output has fewer than 5,002 bytes",
-        16 => "the key's output has fewer than 83 bytes, or than 128 over the field with 256 elements",
-        17 => "a T-value, matrix entry or operand is no element: not below 32, or 256 in the larger field",
+        11 => "the word's length does not match its number of letters",
+        12 => "a code is not a letter",
+        13 => "the last half byte of an odd word is not 0",
+        14 => "the matrices differ: the word is not a signature of this digest under this key",
+        15 => "the output is too small: a word needs 5,002 bytes",
+        16 => "the output is too small: a key needs 83 bytes, or 128 in the larger field",
+        17 => "a T-value, matrix entry or operand is outside the field (0 to 31, or 0 to 255)",
         18 => "the move list has fewer than 2 bytes",
         19 => "the move list states more than 4,096 moves",
         20 => "the move list's length is not 2 + 3 times its number of moves",
-        21 => "a move's kind is none of 1, 2, 3, 16 to 22, 24 to 30",
-        22 => "a move's letters do not exist from its place on, or an insertion's place is past the end",
-        23 => "the letters at a move's place have not the kind's shape",
+        21 => "a move's kind is unknown: kinds are 1, 2, 3, 16 to 22 and 24 to 30",
+        22 => "a move reaches past the end of the word",
+        23 => "the letters at the move's place do not match this kind of move",
         24 => "an insertion would leave more than 10,000 letters",
-        25 => "the list handed in is not 8 bytes, 0 to 7 each once",
+        25 => "the list to cloak for is not 8 bytes, 0 to 7 each once",
         26 => "a matrix of the key has no inverse",
-        27 => "a label is over 7, or the two labels are equal",
+        27 => "a label is over 7, or both labels are equal",
         // answers.txt: end
         _ => "an answer that this binding does not know",
     }
@@ -46,39 +46,39 @@ pub struct Refusal(u8);
 
 impl Refusal {
     // answers.txt: begin; tools/answers writes these lines
-    /// The key file is neither 83 nor 128 bytes.
+    /// The key file has neither 83 nor 128 bytes.
     pub const KEY_LENGTH: Refusal = Refusal(1);
     /// The key is not for eight strands.
     pub const STRANDS: Refusal = Refusal(2);
-    /// The key's field does not go with its length: 32 elements with 83 bytes, 256 with 128.
+    /// The key names the wrong field: 83 bytes need q = 32, 128 bytes need q = 256.
     pub const KEY_FIELD: Refusal = Refusal(3);
-    /// A T-value, or the number whose reciprocal is asked for, is zero.
+    /// A T-value is zero, or the reciprocal of zero was asked for.
     pub const ZERO: Refusal = Refusal(4);
     /// The first two T-values are not both 1.
     pub const FIRST_T_VALUES: Refusal = Refusal(5);
     /// The list of labels is not 0 to 7, each once.
     pub const LABELS: Refusal = Refusal(6);
-    /// Filler bits of the key are not zero.
+    /// The key's filler bits are not all zero.
     pub const KEY_FILLER: Refusal = Refusal(7);
-    /// The digest is not 32 or 64 bytes, or not the one of the two that goes with the key.
+    /// The digest has the wrong length: an 83-byte key needs 32 bytes, a 128-byte key 64.
     pub const DIGEST_LENGTH: Refusal = Refusal(8);
     /// The word has fewer than 2 bytes.
     pub const WORD_SHORT: Refusal = Refusal(9);
     /// The word's number of letters is over 10,000.
     pub const TOO_MANY_LETTERS: Refusal = Refusal(10);
-    /// The word's length is not what its number of letters needs.
+    /// The word's length does not match its number of letters.
     pub const WORD_LENGTH: Refusal = Refusal(11);
-    /// A code is no letter.
+    /// A code is not a letter.
     pub const NO_LETTER: Refusal = Refusal(12);
-    /// An odd word's last half byte is not 0.
+    /// The last half byte of an odd word is not 0.
     pub const WORD_FILLER: Refusal = Refusal(13);
-    /// The matrices differ: the word is no signature of this digest under this key.
+    /// The matrices differ: the word is not a signature of this digest under this key.
     pub const MATRICES_DIFFER: Refusal = Refusal(14);
-    /// The output has fewer than 5,002 bytes.
+    /// The output is too small: a word needs 5,002 bytes.
     pub const OUTPUT_SHORT: Refusal = Refusal(15);
-    /// The key's output has fewer than 83 bytes, or than 128 over the field with 256 elements.
+    /// The output is too small: a key needs 83 bytes, or 128 in the larger field.
     pub const KEY_OUTPUT_SHORT: Refusal = Refusal(16);
-    /// A T-value, matrix entry or operand is no element: not below 32, or 256 in the larger field.
+    /// A T-value, matrix entry or operand is outside the field (0 to 31, or 0 to 255).
     pub const NO_ELEMENT: Refusal = Refusal(17);
     /// The move list has fewer than 2 bytes.
     pub const MOVES_SHORT: Refusal = Refusal(18);
@@ -86,19 +86,19 @@ impl Refusal {
     pub const TOO_MANY_MOVES: Refusal = Refusal(19);
     /// The move list's length is not 2 + 3 times its number of moves.
     pub const MOVES_LENGTH: Refusal = Refusal(20);
-    /// A move's kind is none of 1, 2, 3, 16 to 22, 24 to 30.
+    /// A move's kind is unknown: kinds are 1, 2, 3, 16 to 22 and 24 to 30.
     pub const NO_KIND: Refusal = Refusal(21);
-    /// A move's letters do not exist from its place on, or an insertion's place is past the end.
+    /// A move reaches past the end of the word.
     pub const PAST_THE_END: Refusal = Refusal(22);
-    /// The letters at a move's place have not the kind's shape.
+    /// The letters at the move's place do not match this kind of move.
     pub const NOT_THE_SHAPE: Refusal = Refusal(23);
     /// An insertion would leave more than 10,000 letters.
     pub const WORD_FULL: Refusal = Refusal(24);
-    /// The list handed in is not 8 bytes, 0 to 7 each once.
+    /// The list to cloak for is not 8 bytes, 0 to 7 each once.
     pub const LIST: Refusal = Refusal(25);
     /// A matrix of the key has no inverse.
     pub const NO_INVERSE: Refusal = Refusal(26);
-    /// A label is over 7, or the two labels are equal.
+    /// A label is over 7, or both labels are equal.
     pub const TWO_LABELS: Refusal = Refusal(27);
     // answers.txt: end
 

@@ -1,11 +1,13 @@
--- Laws of digits: how many there are, the number that a row of digits writes and the digits of a number, each of the
--- other; rows that are joined; half bytes one by one. "All below b" is said of every place, also past the end, where 0
--- stands.
+-- Laws of digits: how many there are; the number that digits write, and the digits of a number, each the inverse of the
+-- other; rows that are joined; half bytes one by one. "All below b" covers every place, also past the end, where `getD`
+-- gives 0.
 use Prim.Native.Nat.{ℕ, zero, suc, _+_, _-_, _*_, _/_, _%_, _^_, _≤_, _<_}
 use mathlib.Core.Path.{_≡_, refl, sym, ap, ap₂, _∙_}
 use mathlib.Core.Bool.{Bool, true, _&&_}
 use mathlib.Core.List.{List, [], _∷_, _++_}
-use native.Mathlib.Nat.{add-assoc, add-comm, add-zero, zero-add, suc-add, mul-comm, mul-assoc, add-mul, mul-one, one-mul, zero-mul, pow-zero, pow-suc, pow-succ', one-le-pow, zero-lt-suc, mod-lt, mod-eq-of-lt, mod-one, div-add-mod', div-div-eq-div-mul, add-mul-div-right, add-mul-mod-self-right}
+use native.Mathlib.Nat.{add-assoc, add-comm, add-zero, zero-add, suc-add, mul-comm, mul-assoc, add-mul, mul-one}
+use native.Mathlib.Nat.{one-mul, zero-mul, pow-zero, pow-suc, pow-succ', one-le-pow, zero-lt-suc, mod-lt, mod-eq-of-lt}
+use native.Mathlib.Nat.{mod-one, div-add-mod', div-div-eq-div-mul, add-mul-div-right, add-mul-mod-self-right}
 use native.Mathlib.Numerals.{add-one}
 use native.Mathlib.Omega.{arith}
 use borrow.Author.Tests.{ltb-true, lt-ltb}
@@ -26,7 +28,7 @@ all-below b xs p e k = ltb-true (getD xs k 0) b (every-all (λ x. ltb x b) (lt-l
 pub below-all : (b : ℕ) (xs : List ℕ) → ((k : ℕ) → k < length xs → getD xs k 0 < b) → every (λ x. ltb x b) xs ≡ true
 below-all b xs h = every-from (λ x. ltb x b) xs (λ k l. lt-ltb (getD xs k 0) b (h k l))
 
--- parts of such a row, and two such rows joined
+-- all below b: for a part of a row, and for two rows joined
 pub take-below : {b : ℕ} (n : ℕ) (xs : List ℕ) → ((k : ℕ) → getD xs k 0 < b) → (k : ℕ) → getD (take n xs) k 0 < b
 take-below zero xs h k = omega (arith, h k)
 take-below (suc n) [] h k = h k
@@ -36,7 +38,8 @@ take-below (suc n) (x ∷ xs) h (suc k) = take-below n xs (λ j. h (suc j)) k
 pub drop-below : {b : ℕ} (n : ℕ) (xs : List ℕ) → ((k : ℕ) → getD xs k 0 < b) → (k : ℕ) → getD (drop n xs) k 0 < b
 drop-below n xs h k = rw (getD-drop n xs k 0) (h (n + k))
 
-pub append-below : {b : ℕ} (xs ys : List ℕ) → ((k : ℕ) → getD xs k 0 < b) → ((k : ℕ) → getD ys k 0 < b) → (k : ℕ) → getD (xs ++ ys) k 0 < b
+pub append-below : {b : ℕ} (xs ys : List ℕ) → ((k : ℕ) → getD xs k 0 < b) → ((k : ℕ) → getD ys k 0 < b) → (k : ℕ)
+    → getD (xs ++ ys) k 0 < b
 append-below [] ys h g k = g k
 append-below (x ∷ xs) ys h g zero = h zero
 append-below (x ∷ xs) ys h g (suc k) = append-below xs ys (λ j. h (suc j)) g k
@@ -61,7 +64,7 @@ value-append b (x ∷ xs) ys =
     rw (length-append xs ys, pow-add b (length xs) (length ys), value-append b xs ys)
     (value-step x (b ^ length xs) (b ^ length ys) (value b xs) (value b ys))
 
--- one digit more
+-- one more digit
 pub value-snoc : (b : ℕ) (xs : List ℕ) (x : ℕ) → value b (xs ++ (x ∷ [])) ≡ value b xs * b + x
 unfolding value
 value-snoc b xs x =
@@ -70,7 +73,7 @@ value-snoc b xs x =
     value-append b xs (x ∷ []) ∙ rw (one, none, add-zero x)
 
 -- the number that two digits write
-pub value-two : (b x y : ℕ) → value b (x ∷ y ∷ []) ≡ x * b + y
+value-two : (b x y : ℕ) → value b (x ∷ y ∷ []) ≡ x * b + y
 unfolding value
 value-two b x y = value-snoc b (x ∷ []) y ∙ ap (λ (v : ℕ). v * b + y) (value-snoc b [] x ∙ rw (zero-mul b, zero-add x))
 
@@ -79,7 +82,7 @@ value-first-two b [] h = absurd (omega arith)
 value-first-two b (x ∷ []) h = absurd (omega arith)
 value-first-two b (x ∷ y ∷ xs) h = value-two b x y
 
--- digits below b write a number below b to the power of their number
+-- n digits below b write a number below b to the power n
 pub value-below : (b : ℕ) (xs : List ℕ) → ((k : ℕ) → getD xs k 0 < b) → value b xs < b ^ length xs
 unfolding value
 value-below b [] h = rw (pow-zero b) (zero-lt-suc 0)
@@ -94,11 +97,12 @@ digits-append b zero n v = ap (λ (k : ℕ). digits b k v) (zero-add n)
 digits-append b (suc m) n v =
     ap (λ (k : ℕ). digits b k v) (suc-add m n)
     ∙ ap₂ (λ (x : ℕ) (xs : List ℕ). x ∷ xs)
-    (ap (λ (p : ℕ). v / p % b) (pow-add b m n ∙ mul-comm (b ^ m) (b ^ n)) ∙ ap (λ (d : ℕ). d % b) (sym (div-div-eq-div-mul v (b ^ n) (b ^ m))))
+    (ap (λ (p : ℕ). v / p % b) (pow-add b m n ∙ mul-comm (b ^ m) (b ^ n))
+    ∙ ap (λ (d : ℕ). d % b) (sym (div-div-eq-div-mul v (b ^ n) (b ^ m))))
     (digits-append b m n v)
 
--- the last n digits see nothing of what is a multiple of b to the power n
-pub digits-add-multiple : (b n v w : ℕ) → 0 < b → digits b n (v + w * b ^ n) ≡ digits b n v
+-- adding a multiple of b to the power n does not change the last n digits
+digits-add-multiple : (b n v w : ℕ) → 0 < b → digits b n (v + w * b ^ n) ≡ digits b n v
 unfolding digits
 digits-add-multiple b zero v w p = refl
 digits-add-multiple b (suc n) v w p =
@@ -120,9 +124,9 @@ digits-below b zero v p k = p
 digits-below b (suc n) v p zero = mod-lt (v / b ^ n) p
 digits-below b (suc n) v p (suc k) = digits-below b n v p k
 
--- ---- one of the other
+-- ---- each is the inverse of the other
 
-pub value-digits : (b n v : ℕ) → 0 < b → value b (digits b n v) ≡ v % b ^ n
+value-digits : (b n v : ℕ) → 0 < b → value b (digits b n v) ≡ v % b ^ n
 unfolding value digits
 value-digits b zero v p = rw (pow-zero b) (sym (mod-one v))
 value-digits b (suc n) v p =
@@ -154,7 +158,7 @@ unfolding halves
 halves-append [] ys = refl
 halves-append (x ∷ xs) ys = ap (λ (l : List ℕ). x / 16 ∷ x % 16 ∷ l) (halves-append xs ys)
 
--- the half bytes of n bytes more
+-- the half bytes of n more bytes
 pub halves-more : (k n : ℕ) (xs : List ℕ) → halves (take (k + n) xs) ≡ halves (take k xs) ++ halves (take n (drop k xs))
 halves-more k n xs = ap halves (take-add k n xs) ∙ halves-append (take k xs) (take n (drop k xs))
 
@@ -167,9 +171,10 @@ take-halves zero xs = refl
 take-halves (suc n) [] = take-nil (2 * suc n)
 take-halves (suc n) (x ∷ xs) = rw (two-more n) (ap (λ (l : List ℕ). x / 16 ∷ x % 16 ∷ l) (take-halves n xs))
 
--- a test on the half bytes of one byte more
+-- a test of the half bytes of one more byte
 pub every-halves : (f : ℕ → Bool) (xs : List ℕ) (k : ℕ) → k < length xs
-    → every f (take (2 * (k + 1)) (halves xs)) ≡ every f (take (2 * k) (halves xs)) && (f (getD xs k 0 / 16) && f (getD xs k 0 % 16))
+    → every f (take (2 * (k + 1)) (halves xs))
+    ≡ every f (take (2 * k) (halves xs)) && (f (getD xs k 0 / 16) && f (getD xs k 0 % 16))
 unfolding every halves
 every-halves f xs k h =
     let x : ℕ = getD xs k 0 in
@@ -212,13 +217,14 @@ sixteen-twice zero = refl
 sixteen-twice (suc n) =
     rw (two-more n, pow-suc 16 (suc (2 * n)), pow-suc 16 (2 * n), pow-suc 256 n, sixteen-twice n) (omega arith)
 
-pub value-halves : (xs : List ℕ) → value 16 (halves xs) ≡ value 256 xs
+value-halves : (xs : List ℕ) → value 16 (halves xs) ≡ value 256 xs
 unfolding value halves
 value-halves [] = refl
 value-halves (x ∷ xs) =
     value-append 16 (x / 16 ∷ x % 16 ∷ []) (halves xs)
     ∙ ap₂ (λ (v p : ℕ). v * p + value 16 (halves xs))
-    (value-two 16 (x / 16) (x % 16) ∙ div-add-mod' x 16) (ap (λ (n : ℕ). 16 ^ n) (length-halves xs) ∙ sixteen-twice (length xs))
+    (value-two 16 (x / 16) (x % 16) ∙ div-add-mod' x 16)
+    (ap (λ (n : ℕ). 16 ^ n) (length-halves xs) ∙ sixteen-twice (length xs))
     ∙ ap (λ (v : ℕ). x * 256 ^ length xs + v) (value-halves xs)
 
 -- the half bytes of bytes are the digits to base 16 of the number that the bytes write

@@ -1,5 +1,5 @@
--- Laws of lists of numbers: a test on every element and its elements one by one, lists of values, two lists compared,
--- how many elements pass a test, and what a writer leaves of its output.
+-- Laws of lists of numbers: a test of every element, lists of values, two lists compared, how many elements pass a
+-- test, and the output after a writer.
 use Prim.Native.Nat.{ℕ, zero, suc, _+_, _≤_, _<_, zero-le, suc-le-suc}
 use mathlib.Core.Path.{_≡_, refl, sym, ap, ap₂, _∙_}
 use mathlib.Core.Bool.{Bool, true, false, cond, _&&_, Bool·beq, true≢false, false≢true}
@@ -11,7 +11,9 @@ use native.Mathlib.Decide.{ℕ-discrete}
 use borrow.Author.Tests.{eqb-true, eq-eqb}
 use lib.Dec.{eqb}
 use lib.ListN.{length, take, drop, getD, set, length-append, length-take, length-drop, take-append-drop}
-use lib.Seq.{take-suc, drop-cons, length-take-le, drop-nil, drop-drop, drop-length, take-length, take-all, take-at, drop-at, set-at, append-snoc, take-append-seam, drop-append-seam, drop-append-le, ext-getD, getD-set-same, getD-set-other}
+use lib.Seq.{take-suc, drop-cons, length-take-le, drop-nil, drop-drop, drop-length, take-length, take-all, take-at}
+use lib.Seq.{drop-at, set-at, append-snoc, take-append-seam, drop-append-seam, drop-append-le, ext-getD, getD-set-same}
+use lib.Seq.{getD-set-other}
 use Rattle.base.specs.Lists.{every, valuesFrom, values, equal, overlaid, tally}
 
 -- ---- two tests at once
@@ -35,7 +37,7 @@ pub and-false : (a : Bool) → a && false ≡ false
 and-false true = refl
 and-false false = refl
 
-pub and-assoc : (a b c : Bool) → a && b && c ≡ a && (b && c)
+and-assoc : (a b c : Bool) → a && b && c ≡ a && (b && c)
 and-assoc true b c = refl
 and-assoc false b c = refl
 
@@ -44,44 +46,45 @@ pub not-true-false : (b : Bool) → (b ≡ true → ⊥) → b ≡ false
 not-true-false true h = absurd (h refl)
 not-true-false false h = refl
 
--- two tests found the same by computation
+-- two tests that compute to the same answer are equal
 pub beq-true : (a b : Bool) → Bool·beq a b ≡ true → a ≡ b
 beq-true true true e = refl
 beq-true true false e = absurd (false≢true e)
 beq-true false true e = absurd (false≢true e)
 beq-true false false e = refl
 
--- a test holds or it does not
+-- a test is not both true and false
 pub true-false : (b : Bool) → b ≡ true → b ≡ false → ⊥
 true-false b p q = true≢false (sym p ∙ q)
 
--- ---- a test on every element
+-- ---- a test of every element
 
 module _ (f : ℕ → Bool) where
-  -- each element passes
+  -- if `every` holds, each element passes
   pub every-getD : (xs : List ℕ) → every f xs ≡ true → (k : ℕ) → k < length xs → f (getD xs k 0) ≡ true
   unfolding every
   every-getD [] e k h = absurd (not-suc-le-zero h)
   every-getD (x ∷ xs) e zero h = and-left (f x) (every f xs) e
   every-getD (x ∷ xs) e (suc k) h = every-getD xs (and-right (f x) (every f xs) e) k (le-of-suc-le-suc h)
 
-  -- where each element passes, the test passes at every one
+  -- if each element passes, `every` holds
   pub every-from : (xs : List ℕ) → ((k : ℕ) → k < length xs → f (getD xs k 0) ≡ true) → every f xs ≡ true
   unfolding every
   every-from [] h = refl
   every-from (x ∷ xs) h = and-both (h zero (zero-lt-suc (length xs))) (every-from xs (λ k l. h (suc k) (suc-le-suc l)))
 
-  -- one element that fails
+  -- if one element fails, `every` fails
   pub every-refuted : (xs : List ℕ) (k : ℕ) → k < length xs → f (getD xs k 0) ≡ false → every f xs ≡ false
   every-refuted xs k h e = not-true-false (every f xs) (λ t. true-false (f (getD xs k 0)) (every-getD xs t k h) e)
 
   pub every-append : (xs ys : List ℕ) → every f (xs ++ ys) ≡ every f xs && every f ys
   unfolding every
   every-append [] ys = refl
-  every-append (x ∷ xs) ys = ap (λ (b : Bool). f x && b) (every-append xs ys) ∙ sym (and-assoc (f x) (every f xs) (every f ys))
+  every-append (x ∷ xs) ys =
+      ap (λ (b : Bool). f x && b) (every-append xs ys) ∙ sym (and-assoc (f x) (every f xs) (every f ys))
 
-  -- the first elements and the others
-  pub every-split : (k : ℕ) (xs : List ℕ) → every f xs ≡ every f (take k xs) && every f (drop k xs)
+  -- the first k elements and the rest
+  every-split : (k : ℕ) (xs : List ℕ) → every f xs ≡ every f (take k xs) && every f (drop k xs)
   every-split k xs = ap (every f) (sym (take-append-drop k xs)) ∙ every-append (take k xs) (drop k xs)
 
   pub every-take : (k : ℕ) (xs : List ℕ) → every f xs ≡ true → every f (take k xs) ≡ true
@@ -90,15 +93,16 @@ module _ (f : ℕ → Bool) where
   pub every-drop : (k : ℕ) (xs : List ℕ) → every f xs ≡ true → every f (drop k xs) ≡ true
   every-drop k xs e = and-right (every f (take k xs)) (every f (drop k xs)) (sym (every-split k xs) ∙ e)
 
-  -- one turn of a loop: of the first k + 1 elements, and of those from k on
-  pub every-more : (xs : List ℕ) (k : ℕ) → k < length xs → every f (take (k + 1) xs) ≡ every f (take k xs) && f (getD xs k 0)
+  -- one turn of a loop: the first k + 1 elements, and the elements from k on
+  pub every-more : (xs : List ℕ) (k : ℕ) → k < length xs
+      → every f (take (k + 1) xs) ≡ every f (take k xs) && f (getD xs k 0)
   unfolding every
   every-more xs k h =
       rw (add-one k, take-suc xs k 0 h)
       (every-append (take k xs) (getD xs k 0 ∷ [])
       ∙ ap (λ (b : Bool). every f (take k xs) && b) (and-true (f (getD xs k 0))))
 
-  -- a rest of at most one element, and a test that 0 passes
+  -- a rest of at most one element, for a test that 0 passes
   pub every-last : f 0 ≡ true → (xs : List ℕ) (n : ℕ) → length xs ≤ n + 1 → every f (drop n xs) ≡ f (getD xs n 0)
   unfolding every
   every-last z [] n h = ap (every f) (drop-nil n) ∙ sym z
@@ -106,15 +110,16 @@ module _ (f : ℕ → Bool) where
   every-last z (x ∷ y ∷ xs) zero h = absurd (omega arith)
   every-last z (x ∷ xs) (suc n) h = every-last z xs n (omega arith)
 
-  -- a test that 0 passes: every element passes, past the end too
+  -- for a test that 0 passes, every place passes, also past the end
   pub every-all : f 0 ≡ true → (xs : List ℕ) → every f xs ≡ true → (k : ℕ) → f (getD xs k 0) ≡ true
   unfolding every
   every-all z [] e k = z
   every-all z (x ∷ xs) e zero = and-left (f x) (every f xs) e
   every-all z (x ∷ xs) e (suc k) = every-all z xs (and-right (f x) (every f xs) e) k
 
-  -- of such a test, one element more, past the end too
-  pub every-more-all : f 0 ≡ true → (xs : List ℕ) (k : ℕ) → every f (take (k + 1) xs) ≡ every f (take k xs) && f (getD xs k 0)
+  -- for a test that 0 passes, one more place, also past the end
+  pub every-more-all : f 0 ≡ true → (xs : List ℕ) (k : ℕ)
+      → every f (take (k + 1) xs) ≡ every f (take k xs) && f (getD xs k 0)
   unfolding every
   every-more-all z xs k = rw (add-one k) (go xs k)
     where
@@ -122,7 +127,8 @@ module _ (f : ℕ → Bool) where
       go [] zero = sym z
       go [] (suc k) = sym z
       go (x ∷ xs) zero = and-true (f x)
-      go (x ∷ xs) (suc k) = ap (λ (b : Bool). f x && b) (go xs k) ∙ sym (and-assoc (f x) (every f (take k xs)) (f (getD xs k 0)))
+      go (x ∷ xs) (suc k) =
+          ap (λ (b : Bool). f x && b) (go xs k) ∙ sym (and-assoc (f x) (every f (take k xs)) (f (getD xs k 0)))
 
 -- ---- values in a row
 
@@ -131,7 +137,7 @@ unfolding valuesFrom
 length-values f i zero = refl
 length-values f i (suc n) = ap suc (length-values f (suc i) n)
 
-pub getD-valuesFrom : (f : ℕ → ℕ) (i n k : ℕ) → k < n → getD (valuesFrom f i n) k 0 ≡ f (i + k)
+getD-valuesFrom : (f : ℕ → ℕ) (i n k : ℕ) → k < n → getD (valuesFrom f i n) k 0 ≡ f (i + k)
 unfolding valuesFrom
 getD-valuesFrom f i zero k h = absurd (not-suc-le-zero h)
 getD-valuesFrom f i (suc n) zero h = ap f (sym (add-zero i))
@@ -141,7 +147,7 @@ getD-valuesFrom f i (suc n) (suc k) h =
 pub getD-values : (f : ℕ → ℕ) (n k : ℕ) → k < n → getD (values f n) k 0 ≡ f k
 getD-values f n k h = getD-valuesFrom f 0 n k h ∙ ap f (zero-add k)
 
--- a list that has the values
+-- a list that has the values of f is the list of values
 pub values-of : (f : ℕ → ℕ) (n : ℕ) (l : List ℕ) → length l ≡ n → ((k : ℕ) → k < n → getD l k 0 ≡ f k) → l ≡ values f n
 values-of f n l e h =
     ext-getD 0 l (values f n) (e ∙ sym (length-values f 0 n))
@@ -150,7 +156,7 @@ values-of f n l e h =
 pub values-getD : (l : List ℕ) (n : ℕ) → length l ≡ n → values (λ k. getD l k 0) n ≡ l
 values-getD l n e = sym (values-of (λ k. getD l k 0) n l e (λ k b. refl))
 
--- a loop that fills a list: it has the values before place i, and then at i
+-- a loop that fills a list: it has the values at the places before i, and then also at i
 pub one-more : (f : ℕ → ℕ) (l : List ℕ) (i v : ℕ) → i < length l → ((k : ℕ) → k < i → getD l k 0 ≡ f k) → v ≡ f i
     → (k : ℕ) → k < i + 1 → getD (set l i v) k 0 ≡ f k
 one-more f l i v h before e k b = at (ℕ-discrete k i)
@@ -159,7 +165,7 @@ one-more f l i v h before e k b = at (ℕ-discrete k i)
     at (yes d) = rw d (getD-set-same l i v 0 h ∙ e)
     at (no n) = getD-set-other l i k v 0 n ∙ before k (omega arith)
 
--- a test on the values, one by one
+-- a test of the values, one by one
 pub every-values : (t : ℕ → Bool) (f : ℕ → ℕ) (n : ℕ) → every t (values f n) ≡ true → (k : ℕ) → k < n → t (f k) ≡ true
 every-values t f n e k h =
     let l : k < length (values f n) = rw (length-values f 0 n) h in
@@ -173,7 +179,8 @@ equal-true [] [] e = refl
 equal-true [] (y ∷ ys) e = absurd (false≢true e)
 equal-true (x ∷ xs) [] e = absurd (false≢true e)
 equal-true (x ∷ xs) (y ∷ ys) e =
-    ap₂ (λ (z : ℕ) (zs : List ℕ). z ∷ zs) (eqb-true x y (and-left (eqb x y) (equal xs ys) e)) (equal-true xs ys (and-right (eqb x y) (equal xs ys) e))
+    ap₂ (λ (z : ℕ) (zs : List ℕ). z ∷ zs) (eqb-true x y (and-left (eqb x y) (equal xs ys) e))
+    (equal-true xs ys (and-right (eqb x y) (equal xs ys) e))
 
 pub equal-refl : (xs : List ℕ) → equal xs xs ≡ true
 unfolding equal
@@ -186,7 +193,7 @@ equal-of {xs} e = ap (equal xs) (sym e) ∙ equal-refl xs
 pub equal-false : (xs ys : List ℕ) → (xs ≡ ys → ⊥) → equal xs ys ≡ false
 equal-false xs ys h = not-true-false (equal xs ys) (λ t. h (equal-true xs ys t))
 
--- lists that differ at a place
+-- lists that differ at a place are not equal
 pub equal-refuted : (xs ys : List ℕ) (k : ℕ) → (getD xs k 0 ≡ getD ys k 0 → ⊥) → equal xs ys ≡ false
 equal-refuted xs ys k h = equal-false xs ys (λ e. h (ap (λ (l : List ℕ). getD l k 0) e))
 
@@ -207,13 +214,14 @@ module _ (f : ℕ → Bool) where
   pub tally-more : (xs : List ℕ) (k : ℕ) → k < length xs
       → tally f (take (k + 1) xs) ≡ cond (f (getD xs k 0)) (tally f (take k xs) + 1) (tally f (take k xs))
   unfolding tally
-  tally-more xs k h = rw (add-one k, take-suc xs k 0 h) (tally-append (take k xs) (getD xs k 0 ∷ []) ∙ go (f (getD xs k 0)))
+  tally-more xs k h =
+      rw (add-one k, take-suc xs k 0 h) (tally-append (take k xs) (getD xs k 0 ∷ []) ∙ go (f (getD xs k 0)))
     where
       go : (b : Bool) → tally f (take k xs) + cond b 1 0 ≡ cond b (tally f (take k xs) + 1) (tally f (take k xs))
       go true = refl
       go false = omega arith
 
-  -- no more than there are
+  -- no more elements pass than there are
   pub tally-le : (xs : List ℕ) → tally f xs ≤ length xs
   unfolding tally
   tally-le [] = zero-le
@@ -223,9 +231,9 @@ module _ (f : ℕ → Bool) where
       go true e = omega arith
       go false e = omega arith
 
--- ---- what a writer leaves
+-- ---- the output after a writer
 
--- a loop that writes byte after byte: the first i bytes are written, the others are as they were
+-- one turn of a loop that writes bytes: the first i bytes are written, the others are unchanged
 pub overlay-step : (bytes out : List ℕ) (i : ℕ) → i < length bytes → i < length out
     → set (take i bytes ++ drop i out) i (getD bytes i 0) ≡ take (i + 1) bytes ++ drop (i + 1) out
 overlay-step bytes out i p q =
@@ -239,7 +247,8 @@ overlay-whole bytes out i e = rw (e, take-length bytes)
 
 pub length-overlaid : (bytes out : List ℕ) → length bytes ≤ length out → length (overlaid bytes out) ≡ length out
 unfolding overlaid
-length-overlaid bytes out h = omega (arith, length-append bytes (drop (length bytes) out), length-drop (length bytes) out)
+length-overlaid bytes out h =
+    omega (arith, length-append bytes (drop (length bytes) out), length-drop (length bytes) out)
 
 pub take-overlaid : (bytes out : List ℕ) → take (length bytes) (overlaid bytes out) ≡ bytes
 unfolding overlaid
@@ -249,7 +258,7 @@ pub drop-overlaid : (bytes out : List ℕ) → drop (length bytes) (overlaid byt
 unfolding overlaid
 drop-overlaid bytes out = drop-append-seam bytes (drop (length bytes) out)
 
--- bytes behind those that stand in front
+-- the bytes ys after the bytes xs at the front of an output
 pub overlaid-append : (xs ys out : List ℕ) → overlaid (xs ++ ys) out ≡ xs ++ overlaid ys (drop (length xs) out)
 unfolding overlaid
 overlaid-append xs ys out =
@@ -257,7 +266,7 @@ overlaid-append xs ys out =
     ∙ ap (λ (l : List ℕ). xs ++ (ys ++ l))
     (ap (λ (n : ℕ). drop n out) (length-append xs ys) ∙ sym (drop-drop (length ys) (length xs) out))
 
--- a part behind them is lent, and comes back as ys
+-- a part after the bytes xs is lent, and comes back as ys
 pub laid-more : (xs ys out now : List ℕ) (i n : ℕ) → now ≡ overlaid xs out → length xs ≡ i → length ys ≡ n
     → take i now ++ (ys ++ drop n (drop i now)) ≡ overlaid (xs ++ ys) out
 unfolding overlaid
@@ -265,8 +274,9 @@ laid-more xs ys out now i n o lx ly =
     let rest = drop (length xs) out in
     rw (o, take-at xs rest i lx, drop-at xs rest i lx, ← ly) (sym (overlaid-append xs ys out))
 
--- n places behind them are lent, and come back with bytes in front
-pub overlaid-more : (xs ys out now : List ℕ) (i n : ℕ) → i ≡ length xs → length ys ≤ n → i + length ys ≤ length out → now ≡ overlaid xs out
+-- n places after the bytes xs are lent, and come back with ys at their front
+pub overlaid-more : (xs ys out now : List ℕ) (i n : ℕ) → i ≡ length xs → length ys ≤ n → i + length ys ≤ length out
+    → now ≡ overlaid xs out
     → take i now ++ (overlaid ys (take n (drop i now)) ++ drop n (drop i now)) ≡ overlaid (xs ++ ys) out
 unfolding overlaid
 overlaid-more xs ys out now i n e h l o =
@@ -275,11 +285,14 @@ overlaid-more xs ys out now i n e h l o =
     omega (arith, length-take n rest, length-drop i now, ap length o, length-overlaid xs out (omega arith)) in
     ap (λ (w : List ℕ). take i now ++ w)
     (append-assoc ys (drop (length ys) (take n rest)) (drop n rest)
-    ∙ ap (λ (w : List ℕ). ys ++ w) (sym (drop-append-le (length ys) (take n rest) (drop n rest) few) ∙ ap (drop (length ys)) (take-append-drop n rest)))
+    ∙ ap (λ (w : List ℕ). ys ++ w)
+    (sym (drop-append-le (length ys) (take n rest) (drop n rest) few)
+    ∙ ap (drop (length ys)) (take-append-drop n rest)))
     ∙ laid-more xs ys out now i (length ys) o (sym e) refl
 
--- bytes that fill the output
-pub overlaid-all : (bytes out : List ℕ) → length bytes ≡ length out → overlaid (take (length out) bytes) out ≡ overlaid bytes out
+-- bytes that fill the whole output
+pub overlaid-all : (bytes out : List ℕ) → length bytes ≡ length out
+    → overlaid (take (length out) bytes) out ≡ overlaid bytes out
 overlaid-all bytes out e = ap (λ (l : List ℕ). overlaid l out) (take-all (length out) bytes (omega arith))
 
 pub overlaid-whole : (bytes out : List ℕ) → length bytes ≡ length out → overlaid bytes out ≡ bytes

@@ -1,5 +1,5 @@
--- Laws of numbered questions: one step for a question that is passed, one for a question that is not; what answer 0
--- tells; lists in a row.
+-- Laws of numbered questions: a question that is passed, a question that is not, what answer 0 says, and two lists of
+-- questions in a row.
 use Prim.Native.Nat.{ℕ, zero, suc}
 use mathlib.Core.Path.{_≡_, refl, sym, ap, _∙_, subst}
 use mathlib.Core.Bool.{Bool, true, false, cond, not, _&&_}
@@ -8,12 +8,12 @@ use native.Mathlib.Omega.{arith}
 use lib.Dec.{T, eqb}
 use Rattle.base.specs.Questions.{Question, _else_, firstNo, granted}
 
--- the head's test is passed: the answer is that of the rest
+-- the first question is passed: the answer is that of the rest
 pub passes : {b : Bool} (n : ℕ) (qs : List Question) → b ≡ true → firstNo ((b else n) ∷ qs) ≡ firstNo qs
 unfolding firstNo
 passes n qs e = ap (λ (b : Bool). cond b (firstNo qs) n) e
 
--- it is not: the answer is the head's number
+-- the first question is not passed: the answer is its number
 pub fails : {b : Bool} (n : ℕ) (qs : List Question) → b ≡ false → firstNo ((b else n) ∷ qs) ≡ n
 unfolding firstNo
 fails n qs e = ap (λ (b : Bool). cond b (firstNo qs) n) e
@@ -44,7 +44,7 @@ rest-numbered false b t = absurd t
 nonzero : (n : ℕ) → T (not (eqb n 0)) → n ≡ 0 → ⊥
 nonzero n t e = subst (λ (m : ℕ). T (not (eqb m 0))) e t
 
--- answer 0: every question is passed
+-- answer 0 says that every question is passed
 pub answers-passed : (qs : List Question) → T (numbered qs) → firstNo qs ≡ 0 → Passed qs
 answers-passed [] t e = tt
 answers-passed (q ∷ qs) t e =
@@ -52,10 +52,13 @@ answers-passed (q ∷ qs) t e =
   where
     go : (b : Bool) → q .passed ≡ b → (firstNo qs ≡ 0 → Passed qs) → (q .passed ≡ true) × Passed qs
     go true h rest = (h, rest (sym (passes (q .number) qs h) ∙ e))
-    go false h rest = absurd (nonzero (q .number) (head-numbered (not (eqb (q .number) 0)) (numbered qs) t) (sym (fails (q .number) qs h) ∙ e))
+    go false h rest =
+        absurd (nonzero (q .number) (head-numbered (not (eqb (q .number) 0)) (numbered qs) t)
+        (sym (fails (q .number) qs h) ∙ e))
 
--- two lists in a row: the answer of the first, or where that is 0 of the second
-pub in-a-row : (ps qs : List Question) → T (numbered ps) → firstNo (ps ++ qs) ≡ granted (firstNo ps) (firstNo qs) (firstNo ps)
+-- two lists in a row: the answer of the first list, or, if that is 0, the answer of the second
+pub in-a-row : (ps qs : List Question) → T (numbered ps)
+    → firstNo (ps ++ qs) ≡ granted (firstNo ps) (firstNo qs) (firstNo ps)
 unfolding firstNo granted
 in-a-row [] qs t = refl
 in-a-row (p ∷ ps) qs t =
@@ -78,8 +81,8 @@ unfolding granted
 granted-refused {n = zero} a b h = absurd (h refl)
 granted-refused {n = suc n} a b h = refl
 
--- what is given, either way: what holds of the first on 0 and of the second holds of it, and a function of it is what
--- the function gives on each
+-- Both cases at once: a property of both values holds of the given value, and a function of the given value is the
+-- function's value in each case.
 pub granted-either {ℓ} : {A : Type ℓ} (P : A → Type 0) (n : ℕ) (a b : A) → (n ≡ 0 → P a) → P b → P (granted n a b)
 unfolding granted
 granted-either P zero a b p q = p refl
@@ -90,7 +93,7 @@ unfolding granted
 granted-ap f zero a b = refl
 granted-ap f (suc n) a b = refl
 
--- two lists in a row: the first is passed, or has the first refusal; and answer 0 of both
+-- Two lists in a row: the first list is passed, or it has the first refusal. Answer 0 of both.
 module _ (ps qs : List Question) (t : T (numbered ps)) where
   pub all-passed : firstNo ps ≡ 0 → firstNo (ps ++ qs) ≡ firstNo qs
   all-passed e = in-a-row ps qs t ∙ granted-zero (firstNo qs) (firstNo ps) e

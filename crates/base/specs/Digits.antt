@@ -1,15 +1,15 @@
--- Digits to a base, the most significant first, and the number that they write. What a file packs are the digits of the
--- number that its bytes write.
+-- Digits to a base, the most significant first, and the number that they write. The numbers packed in a file are digits
+-- of the number that the file's bytes write.
 use Prim.Native.Nat.{ℕ, zero, suc, _+_, _*_, _/_, _%_, _^_}
 use mathlib.Core.List.{List, [], _∷_}
 use lib.ListN.{length, take, drop}
 
--- the number that the digits write to base b
+-- the number that digits write to base b
 unfoldable pub value : ℕ → List ℕ → ℕ
 value b [] = 0
 value b (x ∷ xs) = x * b ^ length xs + value b xs
 
--- the last n digits of a number to base b
+-- the last n digits of a number to base b, the most significant first
 unfoldable pub digits : ℕ → ℕ → ℕ → List ℕ
 digits b zero v = []
 digits b (suc n) v = v / b ^ n % b ∷ digits b n v

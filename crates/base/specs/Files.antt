@@ -1,31 +1,32 @@
--- Files that are parts laid one after another.
+-- Files that consist of parts, one after another.
 use Prim.Native.Nat.{ℕ, zero, suc, _+_}
 use mathlib.Core.Path.{_≡_}
 use mathlib.Core.List.{List, [], _∷_, _++_}
 use lib.ListN.{length, take, drop, getD}
 use Rattle.base.specs.Digits.{part}
 
--- parts one after another
+-- parts, one after another, as one list
 abbrev pub joined : List (List ℕ) → List ℕ
 joined [] = []
 joined (xs ∷ rest) = xs ++ joined rest
 
--- where the i-th of parts with these sizes begins, if the first begins at a place
+-- the place where part i begins, counted from 0, if the parts have these sizes and part 0 begins at `at`
 abbrev pub placeFrom : ℕ → List ℕ → ℕ → ℕ
 placeFrom at [] i = at
 placeFrom at (n ∷ sizes) zero = at
 placeFrom at (n ∷ sizes) (suc i) = placeFrom (at + n) sizes i
 
--- the i-th part of a file that has parts of these sizes
+-- part i, counted from 0, of a file whose parts have these sizes
 abbrev pub filePart : List ℕ → ℕ → List ℕ → List ℕ
 filePart sizes i file = part (placeFrom 0 sizes i) (getD sizes i 0) file
 
--- all its parts from a place on
+-- all parts of a file whose part 0 begins at `at`
 abbrev pub partsFrom : ℕ → List ℕ → List ℕ → List (List ℕ)
 partsFrom at [] file = []
 partsFrom at (n ∷ sizes) file = part at n file ∷ partsFrom (at + n) sizes file
 
--- a part is laid at a place of an output: where it ends, and the rest as it was
+-- The part xs is laid at place `at` of an output. `end` is the place after the part. All other bytes of the output are
+-- unchanged.
 pub record Laid (at : ℕ) (xs before after : List ℕ) (end : ℕ) : Type 0 where
   pub ends : end ≡ at + length xs
   pub lies : after ≡ take at before ++ (xs ++ drop (length xs) (drop at before))

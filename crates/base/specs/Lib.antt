@@ -3,3 +3,4 @@ pub mod Lists
 pub mod Digits
 pub mod Packing
 pub mod Files
+pub mod steps

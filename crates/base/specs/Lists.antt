@@ -1,17 +1,17 @@
--- Lists of numbers: a test on every element, how often a number occurs, the values of a function in a row, two lists
--- compared, and what a writer leaves of its output.
+-- Lists of numbers: a test of every element, how often a number occurs, the values of a function in a row, two lists
+-- compared, and the output after a writer.
 use Prim.Native.Nat.{ℕ, zero, suc, _+_}
 use mathlib.Core.Bool.{Bool, true, false, cond, _&&_}
 use mathlib.Core.List.{List, [], _∷_, _++_}
 use lib.Dec.{eqb, ltb}
 use lib.ListN.{length, drop}
 
--- the test passes at every element
+-- every element passes the test
 unfoldable pub every : (ℕ → Bool) → List ℕ → Bool
 every f [] = true
 every f (x ∷ xs) = f x && every f xs
 
--- how many elements pass a test
+-- how many elements pass the test
 unfoldable pub tally : (ℕ → Bool) → List ℕ → ℕ
 tally f [] = 0
 tally f (x ∷ xs) = cond (f x) (suc (tally f xs)) (tally f xs)
@@ -29,17 +29,16 @@ valuesFrom f i (suc n) = f i ∷ valuesFrom f (suc i) n
 abbrev pub values : (ℕ → ℕ) → ℕ → List ℕ
 values f n = valuesFrom f 0 n
 
--- two lists are the same
 unfoldable pub equal : List ℕ → List ℕ → Bool
 equal [] [] = true
 equal [] (y ∷ ys) = false
 equal (x ∷ xs) [] = false
 equal (x ∷ xs) (y ∷ ys) = eqb x y && equal xs ys
 
--- the bytes stand in the first places of the output; the rest is as it was
+-- an output after a writer: the bytes stand in its first places, and the rest is unchanged
 unfoldable pub overlaid : List ℕ → List ℕ → List ℕ
 overlaid bytes out = bytes ++ drop (length bytes) out
 
--- the numbers 0 to n - 1, each once
+-- is the list 0 to n - 1, each once?
 unfoldable pub eachOnce : ℕ → List ℕ → Bool
 eachOnce n xs = every (λ x. ltb x n) xs && every (λ a. eqb (count a xs) 1) (values (λ a. a) n)

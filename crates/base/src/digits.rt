@@ -11,7 +11,7 @@ fn wide(x: u8) -> u64
     x as u64
 }
 
-// The number that digits to a base write.
+// The number that the digits write to the base.
 pub fn number(src: &[u8], base: u64) -> u64
     requires { ⌜ Below base (now src) × (base ^ length (now src) ≤ 2 ^ 64) ⌝ }
     ensures { λ r. ⌜ r ≡ value base (now (src .entry)) ⌝ }
@@ -25,7 +25,7 @@ pub fn number(src: &[u8], base: u64) -> u64
     v
 }
 
-// The last digits of a number to a base, as many as there is room for.
+// Writes the last digits of a number to the base, as many as `dst` has places.
 pub fn spell(dst: &mut [u8], base: u64, number: u64)
     requires { ⌜ (0 < base) × (base ≤ 256) ⌝ }
     ensures { λ r. ⌜ now (dst .exit) ≡ digits base (length (now (dst .entry))) number ⌝ }

@@ -1,5 +1,4 @@
-// Bytes copied to the front of an output, two rows of bytes compared, a number in two bytes or in eight, and rows of
-// numbers of a few bits, packed into bytes.
+// Questions with numbers, lists, digits; numbers of any width packed into bytes; bytes copied and compared.
 ghost use Prim.Native.Nat.{_+_, _≤_, _<_};
 ghost use mathlib.Core.Path.{_≡_};
 ghost use lib.ListN.{length, take};
@@ -18,9 +17,12 @@ pub use rows::power;
 pub use rows::row_bytes;
 pub use rows::unpack;
 
-// As many bytes of `from` as fit go to the front of `out`.
+// Copies bytes of `from` to the front of `out`, as many as fit.
 pub fn put(out: &mut [u8], from: &[u8])
-    ensures { λ r. ⌜ now (out .exit) ≡ overlaid (take (length (now (out .entry))) (now (from .entry))) (now (out .entry)) ⌝ }
+    ensures { λ r.
+        ⌜
+        now (out .exit) ≡ overlaid (take (length (now (out .entry))) (now (from .entry))) (now (out .entry))
+        ⌝ }
 {
     let mut n = from.len();
     if out.len() < n {
@@ -33,7 +35,6 @@ pub fn put(out: &mut [u8], from: &[u8])
     }
 }
 
-// Are two rows of bytes the same?
 pub fn equal(a: &[u8], b: &[u8]) -> bool
     ensures { λ r. ⌜ r ≡ equal (now (a .entry)) (now (b .entry)) ⌝ }
 {
@@ -50,7 +51,7 @@ pub fn equal(a: &[u8], b: &[u8]) -> bool
     true
 }
 
-// The number that two bytes write from a place on, the high one first.
+// The number that two bytes write from place `at` on, the high byte first.
 pub fn two_bytes(bytes: &[u8], at: usize) -> usize
     requires { ⌜ at + 2 ≤ length (now bytes) ⌝ }
     ensures { λ r. ⌜ (r ≡ value 256 (part at 2 (now (bytes .entry)))) × (r < 65536) ⌝ }
@@ -58,7 +59,7 @@ pub fn two_bytes(bytes: &[u8], at: usize) -> usize
     bytes[at] as usize * 256 + bytes[at + 1] as usize
 }
 
-// The number that eight bytes write from a place on, the first the highest.
+// The number that eight bytes write from place `at` on, the highest byte first.
 pub fn eight_bytes(bytes: &[u8], at: usize) -> u64
     requires { ⌜ at + 8 ≤ length (now bytes) ⌝ }
     ensures { λ r. ⌜ r ≡ value 256 (part at 8 (now (bytes .entry))) ⌝ }

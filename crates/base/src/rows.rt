@@ -1,16 +1,17 @@
-// Rows of numbers of at most eight bits, the most significant bit first, packed into bytes and filled with zero bits to
-// a byte. Eight numbers at a time are as many bytes as a number has bits; the last ones, under eight, are in the bytes
-// that are left.
+// Rows of numbers of at most eight bits, packed into bytes. The most significant bit comes first, and zero bits fill
+// the last byte. Eight numbers of `bits` bits fill exactly `bits` bytes, so rows are packed eight numbers at a time.
+// The last numbers, under eight, stand in the bytes that are left.
 use crate::digits::number;
 use crate::digits::spell;
 ghost use mathlib.Core.Path.{_≡_};
 ghost use lib.Dec.{eqb};
 ghost use Prim.Native.Nat.{_+_, _^_, _≤_};
 ghost use lib.ListN.{length};
-ghost use Rattle.base.specs.Packing.{Below, rowBytes, fillerBits, packedRow, unpackedRow, rowFiller, Regroups, regrouped};
+ghost use Rattle.base.specs.Packing.{Below, rowBytes, fillerBits, packedRow, unpackedRow, rowFiller};
+ghost use Rattle.base.specs.steps.Regrouping.{Regroups, regrouped};
 ghost use Rattle.base.specs.Files.{Laid};
 
-// How many numbers n bits write.
+// How many numbers n bits can write.
 pub fn power(n: usize) -> u64
     requires { ⌜ n ≤ 8 ⌝ }
     ensures { λ r. ⌜ r ≡ 2 ^ n ⌝ }
@@ -18,7 +19,7 @@ pub fn power(n: usize) -> u64
     1 << n
 }
 
-// The bytes that a row of n numbers needs.
+// The number of bytes that a row of n numbers needs.
 pub fn row_bytes(bits: usize, n: usize) -> usize
     requires { ⌜ bits ≤ 8 ⌝ }
     ensures { λ r. ⌜ r ≡ rowBytes bits n ⌝ }
@@ -26,8 +27,9 @@ pub fn row_bytes(bits: usize, n: usize) -> usize
     n / 8 * bits + (n % 8 * bits + 7) / 8
 }
 
-// How many numbers the filler bits after a row of n numbers write. Those after its last n % 8 numbers are as many.
-fn fillers(bits: usize, n: usize) -> u64
+// How many numbers the filler bits after a row of n numbers can write. Eight numbers leave no filler, so only the last
+// n % 8 numbers count.
+fn filler_values(bits: usize, n: usize) -> u64
     requires { ⌜ bits ≤ 8 ⌝ }
     ensures { λ r. ⌜ r ≡ 2 ^ fillerBits bits n ⌝ }
 {
@@ -44,11 +46,11 @@ pub fn filler_is_zero(bytes: &[u8], bits: usize, n: usize) -> bool
         return true;
     }
     let last = bytes[bytes.len() - 1] as u64;
-    last % fillers(bits, n) == 0
+    last % filler_values(bits, n) == 0
 }
 
-// Regroups digits: m digits to one base become n digits to another, group by group. Then what is left of the source,
-// times `up` and by `down`, is spelled in what is left of the output.
+// Regroups digits. Each group of m digits to base `base` becomes n digits to base `to`. The number that the rest of the
+// source writes, times `up` and divided by `down`, is then written in the rest of the output.
 fn regroup(
     src: &[u8],
     m: usize,
@@ -61,7 +63,10 @@ fn regroup(
     down: u64,
 )
     requires { ⌜ Regroups (now src) m base (length (now dst)) n to groups up down ⌝ }
-    ensures { λ r. ⌜ now (dst .exit) ≡ regrouped (now (src .entry)) m base (length (now (dst .entry))) n to groups up down ⌝ }
+    ensures { λ r.
+        ⌜
+        now (dst .exit) ≡ regrouped (now (src .entry)) m base (length (now (dst .entry))) n to groups up down
+        ⌝ }
 {
     let mut i = 0;
     let mut j = 0;
@@ -79,31 +84,33 @@ fn regroup(
     spell(&mut dst[j..], to, rest * up / down);
 }
 
-// Unpacks a row: as many numbers as there is room for, from just the bytes that they need.
+// Unpacks a row, as many numbers as `row` has places, from exactly the bytes that these numbers need.
 pub fn unpack(bytes: &[u8], bits: usize, row: &mut [u8])
     requires { ⌜ (bits ≤ 8) × (length (now bytes) ≡ rowBytes bits (length (now row))) ⌝ }
     ensures { λ r. ⌜ now (row .exit) ≡ unpackedRow bits (length (now (row .entry))) (now (bytes .entry)) ⌝ }
 {
     let n = row.len();
     let size = power(bits);
-    let unit = fillers(bits, n);
+    let unit = filler_values(bits, n);
     regroup(bytes, bits, 256, row, 8, size, n / 8, 1, unit);
 }
 
-// Packs a row into just the bytes that it needs.
+// Packs a row into exactly the bytes that it needs.
 pub fn pack(row: &[u8], bits: usize, bytes: &mut [u8])
     requires { ⌜ (bits ≤ 8) × Below (2 ^ bits) (now row) × (length (now bytes) ≡ rowBytes bits (length (now row))) ⌝ }
     ensures { λ r. ⌜ now (bytes .exit) ≡ packedRow bits (now (row .entry)) ⌝ }
 {
     let n = row.len();
     let size = power(bits);
-    let unit = fillers(bits, n);
+    let unit = filler_values(bits, n);
     regroup(row, 8, size, bytes, bits, 256, n / 8, unit, 1);
 }
 
-// Packs a row at a place of an output: the place after it.
+// Packs a row at place `at` of an output, and returns the place after the row.
 pub fn pack_at(out: &mut [u8], at: usize, row: &[u8], bits: usize) -> usize
-    requires { ⌜ (bits ≤ 8) × Below (2 ^ bits) (now row) × (at + rowBytes bits (length (now row)) ≤ length (now out)) ⌝ }
+    requires { ⌜
+        (bits ≤ 8) × Below (2 ^ bits) (now row) × (at + rowBytes bits (length (now row)) ≤ length (now out))
+        ⌝ }
     ensures { λ r. ⌜ Laid at (packedRow bits (now (row .entry))) (now (out .entry)) (now (out .exit)) r ⌝ }
 {
     let end = at + row_bytes(bits, row.len());

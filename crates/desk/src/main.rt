@@ -1,4 +1,4 @@
-// The desk program. Its run: an accepted slip under the plain key.
+// Judges a slip, on standard input or in three files. Its run: an accepted slip under the plain key.
 fn main() {
     desk_io::desk();
 }

@@ -1,8 +1,9 @@
-// The desk's reading and writing: bytes come in, and what `desk_line` and `crossing_lines` make of them goes out. They
+// The desk's reading and writing: bytes come in, and what `desk_line` and `desk_crossings` make of them goes out. They
 // decide too what is written where an input could not be read.
-use crossing_lines::Text;
+use desk_crossings::Text;
 use desk_line::Got;
 use desk_line::Line;
+use libc::STDERR_FILENO;
 use libc::STDIN_FILENO;
 use libc::STDOUT_FILENO;
 ghost use mathlib.Core.Path.{_≡_};
@@ -57,8 +58,13 @@ fn fill(fd: i32, path: &[u8], buf: &mut [u8]) -> Got
     }
 }
 
-// The desk program: a slip on standard input, key, digest and signature end to end.
-pub fn desk() {
+// Says on standard error what a program takes, where it was given something else.
+pub fn misused(takes: &[u8]) {
+    io::write_all(STDERR_FILENO, takes);
+}
+
+// A slip on standard input, key, digest and signature end to end.
+fn desk_input() {
     let mut input = [0u8; desk_line::INPUT_ROOM];
     let got = fill(STDIN_FILENO, b"standard input", &mut input);
     tell(desk_line::input_line(&input, got));
@@ -83,8 +89,8 @@ pub fn file(i: usize, buf: &mut [u8]) -> Got
     got
 }
 
-// The desk program on three files, whose names are the arguments: key, digest, signature.
-pub fn desk_files() {
+// A slip in three files, whose names are the arguments: key, digest, signature.
+fn desk_files() {
     let mut key = [0u8; desk_line::KEY_ROOM];
     let mut digest = [0u8; desk_line::DIGEST_ROOM];
     let mut word = [0u8; desk_line::WORD_ROOM];
@@ -92,6 +98,18 @@ pub fn desk_files() {
     let d = file(2, &mut digest);
     let w = file(3, &mut word);
     tell(desk_line::files_line(&key, &digest, &word, k, d, w));
+}
+
+// The desk program: without arguments the slip on standard input, and with three names the slip in these files.
+pub fn desk() {
+    let n = os::arg_count();
+    if n < 2 {
+        desk_input();
+    } else if n == 4 {
+        desk_files();
+    } else {
+        misused(b"desk takes three names of files, key, digest and signature, or none\n");
+    }
 }
 
 // Writes a text of several lines.
@@ -103,16 +121,29 @@ fn tell_text(t: Text)
     say(&text[..n]);
 }
 
-// The program that lists crossings, of the word on standard input.
-pub fn crossings() {
-    let mut input = [0u8; crossing_lines::WORD_ROOM];
+// The crossings of the word on standard input.
+fn crossings_input() {
+    let mut input = [0u8; desk_crossings::WORD_ROOM];
     let got = fill(STDIN_FILENO, b"standard input", &mut input);
-    tell_text(crossing_lines::word_text(&input, got));
+    tell_text(desk_crossings::word_text(&input, got));
 }
 
-// The program that lists crossings, of the word in the file that its argument names.
-pub fn crossings_file() {
-    let mut input = [0u8; crossing_lines::WORD_ROOM];
+// The crossings of the word in the file that the argument names.
+fn crossings_file() {
+    let mut input = [0u8; desk_crossings::WORD_ROOM];
     let got = file(1, &mut input);
-    tell_text(crossing_lines::word_text(&input, got));
+    tell_text(desk_crossings::word_text(&input, got));
+}
+
+// The program that lists crossings: without arguments of the word on standard input, and with a name of the word in
+// that file.
+pub fn crossings() {
+    let n = os::arg_count();
+    if n < 2 {
+        crossings_input();
+    } else if n == 2 {
+        crossings_file();
+    } else {
+        misused(b"crossings takes the name of a file, the word, or none\n");
+    }
 }

@@ -16,13 +16,15 @@ use Rattle.text.proofs.TextLaws.{told-more}
 use Rattle.field.specs.Fields.{keyBytes, digestBytes}
 use Rattle.field.specs.declared.Field.{Field}
 use Rattle.field.specs.declared.Field.the-variants.{Gf32, Gf256}
-use Rattle.verify.specs.Verdict.{verdict}
-use Rattle.desk_line.specs.Desk.{deskField, cutVerdict, deskVerdict, answerWord, answerLine, inputLine, filesLine, Tells}
+use Rattle.slip_verdict.specs.Verdict.{verdict}
+use Rattle.desk_line.specs.Desk.{deskField, cutVerdict, deskVerdict, answerWord, answerLine, inputLine, filesLine}
+use Rattle.desk_line.specs.Desk.{Tells}
 use Rattle.desk_line.specs.declared.Got.{Got}
 
 -- ---- the cut
 
-pub cut-parts : {key digest word : List ℕ} (k d : ℕ) (input : List ℕ) → key ≡ part 0 k input → digest ≡ part k d input → word ≡ part (k + d) 5003 input
+pub cut-parts : {key digest word : List ℕ} (k d : ℕ) (input : List ℕ) → key ≡ part 0 k input → digest ≡ part k d input
+    → word ≡ part (k + d) 5003 input
     → verdict key digest word ≡ cutVerdict k d input
 unfolding cutVerdict
 cut-parts k d input p q r = λ i. verdict (p i) (q i) (r i)
@@ -41,7 +43,8 @@ unfolding cutVerdict
 old-input input h = sym (cut-for input false (ne-eqb (value 256 (part 1 2 input)) 256 h))
 
 -- an input of less than three bytes names the smaller field
-pub short-names : (input : List ℕ) → length input < 3 → ((k : ℕ) → getD input k 0 < 256) → eqb (value 256 (part 1 2 input)) 256 ≡ false
+pub short-names : (input : List ℕ) → length input < 3 → ((k : ℕ) → getD input k 0 < 256)
+    → eqb (value 256 (part 1 2 input)) 256 ≡ false
 unfolding value
 short-names [] h b = refl
 short-names (x ∷ []) h b = refl
@@ -52,7 +55,8 @@ short-names (x ∷ y ∷ z ∷ xs) h b = absurd (omega arith)
 
 -- "answer " is in the buffer, and the number and the line end are added
 pub answer-told : {n answer bytes : ℕ} {text : List ℕ} → n ≡ answer
-    → Added (decimal n ++ (10 ∷ [])) (answerWord ++ (32 ∷ replicate 4 0)) 7 text bytes → Tells (answerLine answer) bytes text
+    → Added (decimal n ++ (10 ∷ [])) (answerWord ++ (32 ∷ replicate 4 0)) 7 text bytes
+    → Tells (answerLine answer) bytes text
 unfolding answerLine line overlaid
 answer-told {n} {answer} {bytes} {text} e f =
     subst (λ (k : ℕ). Tells (answerLine k) bytes text) e
@@ -62,25 +66,30 @@ pub line-fits : (n : ℕ) → n < 256 → 7 + (length (decimal n) + 1) ≤ 11
 line-fits n h = omega (arith, decimal-short n 3 (omega arith) (omega arith))
 
 -- no line
-none-told : {written : List ℕ} {bytes : ℕ} {text : List ℕ} → written ≡ [] → bytes ≡ 0 → text ≡ replicate 11 0 → Tells written bytes text
+none-told : {written : List ℕ} {bytes : ℕ} {text : List ℕ} → written ≡ [] → bytes ≡ 0 → text ≡ replicate 11 0
+    → Tells written bytes text
 unfolding overlaid
-none-told {written} {bytes} {text} e b t = subst (λ (l : List ℕ). Tells l bytes text) (sym e) (record { bytes-are = b; text-is = t })
+none-told {written} {bytes} {text} e b t =
+    subst (λ (l : List ℕ). Tells l bytes text) (sym e) (record { bytes-are = b; text-is = t })
 
 -- on one input, where it could be read and where it could not
 module _ (got : Got) (input : List ℕ) where
-  pub input-read : {slip : List ℕ} {n bytes : ℕ} {text : List ℕ} → got .read ≡ true → slip ≡ take (got .bytes) input → n ≡ deskVerdict slip
+  pub input-read : {slip : List ℕ} {n bytes : ℕ} {text : List ℕ} → got .read ≡ true → slip ≡ take (got .bytes) input
+      → n ≡ deskVerdict slip
       → Tells (answerLine n) bytes text → Tells (inputLine got input) bytes text
   unfolding inputLine
   input-read {bytes = bytes} {text = text} e s v t =
       rw e (subst (λ (k : ℕ). Tells (answerLine k) bytes text) (v ∙ ap deskVerdict s) t)
 
-  pub input-not-read : {bytes : ℕ} {text : List ℕ} → got .read ≡ false → bytes ≡ 0 → text ≡ replicate 11 0 → Tells (inputLine got input) bytes text
+  pub input-not-read : {bytes : ℕ} {text : List ℕ} → got .read ≡ false → bytes ≡ 0 → text ≡ replicate 11 0
+      → Tells (inputLine got input) bytes text
   unfolding inputLine
   input-not-read e b t = none-told (rw e) b t
 
 -- on three files, where all could be read and where one could not
 module _ (k d w : Got) (key digest word : List ℕ) where
-  pub files-read : {read : Bool} {a b c : List ℕ} {n bytes : ℕ} {text : List ℕ} → read ≡ k .read && d .read && w .read → read ≡ true
+  pub files-read : {read : Bool} {a b c : List ℕ} {n bytes : ℕ} {text : List ℕ} → read ≡ k .read && d .read && w .read
+      → read ≡ true
       → a ≡ take (k .bytes) key → b ≡ take (d .bytes) digest → c ≡ take (w .bytes) word → n ≡ verdict a b c
       → Tells (answerLine n) bytes text → Tells (filesLine k d w key digest word) bytes text
   unfolding filesLine

@@ -14,15 +14,15 @@ use Rattle.base.specs.Digits.{value, part}
 use Rattle.base.proofs.QuestionLaws.{fails}
 use Rattle.text.specs.Enough.{Enough}
 use Rattle.text.proofs.EnoughLaws.{enough-part, enough-picked, enough-long, enough-of-two, enough-of-three}
-use Rattle.braid.specs.Words.{wordAnswer}
-use Rattle.braid.proofs.LongWords.{enough-of-word, whole-word}
+use Rattle.word.specs.Words.{wordAnswer}
+use Rattle.word.proofs.LongWords.{enough-of-word, whole-word}
 use Rattle.field.specs.Fields.{keyBytes, digestBytes}
 use Rattle.field.specs.declared.Field.{Field}
 use Rattle.field.specs.declared.Field.the-variants.{Gf32, Gf256}
 use Rattle.key.specs.Keys.{keyField, keyAnswer}
-use Rattle.digest.proofs.Encoded.{digest-fits}
-use Rattle.verify.specs.Verdict.{verdict}
-use Rattle.verify.proofs.VerdictIff.{key-refused, digest-refused, word-refused}
+use Rattle.slip_digest.proofs.Encoded.{digest-fits}
+use Rattle.slip_verdict.specs.Verdict.{verdict}
+use Rattle.slip_verdict.proofs.VerdictIff.{key-refused, digest-refused, word-refused}
 use Rattle.desk_line.specs.Desk.{deskField, cutVerdict, deskVerdict, EnoughOfInput, EnoughOfFiles}
 
 -- ---- three files
@@ -32,7 +32,8 @@ long-key-answer : (key : List ℕ) → 128 < length key → keyAnswer key ≡ 1
 unfolding keyAnswer
 long-key-answer key h =
     fails 1 _
-    (ap₂ (λ (a b : Bool). a || b) (ne-eqb (length key) 83 (λ e. omega arith)) (ne-eqb (length key) 128 (λ e. omega arith)))
+    (ap₂ (λ (a b : Bool). a || b) (ne-eqb (length key) 83 (λ e. omega arith))
+    (ne-eqb (length key) 128 (λ e. omega arith)))
 
 pub long-key : (key digest word : List ℕ) → 128 < length key → verdict key digest word ≡ 1
 long-key key digest word h = let e = long-key-answer key h in key-refused key digest word (λ z. omega arith) ∙ e
@@ -54,7 +55,8 @@ enough-of-digest n h key word = go (ℕ-discrete (keyAnswer key) 0)
 -- under an accepted key and digest a refused word is answered as the word's questions are
 enough-of-signature : (n : ℕ) → 5002 < n → (key digest : List ℕ) → Enough n (verdict key digest)
 enough-of-signature n h key digest word =
-    go (ℕ-discrete (keyAnswer key) 0) (ℕ-discrete (length digest) (digestBytes (keyField key))) (ℕ-discrete (wordAnswer (take n word)) 0)
+    go (ℕ-discrete (keyAnswer key) 0) (ℕ-discrete (length digest) (digestBytes (keyField key)))
+    (ℕ-discrete (wordAnswer (take n word)) 0)
   where
     go : Dec (keyAnswer key ≡ 0) → Dec (length digest ≡ digestBytes (keyField key)) → Dec (wordAnswer (take n word) ≡ 0)
         → verdict key digest (take n word) ≡ verdict key digest word
@@ -88,6 +90,9 @@ rooms Gf256 = lit≤ tt
 pub enough-of-input : (n : ℕ) → 5194 < n → EnoughOfInput n
 unfolding deskVerdict deskField
 enough-of-input n h =
-    enough-picked (part 1 2) (λ bytes input. let f : Field = cond (eqb (value 256 bytes) 256) Gf256 Gf32 in cutVerdict (keyBytes f) (digestBytes f) input) n
+    enough-picked (part 1 2)
+    (λ bytes input. let f : Field = cond (eqb (value 256 bytes) 256) Gf256 Gf32 in
+    cutVerdict (keyBytes f) (digestBytes f) input) n
     (enough-part 1 2 n (omega arith))
-    (λ bytes. let f : Field = cond (eqb (value 256 bytes) 256) Gf256 Gf32 in enough-cut (keyBytes f) (digestBytes f) n (omega (arith, rooms f)))
+    (λ bytes. let f : Field = cond (eqb (value 256 bytes) 256) Gf256 Gf32 in
+    enough-cut (keyBytes f) (digestBytes f) n (omega (arith, rooms f)))

@@ -16,11 +16,11 @@ use Rattle.field.specs.Fields.{digestBytes}
 use Rattle.field.specs.declared.Field.the-variants.{Gf256}
 use Rattle.matrix.specs.Layout.{place, rowOf, columnOf, entry, matrixOf}
 use Rattle.matrix.specs.Product.{identity}
-use Rattle.braid.specs.Words.{codes, filler, wordAnswer}
+use Rattle.word.specs.Words.{codes, filler, wordAnswer}
 use Rattle.key.specs.Keys.{keyField, fileEntries, keyFile, keyAnswer}
 use Rattle.key.proofs.Inverses.{keyWith, unitEntries, plain-key}
-use Rattle.verify.specs.Verdict.{verdict}
-use Rattle.verify.proofs.VerdictIff.{digest-refused, word-refused, zero-or-14}
+use Rattle.slip_verdict.specs.Verdict.{verdict}
+use Rattle.slip_verdict.proofs.VerdictIff.{digest-refused, word-refused, zero-or-14}
 use Rattle.desk_line.proofs.Enough.{long-key}
 use Rattle.desk_line.specs.Desk.{deskField, cutVerdict, deskVerdict, EnoughOfInput, EnoughOfFiles}
 
@@ -61,7 +61,8 @@ unfolding firstNo every value codes filler halves wordAnswer
 long-answer = refl
 
 -- an accepted slip gets 0 or 14, and no other number
-no-other : (word : List ℕ) → wordAnswer word ≡ 0 → (n : ℕ) → (n ≡ 0 → ⊥) → (n ≡ 14 → ⊥) → verdict largeKey largeDigest word ≡ n → ⊥
+no-other : (word : List ℕ) → wordAnswer word ≡ 0 → (n : ℕ) → (n ≡ 0 → ⊥) → (n ≡ 14 → ⊥)
+    → verdict largeKey largeDigest word ≡ n → ⊥
 no-other word w n z f e = go (zero-or-14 largeKey largeDigest word key-accepted digest-accepted w)
   where
     go : (verdict largeKey largeDigest word ≡ 0) ⊎ (verdict largeKey largeDigest word ≡ 14) → ⊥
@@ -70,7 +71,9 @@ no-other word w n z f e = go (zero-or-14 largeKey largeDigest word key-accepted 
 
 -- a signature that is too long is 11
 long-11 : verdict largeKey largeDigest longWord ≡ 11
-long-11 = word-refused largeKey largeDigest longWord key-accepted digest-accepted (λ e. omega (arith, long-answer)) ∙ long-answer
+long-11 =
+    word-refused largeKey largeDigest longWord key-accepted digest-accepted (λ e. omega (arith, long-answer))
+    ∙ long-answer
 
 pub no-128-of-a-key : EnoughOfFiles 128 65 5003 → ⊥
 unfolding valuesFrom value digits place rowOf columnOf entry matrixOf identity fileEntries packedRow keyFile
@@ -89,21 +92,27 @@ no-64-of-a-digest enough =
 pub no-5002-of-a-signature : EnoughOfFiles 129 65 5002 → ⊥
 unfolding valuesFrom value digits place rowOf columnOf entry matrixOf identity fileEntries packedRow keyFile
 no-5002-of-a-signature enough =
-    no-other fullWord full-accepted 11 (λ e. omega arith) (λ e. omega arith) (enough largeKey largeDigest longWord ∙ long-11)
+    no-other fullWord full-accepted 11 (λ e. omega arith) (λ e. omega arith)
+    (enough largeKey largeDigest longWord ∙ long-11)
 
 -- the slip end to end
 abbrev slip : List ℕ → List ℕ
 slip word = largeKey ++ (largeDigest ++ word)
 
 pub no-5194-of-an-input : EnoughOfInput 5194 → ⊥
-unfolding deskVerdict deskField cutVerdict valuesFrom value digits place rowOf columnOf entry matrixOf identity fileEntries packedRow keyFile
-no-5194-of-an-input enough = no-other fullWord full-accepted 11 (λ e. omega arith) (λ e. omega arith) (enough (slip longWord) ∙ long-11)
+unfolding deskVerdict deskField cutVerdict valuesFrom value digits place rowOf columnOf entry matrixOf identity
+    fileEntries packedRow keyFile
+no-5194-of-an-input enough =
+    no-other fullWord full-accepted 11 (λ e. omega arith) (λ e. omega arith) (enough (slip longWord) ∙ long-11)
 
 -- cut at 83 and 32 a slip that says 256 is 3, and it is 0 or 14
 cut-3 : cutVerdict 83 32 (slip emptyWord) ≡ 3
-unfolding cutVerdict verdict firstNo keyField valuesFrom value digits place rowOf columnOf entry matrixOf identity fileEntries packedRow keyFile
+unfolding cutVerdict verdict firstNo keyField valuesFrom value digits place rowOf columnOf entry matrixOf identity
+    fileEntries packedRow keyFile
 cut-3 = refl
 
 pub no-small-cut : ((input : List ℕ) → deskVerdict input ≡ cutVerdict 83 32 input) → ⊥
-unfolding deskVerdict deskField cutVerdict valuesFrom value digits place rowOf columnOf entry matrixOf identity fileEntries packedRow keyFile
-no-small-cut wrong = no-other emptyWord empty-accepted 3 (λ e. omega arith) (λ e. omega arith) (wrong (slip emptyWord) ∙ cut-3)
+unfolding deskVerdict deskField cutVerdict valuesFrom value digits place rowOf columnOf entry matrixOf identity
+    fileEntries packedRow keyFile
+no-small-cut wrong =
+    no-other emptyWord empty-accepted 3 (λ e. omega arith) (λ e. omega arith) (wrong (slip emptyWord) ∙ cut-3)

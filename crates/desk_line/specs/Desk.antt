@@ -13,7 +13,7 @@ use Rattle.text.specs.Enough.{Enough, EnoughOfThree}
 use Rattle.field.specs.Fields.{keyBytes, digestBytes}
 use Rattle.field.specs.declared.Field.{Field}
 use Rattle.field.specs.declared.Field.the-variants.{Gf32, Gf256}
-use Rattle.verify.specs.Verdict.{verdict}
+use Rattle.slip_verdict.specs.Verdict.{verdict}
 use Rattle.desk_line.specs.declared.Got.{Got}
 
 -- the field that an input names: the larger one if its bytes 1 and 2, counted from 0, say 256

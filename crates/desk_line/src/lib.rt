@@ -1,12 +1,13 @@
-// A slip as it comes to the desk, end to end or in three files, and the line that tells the answer. What is read lies
-// in arrays whose sizes are given here, so that a buffer of another size does not fit.
+// A slip at the desk: how much to read, and the line to write. What is read lies in arrays whose sizes are given here,
+// so that a buffer of another size does not fit.
 ghost use Prim.Native.Nat.{_≤_};
 ghost use mathlib.Core.Path.{_≡_};
 ghost use mathlib.Core.Bool.{false, _&&_};
 ghost use lib.Dec.{eqb};
 ghost use lib.ListN.{length, replicate};
 ghost use Rattle.base.specs.Digits.{value, part as partOf};
-ghost use Rattle.desk_line.specs.Desk.{cutVerdict, deskVerdict, answerLine, inputLine, filesLine, Tells, EnoughOfInput, EnoughOfFiles};
+ghost use Rattle.desk_line.specs.Desk.{cutVerdict, deskVerdict, answerLine, inputLine, filesLine, Tells};
+ghost use Rattle.desk_line.specs.Desk.{EnoughOfInput, EnoughOfFiles};
 
 // The bytes of a key and of a digest, over GF(32) and over GF(256), and the most that a signature has.
 const KEY: usize = 83;
@@ -47,7 +48,7 @@ fn cut(input: &[u8], k: usize, d: usize) -> u8
     let key = text::part(input, 0, k);
     let digest = text::part(input, k, d);
     let word = text::part(input, k + d, WORD_ROOM);
-    verify::verify(key, digest, word)
+    slip_verdict::verify(key, digest, word)
 }
 
 // The verdict on a slip that lies end to end, cut for the field that it names.
@@ -146,8 +147,14 @@ pub fn files_line(
     d: Got,
     w: Got,
 ) -> Line
-    ensures { λ r. ⌜ Tells (filesLine k d w (now (key .entry)) (now (digest .entry)) (now (word .entry))) (r .bytes) (r .text) ⌝ }
-    ensures { λ _. ⌜ EnoughOfFiles (length (now (key .entry))) (length (now (digest .entry))) (length (now (word .entry))) ⌝ }
+    ensures { λ r.
+        ⌜
+        Tells (filesLine k d w (now (key .entry)) (now (digest .entry)) (now (word .entry))) (r .bytes) (r .text)
+        ⌝ }
+    ensures { λ _.
+        ⌜
+        EnoughOfFiles (length (now (key .entry))) (length (now (digest .entry))) (length (now (word .entry)))
+        ⌝ }
 {
     let k_n = k.bytes;
     let d_n = d.bytes;
@@ -158,5 +165,5 @@ pub fn files_line(
     if !all_read(k, d, w) {
         return Line::none();
     }
-    answer_line(verify::verify(k_read, d_read, w_read))
+    answer_line(slip_verdict::verify(k_read, d_read, w_read))
 }

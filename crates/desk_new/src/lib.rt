@@ -1,6 +1,7 @@
 // The desk's verbs that write a new file: files come in, and what `desk_words` makes of them goes out. The first
-// argument is a name beside the new file's place: the file is written there, and takes its own name when it is whole.
-// Of each word one line tells its answer, after its file is in its place, and where that is 0 a second one the sizes.
+// argument is the verb. The second one is a name beside the new file's place: the file is written there, and takes its
+// own name when it is whole. Of each word one line tells its answer, after its file is in its place, and where that is
+// 0 a second one the sizes.
 use desk_line::Got;
 use desk_words::Made;
 ghost use Prim.Native.Nat.{_<_};
@@ -60,8 +61,8 @@ fn put_at(beside: usize, new: usize, bytes: &[u8], alone: bool) -> bool {
 
 // How many letters and bytes became how many.
 fn sizes(old: &[u8], new: &[u8]) {
-    let before = braid::read_word(old);
-    let after = braid::read_word(new);
+    let before = word::read_word(old);
+    let after = word::read_word(new);
     print::text(b"letters");
     print::number(before.letters);
     print::text(b" to");
@@ -88,7 +89,7 @@ fn end(made: Made, word: &[u8], new: usize, alone: bool)
     let answer = made.answer;
     let file = made.file;
     let bytes = made.bytes;
-    if answer == 0 && !put_at(1, new, &file[..bytes], alone) {
+    if answer == 0 && !put_at(2, new, &file[..bytes], alone) {
         print::text(b"not written\n");
         return;
     }
@@ -100,7 +101,7 @@ fn end(made: Made, word: &[u8], new: usize, alone: bool)
 
 // One slip: digest, signature and new signature are the three arguments from a place on.
 fn slip(key: &[u8; desk_line::KEY_ROOM], k: Got, at: usize, alone: bool)
-    requires { ⌜ at < 18446744073709551613 ⌝ }
+    requires { ⌜ at < 18446744073709551614 ⌝ }
 {
     let mut digest = [0u8; desk_line::DIGEST_ROOM];
     let mut word = [0u8; desk_line::WORD_ROOM];
@@ -113,33 +114,54 @@ fn slip(key: &[u8; desk_line::KEY_ROOM], k: Got, at: usize, alone: bool)
 
 // Shortens slips under one key: a name beside the new files, the key, then digest, signature and new signature of each
 // slip. Of many slips none is waited for.
-pub fn shorten() {
+fn shorten() {
     let mut key = [0u8; desk_line::KEY_ROOM];
-    let k = desk_io::file(2, &mut key);
+    let k = desk_io::file(3, &mut key);
     let n = os::arg_count() / 3;
     let mut i = 1;
     while i < n {
-        slip(&key, k, 3 * i, n == 2);
+        slip(&key, k, 3 * i + 1, n == 2);
         i += 1;
     }
 }
 
 // Rewrites a word: a name beside the new file, the word, the move list, the new word.
-pub fn rewrite() {
+fn rewrite() {
     let mut word = [0u8; desk_line::WORD_ROOM];
     let mut moves = [0u8; desk_words::MOVES_ROOM];
-    let w = desk_io::file(2, &mut word);
-    let m = desk_io::file(3, &mut moves);
+    let w = desk_io::file(3, &mut word);
+    let m = desk_io::file(4, &mut moves);
     let made = desk_words::rewrite(&word, &moves, w, m);
+    let n = w.bytes;
+    end(made, text::part(&word, 0, n), 5, true);
+}
+
+// Reduces a word freely: a name beside the new file, the word, the new word.
+fn reduce() {
+    let mut word = [0u8; desk_line::WORD_ROOM];
+    let w = desk_io::file(3, &mut word);
+    let made = desk_words::reduce(&word, w);
     let n = w.bytes;
     end(made, text::part(&word, 0, n), 4, true);
 }
 
-// Reduces a word freely: a name beside the new file, the word, the new word.
-pub fn reduce() {
-    let mut word = [0u8; desk_line::WORD_ROOM];
-    let w = desk_io::file(2, &mut word);
-    let made = desk_words::reduce(&word, w);
-    let n = w.bytes;
-    end(made, text::part(&word, 0, n), 3, true);
+// The program: its verb, and the number of names that this verb takes. Of many slips each has three.
+pub fn new_word() {
+    let mut name = io::buffer();
+    let m = os::arg(1, &mut name);
+    let verb = &name[..m];
+    let n = os::arg_count();
+    if base::equal(verb, b"shorten") && 6 < n && n % 3 == 1 {
+        shorten();
+    } else if base::equal(verb, b"rewrite") && n == 6 {
+        rewrite();
+    } else if base::equal(verb, b"reduce") && n == 5 {
+        reduce();
+    } else {
+        desk_io::misused(
+            b"new_word takes a verb and,
+                after a name beside the new file,
+                    the verb's files: shorten KEY DIGEST SIGNATURE NEW, rewrite WORD MOVES NEW or reduce WORD NEW\n",
+        );
+    }
 }

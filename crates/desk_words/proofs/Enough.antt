@@ -6,17 +6,20 @@ use mathlib.Core.Path.{refl, ap}
 use mathlib.Core.List.{[]}
 use lib.ListN.{take}
 use Rattle.text.proofs.EnoughLaws.{granted-alike, enough-granted}
-use Rattle.braid.specs.Words.{wordAnswer, wordFile}
-use Rattle.braid.proofs.LongWords.{enough-of-word, whole-word}
-use Rattle.rewriting.specs.Rewriting.{rewritten}
-use Rattle.rewriting.proofs.LongLists.{enough-of-both, whole-both}
+use Rattle.word.specs.Words.{wordAnswer, wordFile}
+use Rattle.word.proofs.LongWords.{enough-of-word, whole-word}
+use Rattle.move_kinds.specs.Rewriting.{rewritten}
+use Rattle.move_kinds.proofs.LongLists.{enough-of-both, whole-both}
 use Rattle.desk_line.specs.Desk.{EnoughOfFiles}
-use Rattle.desk_words.specs.Making.{toWrite, shortFile, rewriteAnswer, EnoughToShorten, EnoughToRewrite, EnoughToReduce}
+use Rattle.desk_words.specs.Making.{toWrite, shortFile, rewriteAnswer, EnoughToShorten, EnoughToRewrite}
+use Rattle.desk_words.specs.Making.{EnoughToReduce}
 use Rattle.desk_words.proofs.Shortening.{opened-word}
 
 pub enough-to-reduce : (n : ℕ) → 5002 < n → EnoughToReduce n
 unfolding toWrite
-enough-to-reduce n h = let answers = enough-of-word n h in (answers, enough-granted wordAnswer shortFile (λ word. []) n answers (whole-word n h) (λ word. refl))
+enough-to-reduce n h =
+    let answers = enough-of-word n h in
+    (answers, enough-granted wordAnswer shortFile (λ word. []) n answers (whole-word n h) (λ word. refl))
 
 pub enough-to-shorten : (k d w : ℕ) → EnoughOfFiles k d w → 5002 < w → EnoughToShorten k d w
 unfolding toWrite
@@ -31,6 +34,8 @@ unfolding toWrite rewriteAnswer
 enough-to-rewrite w m hw hm =
     let answers = enough-of-both 5002 (omega arith) w m hw hm in (
       answers,
-      λ word moves. granted-alike (wordFile (rewritten (take w word) (take m moves))) (wordFile (rewritten word moves)) [] [] (answers word moves)
-          (λ z. let s = whole-both 5002 (omega arith) w m hw hm word moves z in λ i. wordFile (rewritten (s .0 i) (s .1 i))) refl,
+      λ word moves. granted-alike (wordFile (rewritten (take w word) (take m moves))) (wordFile (rewritten word moves))
+          [] [] (answers word moves)
+          (λ z. let s = whole-both 5002 (omega arith) w m hw hm word moves z in
+          λ i. wordFile (rewritten (s .0 i) (s .1 i))) refl,
     )

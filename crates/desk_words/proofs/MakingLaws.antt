@@ -10,7 +10,7 @@ use Rattle.base.specs.Questions.{Question, firstNo, granted}
 use Rattle.base.specs.Lists.{overlaid}
 use Rattle.base.proofs.QuestionLaws.{granted-zero, granted-refused, granted-ap}
 use Rattle.base.proofs.ListLaws.{take-overlaid}
-use Rattle.braid.specs.Words.{Wrote}
+use Rattle.word.specs.Words.{Wrote}
 use Rattle.desk_words.specs.Making.{toWrite, noAnswer, MakesNew, Shortens, Rewrites}
 use Rattle.desk_words.specs.declared.Made.{Made}
 
@@ -22,10 +22,12 @@ pub record Bare (read : Bool) (answer : ℕ) (made : Made) : Type 0 where
   pub file-is : made .file ≡ replicate 5002 0
 
 pub bare-of : {read : Bool} {answer : ℕ} {made : Made}
-    → (made .read ≡ read) × (made .answer ≡ answer) × (made .bytes ≡ 0) × (made .file ≡ replicate 5002 0) → Bare read answer made
+    → (made .read ≡ read) × (made .answer ≡ answer) × (made .bytes ≡ 0) × (made .file ≡ replicate 5002 0)
+    → Bare read answer made
 bare-of p = record { read-is = p .0; answer-is = p .1; bytes-are = p .2; file-is = p .3 }
 
-bare-makes : {read : Bool} {n : ℕ} {made : Made} (answer : ℕ) (new : List ℕ) → Bare read n made → n ≡ cond read answer noAnswer → toWrite read answer new ≡ []
+bare-makes : {read : Bool} {n : ℕ} {made : Made} (answer : ℕ) (new : List ℕ) → Bare read n made
+    → n ≡ cond read answer noAnswer → toWrite read answer new ≡ []
     → MakesNew read answer new made
 unfolding overlaid
 bare-makes answer new b a e =
@@ -37,18 +39,21 @@ bare-makes answer new b a e =
     }
 
 -- a file could not be read
-pub unread : {read : Bool} {made : Made} (answer : ℕ) (new : List ℕ) → read ≡ false → Bare false noAnswer made → MakesNew read answer new made
+pub unread : {read : Bool} {made : Made} (answer : ℕ) (new : List ℕ) → read ≡ false → Bare false noAnswer made
+    → MakesNew read answer new made
 unfolding toWrite
 unread answer new e b = rw e (bare-makes answer new b refl refl)
 
 -- the answer is a refusal
-pub refused : {made : Made} (answer : ℕ) (new : List ℕ) → (answer ≡ 0 → ⊥) → Bare true answer made → MakesNew true answer new made
+pub refused : {made : Made} (answer : ℕ) (new : List ℕ) → (answer ≡ 0 → ⊥) → Bare true answer made
+    → MakesNew true answer new made
 unfolding toWrite
 refused answer new h b = bare-makes answer new b refl (granted-refused new [] h)
 
 -- what a writer of words wrote to zeros
 pub wrote-makes : {questions : List Question} {new : List ℕ} {made : Made} (answer : ℕ) → made .read ≡ true
-    → Wrote questions new (replicate 5002 0) (made .file) (made .answer) (made .bytes) → firstNo questions ≡ answer → MakesNew true answer new made
+    → Wrote questions new (replicate 5002 0) (made .file) (made .answer) (made .bytes) → firstNo questions ≡ answer
+    → MakesNew true answer new made
 unfolding toWrite overlaid
 wrote-makes {questions} {new} {made} answer r w e =
     record {
@@ -61,18 +66,21 @@ wrote-makes {questions} {new} {made} answer r w e =
     }
 
 -- the same with another name for the answer
-pub makes-as : {read : Bool} {a b : ℕ} {new : List ℕ} {made : Made} → a ≡ b → MakesNew read a new made → MakesNew read b new made
+pub makes-as : {read : Bool} {a b : ℕ} {new : List ℕ} {made : Made} → a ≡ b → MakesNew read a new made
+    → MakesNew read b new made
 makes-as e m = rw (sym e) m
 
 -- on answer 0 the bytes to write are the new word's file
-pub made-file : {answer : ℕ} {new : List ℕ} {made : Made} → MakesNew true answer new made → made .answer ≡ 0 → take (made .bytes) (made .file) ≡ new
+pub made-file : {answer : ℕ} {new : List ℕ} {made : Made} → MakesNew true answer new made → made .answer ≡ 0
+    → take (made .bytes) (made .file) ≡ new
 unfolding toWrite
 made-file {answer} {new} m z =
     let g : granted answer new [] ≡ new = granted-zero new [] (sym (m .answer-is) ∙ z) in
     rw (m .bytes-are, m .file-is, g) (take-overlaid new (replicate 5002 0))
 
 -- the bytes counted lie within the file
-pub bytes-within : {read : Bool} {answer : ℕ} {new : List ℕ} {made : Made} → MakesNew read answer new made → made .bytes ≤ length (made .file)
+pub bytes-within : {read : Bool} {answer : ℕ} {new : List ℕ} {made : Made} → MakesNew read answer new made
+    → made .bytes ≤ length (made .file)
 unfolding overlaid
 bytes-within m = rw (m .bytes-are, m .file-is) (simp length-append (omega arith))
 
@@ -81,14 +89,17 @@ unanswered : {made : Made} → Bare false noAnswer made → made .answer ≡ 0 �
 unanswered b z = omega (arith, b .answer-is)
 
 -- what the two larger verbs make where a file could not be read, and where all could
-pub shortens-unread : {read : Bool} {key digest word : List ℕ} {made : Made} → read ≡ false → Bare false noAnswer made → Shortens read key digest word made
+pub shortens-unread : {read : Bool} {key digest word : List ℕ} {made : Made} → read ≡ false → Bare false noAnswer made
+    → Shortens read key digest word made
 shortens-unread e b = record { makes = unread _ _ e b; opens = λ z. absurd (unanswered b z) }
 
-pub shortens-as : {read : Bool} {k d w key digest word : List ℕ} {made : Made} → read ≡ true → k ≡ key → d ≡ digest → w ≡ word
+pub shortens-as : {read : Bool} {k d w key digest word : List ℕ} {made : Made} → read ≡ true → k ≡ key → d ≡ digest
+    → w ≡ word
     → Shortens true k d w made → Shortens read key digest word made
 shortens-as {made = made} e p q r s = transport (λ i. Shortens (sym e i) (p i) (q i) (r i) made) s
 
-pub rewrites-unread : {read : Bool} {word moves : List ℕ} {made : Made} → read ≡ false → Bare false noAnswer made → Rewrites read word moves made
+pub rewrites-unread : {read : Bool} {word moves : List ℕ} {made : Made} → read ≡ false → Bare false noAnswer made
+    → Rewrites read word moves made
 rewrites-unread e b = record { makes = unread _ _ e b; keeps = λ z. absurd (unanswered b z) }
 
 pub rewrites-as : {read : Bool} {w m word moves : List ℕ} {made : Made} → read ≡ true → w ≡ word → m ≡ moves

@@ -2,9 +2,9 @@
 use Prim.Native.Nat.{ℕ}
 use mathlib.Core.Path.{_≡_, _∙_}
 use mathlib.Core.List.{List}
-use Rattle.braid.specs.Words.{wordAnswer}
-use Rattle.verify.specs.Verdict.{verdict}
-use Rattle.verify.proofs.VerdictIff.{zero-iff-signs}
+use Rattle.word.specs.Words.{wordAnswer}
+use Rattle.slip_verdict.specs.Verdict.{verdict}
+use Rattle.slip_verdict.proofs.VerdictIff.{zero-iff-signs}
 use Rattle.slip_meaning.proofs.FreeReduction.{reduced-means}
 use Rattle.desk_words.specs.Making.{shortFile}
 

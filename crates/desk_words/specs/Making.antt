@@ -7,10 +7,10 @@ use lib.ListN.{length, take, replicate}
 use Rattle.base.specs.Questions.{firstNo, granted}
 use Rattle.base.specs.Lists.{overlaid}
 use Rattle.text.specs.Enough.{Enough, EnoughOfTwo, EnoughOfThree}
-use Rattle.braid.specs.Words.{codes, maxBytes, wordAnswer, wordFile}
-use Rattle.braid.specs.Reduction.{reduced}
-use Rattle.verify.specs.Verdict.{verdict}
-use Rattle.rewriting.specs.Rewriting.{rewritten, rewriterQuestions}
+use Rattle.word.specs.Words.{codes, maxBytes, wordAnswer, wordFile}
+use Rattle.word.specs.Reduction.{reduced}
+use Rattle.slip_verdict.specs.Verdict.{verdict}
+use Rattle.move_kinds.specs.Rewriting.{rewritten, rewriterQuestions}
 use Rattle.slip_meaning.specs.Meaning.{SameMeaning}
 use Rattle.desk_words.specs.declared.Made.{Made}
 

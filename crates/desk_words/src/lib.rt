@@ -1,11 +1,11 @@
-// The verbs of the desk that make a new word, from what was read of their files to what is to be written: a slip's word
-// shortened, a word rewritten by a move list, a word freely reduced. What is read lies in arrays whose sizes are given
-// here and in `desk_line`, so that a buffer of another size does not fit.
+// A new word from files: shortened, rewritten or reduced. What is read lies in arrays whose sizes are given here and in
+// `desk_line`, so that a buffer of another size does not fit.
 use desk_line::Got;
 ghost use mathlib.Core.Path.{_≡_};
 ghost use mathlib.Core.Bool.{true, false, _&&_};
 ghost use lib.ListN.{length, take, replicate};
-ghost use Rattle.desk_words.specs.Making.{noAnswer, Shortens, Rewrites, Reduces, EnoughToShorten, EnoughToRewrite, EnoughToReduce};
+ghost use Rattle.desk_words.specs.Making.{noAnswer, Shortens, Rewrites, Reduces, EnoughToShorten};
+ghost use Rattle.desk_words.specs.Making.{EnoughToRewrite, EnoughToReduce};
 
 // The bytes to read of a move list: one more than it may hold.
 pub const MOVES_ROOM: usize = 2 + 3 * 4096 + 1;
@@ -16,7 +16,7 @@ pub struct Made {
     pub read: bool,
     pub answer: u8,
     pub bytes: usize,
-    pub file: [u8; braid::MAX_BYTES],
+    pub file: [u8; word::MAX_BYTES],
 }
 
 impl Made {
@@ -31,7 +31,7 @@ impl Made {
             read,
             answer,
             bytes: 0,
-            file: [0; braid::MAX_BYTES],
+            file: [0; word::MAX_BYTES],
         }
     }
 
@@ -47,8 +47,8 @@ impl Made {
 fn reduced(word: &[u8]) -> Made
     ensures { λ r. ⌜ Reduces true (now (word .entry)) r ⌝ }
 {
-    let mut file = [0u8; braid::MAX_BYTES];
-    let written = reduction::free_reduce(word, &mut file);
+    let mut file = [0u8; word::MAX_BYTES];
+    let written = word_reduction::free_reduce(word, &mut file);
     let answer = written.answer;
     let bytes = written.bytes;
     Made {
@@ -63,8 +63,8 @@ fn reduced(word: &[u8]) -> Made
 fn rewritten(word: &[u8], moves: &[u8]) -> Made
     ensures { λ r. ⌜ Rewrites true (now (word .entry)) (now (moves .entry)) r ⌝ }
 {
-    let mut file = [0u8; braid::MAX_BYTES];
-    let written = moves::rewrite(word, moves, &mut file);
+    let mut file = [0u8; word::MAX_BYTES];
+    let written = move_rewriter::rewrite(word, moves, &mut file);
     let answer = written.answer;
     let bytes = written.bytes;
     Made {
@@ -80,14 +80,14 @@ fn rewritten(word: &[u8], moves: &[u8]) -> Made
 fn shortened(key: &[u8], digest: &[u8], word: &[u8]) -> Made
     ensures { λ r. ⌜ Shortens true (now (key .entry)) (now (digest .entry)) (now (word .entry)) r ⌝ }
 {
-    let answer = verify::verify(key, digest, word);
+    let answer = slip_verdict::verify(key, digest, word);
     if answer != 0 {
         return Made::bare(true, answer);
     }
     let made = reduced(word);
     let file = made.file;
     let bytes = made.bytes;
-    let again = verify::verify(key, digest, &file[..bytes]);
+    let again = slip_verdict::verify(key, digest, &file[..bytes]);
     if again != 0 {
         return Made::bare(true, again);
     }
@@ -103,8 +103,15 @@ pub fn shorten(
     d: Got,
     w: Got,
 ) -> Made
-    ensures { λ r. ⌜ Shortens (k .read && d .read && w .read) (take (k .bytes) (now (key .entry))) (take (d .bytes) (now (digest .entry))) (take (w .bytes) (now (word .entry))) r ⌝ }
-    ensures { λ _. ⌜ EnoughToShorten (length (now (key .entry))) (length (now (digest .entry))) (length (now (word .entry))) ⌝ }
+    ensures { λ r.
+        ⌜
+        Shortens (k .read && d .read && w .read) (take (k .bytes) (now (key .entry)))
+        (take (d .bytes) (now (digest .entry))) (take (w .bytes) (now (word .entry))) r
+        ⌝ }
+    ensures { λ _.
+        ⌜
+        EnoughToShorten (length (now (key .entry))) (length (now (digest .entry))) (length (now (word .entry)))
+        ⌝ }
 {
     let k_n = k.bytes;
     let d_n = d.bytes;
@@ -120,7 +127,10 @@ pub fn shorten(
 
 // Rewriting the word in a file by the move list in another.
 pub fn rewrite(word: &[u8; desk_line::WORD_ROOM], moves: &[u8; MOVES_ROOM], w: Got, m: Got) -> Made
-    ensures { λ r. ⌜ Rewrites (w .read && m .read) (take (w .bytes) (now (word .entry))) (take (m .bytes) (now (moves .entry))) r ⌝ }
+    ensures { λ r.
+        ⌜
+        Rewrites (w .read && m .read) (take (w .bytes) (now (word .entry))) (take (m .bytes) (now (moves .entry))) r
+        ⌝ }
     ensures { λ _. ⌜ EnoughToRewrite (length (now (word .entry))) (length (now (moves .entry))) ⌝ }
 {
     let w_n = w.bytes;

@@ -1,9 +1,9 @@
-// A case: its operation, a space, its name, and its operands, each after a colon. An operand is bytes in hexadecimal,
-// a space before each; 00*36 is 36 bytes 00.
+// A case is its operation, a space, its name, and its operands, each after a colon. An operand is bytes in hexadecimal,
+// each after a space. 00*36 stands for 36 bytes 00.
 ghost use Prim.Native.Nat.{_≤_, _<_};
 ghost use lib.ListN.{length};
 
-// Writes the name.
+// Prints the name of a case.
 pub(crate) fn name(line: &[u8])
     requires { ⌜ 2 ≤ length (now line) ⌝ }
 {
@@ -11,7 +11,7 @@ pub(crate) fn name(line: &[u8])
     print::text(&line[2..end]);
 }
 
-// The value of a hexadecimal digit; 16 of what is none.
+// The value of a hexadecimal digit, whose letters are in lower case. Any other character gives 16.
 fn digit(c: u8) -> usize
     ensures { λ r. ⌜ r ≤ 16 ⌝ }
 {
@@ -26,7 +26,7 @@ fn byte(high: u8, low: u8) -> u8 {
     ((16 * digit(high) + digit(low)) % 256) as u8
 }
 
-// The decimal number at the front of a text, of four digits at most.
+// The decimal number at the front of a text. If it is longer than four digits, only the last four count.
 fn decimal(text: &[u8]) -> usize {
     let mut value = 0;
     let mut i = 0;
@@ -41,7 +41,7 @@ fn decimal(text: &[u8]) -> usize {
     value
 }
 
-// Puts a byte so many times from a place on, as far as the output goes, and gives the place after them.
+// Writes a byte `times` times from place `from` on, up to the output's end, and returns the place after the last one.
 fn fill(out: &mut [u8], from: usize, byte: u8, times: usize) -> usize {
     let mut n = from;
     let mut left = times;
@@ -57,7 +57,7 @@ fn fill(out: &mut [u8], from: usize, byte: u8, times: usize) -> usize {
     n
 }
 
-// How often a byte stands: once, or as often as the text after it says.
+// How often a byte stands: once, or as often as a * and a number after it say.
 fn times(text: &[u8]) -> usize {
     if text.len() == 0 {
         return 1;
@@ -68,7 +68,8 @@ fn times(text: &[u8]) -> usize {
     decimal(&text[1..])
 }
 
-// Puts the byte that a text starts with, after a space, as often as it stands.
+// Writes the byte at the front of a text, as often as it stands there, and returns the place after it. A text that does
+// not begin with a space and two digits gives no byte.
 fn put(text: &[u8], out: &mut [u8], from: usize) -> usize {
     if text.len() < 3 {
         return from;
@@ -79,7 +80,7 @@ fn put(text: &[u8], out: &mut [u8], from: usize) -> usize {
     fill(out, from, byte(text[1], text[2]), times(&text[3..]))
 }
 
-// The text of operand k, counted from 1; empty if there are fewer.
+// The text of operand k, counted from 1. It is empty if the line has fewer operands.
 fn text_of(line: &[u8], k: usize) -> &[u8] {
     let mut from = 0;
     let mut left = k;
@@ -95,7 +96,7 @@ fn text_of(line: &[u8], k: usize) -> &[u8] {
     &line[from..end]
 }
 
-// Puts operand k at the front of an output, and gives the number of its bytes.
+// Writes operand k to the front of an output, and returns the number of its bytes.
 fn read(line: &[u8], k: usize, out: &mut [u8]) -> usize {
     let text = text_of(line, k);
     let mut n = 0;
@@ -107,12 +108,12 @@ fn read(line: &[u8], k: usize, out: &mut [u8]) -> usize {
     n
 }
 
-// The first n bytes, or all if there are fewer.
+// The first n bytes, or all bytes if there are fewer.
 fn front(bytes: &[u8], n: usize) -> &[u8] {
     if n < bytes.len() { &bytes[0..n] } else { bytes }
 }
 
-// The bytes of operand k, read into some room.
+// The bytes of operand k, written into `room`.
 pub(crate) fn operand<'a>(line: &[u8], k: usize, room: &'a mut [u8]) -> &'a [u8] {
     let n = read(line, k, room);
     front(room, n)
@@ -124,7 +125,7 @@ pub(crate) fn wide(x: u8) -> usize
     x as usize
 }
 
-// The first byte, 0 if there is none.
+// The first byte, or 0 if there is none.
 pub(crate) fn first(bytes: &[u8]) -> u8 {
     if bytes.len() == 0 { 0 } else { bytes[0] }
 }

@@ -1,19 +1,20 @@
-// The papers' worked examples, run over the library. A case is a line of standard input, whose head says how cases are
-// written. For each the program writes its name, then what the operation gives: the answer in decimal, bytes in
-// hexadecimal. What it must write, the file stdout, is typed from the papers or follows from them.
+// Runs the papers' worked examples over the library. A case is a line of standard input, and the head of the input says
+// how cases are written. For each case the program prints its name and what the operation gives: the answer in decimal,
+// bytes in hexadecimal. The file stdout holds the output that the program must give. It is typed from the papers or
+// follows from them.
 mod elements; // elements.rt: products and reciprocals
 mod input; // input.rt: names and operands of cases
 mod keys; // keys.rt: key files, cloaking and verdicts
-mod pairs; // pairs.rt: letters on pairs, and matrices
+mod pairs; // pairs.rt: letters on pairs, and products of matrices
 mod show; // show.rt: pairs and matrices on standard output
 mod words; // words.rt: word files, read and written
 
 use field::Field;
 
-// What an output holds before it is lent.
+// The byte that fills an output before it is lent.
 pub(crate) const FILL: u8 = 0xAA;
 
-// An operation, which goes by a letter, on its operands. Those that a case does not have are empty.
+// Runs the operation that a letter names. An operand that the case does not have is empty.
 fn run(operation: u8, a: &[u8], b: &[u8], c: &[u8], d: &[u8]) {
     match operation {
         b'P' => elements::product(a, b, Field::Gf32),
@@ -35,7 +36,7 @@ fn run(operation: u8, a: &[u8], b: &[u8], c: &[u8], d: &[u8]) {
     }
 }
 
-// The case of a line whose name is written.
+// Runs the case of a line whose name is already printed.
 fn operate(operation: u8, line: &[u8]) {
     let mut first = [0u8; 5002];
     let mut second = [0u8; 130];
@@ -48,7 +49,7 @@ fn operate(operation: u8, line: &[u8]) {
     run(operation, a, b, c, d);
 }
 
-// A line of under two bytes, or one that starts with #, has no case.
+// Runs the case of a line. A line of under two bytes, or one that starts with #, has no case.
 fn case(line: &[u8]) {
     if line.len() < 2 {
         return;

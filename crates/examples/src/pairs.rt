@@ -1,10 +1,10 @@
 // Letters on pairs, and products of matrices.
 use crate::show;
-use action::Multiplied;
-use action::Pair;
 use field::Field;
+use pair::Pair;
+use pair_multiplier::Multiplied;
 
-// The limits that the pair's type states.
+// Prints the limits that the pair's type states.
 pub(crate) fn limits() {
     print::text(b":");
     print::number(Pair::STRANDS);
@@ -12,7 +12,7 @@ pub(crate) fn limits() {
     print::text(b"\n");
 }
 
-// A matrix of entries row by row.
+// The matrix of 64 entries given row by row.
 fn laid_out(rows: &[u8; 64]) -> [u8; 64] {
     let mut matrix = [0u8; 64];
     let mut i = 0;
@@ -23,7 +23,7 @@ fn laid_out(rows: &[u8; 64]) -> [u8; 64] {
     matrix
 }
 
-// The matrix of its entries row by row; the identity where there are none.
+// The matrix of entries given row by row, or the identity if there are none.
 fn matrix_of(entries: &[u8]) -> [u8; 64] {
     let start = Pair::start();
     if entries.len() == 0 {
@@ -34,20 +34,21 @@ fn matrix_of(entries: &[u8]) -> [u8; 64] {
     laid_out(&rows)
 }
 
-// The pair of labels and a matrix; those of the starting pair where there are none.
+// The pair of labels and a matrix. If there are no labels, or no entries, those of the starting pair stand in their
+// place.
 fn pair_of(labels: &[u8], entries: &[u8]) -> Pair {
-    let mut list = [0, 1, 2, 3, 4, 5, 6, 7];
-    base::put(&mut list, labels);
-    Pair::with(matrix_of(entries), list)
+    let mut eight = [0, 1, 2, 3, 4, 5, 6, 7];
+    base::put(&mut eight, labels);
+    Pair::with(matrix_of(entries), eight)
 }
 
-// Letter by letter.
+// Multiplies letters into a pair, one by one, and returns what the last one gives.
 fn after(pair: Pair, t_values: &[u8; 8], codes: &[u8]) -> Multiplied {
     let mut last = Multiplied { answer: 0, pair };
     let mut i = 0;
     while i < codes.len() {
         let pair = last.pair;
-        last = multiplier::multiply(pair, t_values, codes[i], Field::Gf32);
+        last = pair_multiplier::multiply(pair, t_values, codes[i], Field::Gf32);
         i += 1;
     }
     last
@@ -65,7 +66,8 @@ fn show_pair(found: Multiplied) {
     }
 }
 
-// Letters, under the T-values of the plain key where none are given, on a pair.
+// Multiplies letters into a pair and prints the result. If no T-values are given, those of the plain key stand in their
+// place.
 pub(crate) fn letters(codes: &[u8], t_values: &[u8], labels: &[u8], entries: &[u8]) {
     let mut ts = [1, 1, 2, 3, 4, 5, 6, 7];
     base::put(&mut ts, t_values);

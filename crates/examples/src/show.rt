@@ -1,17 +1,17 @@
 // Pairs and matrices on standard output.
-use action::Pair;
+use pair::Pair;
 
-// Are a matrix and a list all zeros?
-pub(crate) fn is_zeros(matrix: &[u8; 64], list: &[u8; 8]) -> bool {
-    base::equal(matrix, &[0; 64]) && base::equal(list, &[0; 8])
+// Are the matrix and the list all zeros?
+pub(crate) fn is_zeros(matrix: &[u8; 64], labels: &[u8; 8]) -> bool {
+    base::equal(matrix, &[0; 64]) && base::equal(labels, &[0; 8])
 }
 
-// Whether what stands beside a refusal is all zeros, to the end of the line.
+// Prints whether the values beside a refusal are all zeros, and ends the line.
 pub(crate) fn zeros(are: bool) {
     print::choice(are, b" zeros\n", b" not zeros\n");
 }
 
-// A matrix: a line for each row.
+// Prints a matrix, one line for each row.
 pub(crate) fn rows(matrix: &[u8; 64]) {
     let mut i = 0;
     while i < 64 {
@@ -24,7 +24,7 @@ pub(crate) fn rows(matrix: &[u8; 64]) {
     print::text(b"\n");
 }
 
-// A pair: its list, then its matrix.
+// Prints a pair: its list, then its matrix.
 pub(crate) fn pair(pair: Pair) {
     let labels = pair.labels;
     let matrix = pair.matrix;

@@ -2,19 +2,19 @@
 use crate::FILL;
 use crate::input::first;
 use crate::input::wide;
-use braid::Letter;
-use braid::Written;
+use word::Letter;
+use word::Written;
 
-// The answer, the number of letters, and the part that holds the codes.
+// Prints the answer, the number of letters, and the part that holds the codes.
 pub(crate) fn read(file: &[u8]) {
-    let found = braid::read_word(file);
+    let found = word::read_word(file);
     print::answer(found.answer);
     print::number(found.letters);
-    print::hex(braid::code_part(file));
+    print::hex(word::code_part(file));
     print::text(b"\n");
 }
 
-// Whether a letter is left, and its code.
+// Prints whether a letter is left, and its code.
 fn show_letter(found: Letter) {
     print::choice(found.left, b": yes", b": no");
     print::byte(found.code);
@@ -22,25 +22,25 @@ fn show_letter(found: Letter) {
 }
 
 pub(crate) fn letter(file: &[u8], place: &[u8]) {
-    show_letter(braid::letter_at(file, wide(first(place))));
+    show_letter(word::letter_at(file, wide(first(place))));
 }
 
-// The letter that a reader of words gives: opened, moved on once, and read.
+// Prints the second letter of a word, from a reader of words that is opened, moved on once, and read.
 pub(crate) fn second(file: &[u8]) {
-    show_letter(reader::second(file));
+    show_letter(word_reader::second(file));
 }
 
-// L: from codes. F: freely reduced. D: from a digest. R: rewritten.
+// Writes a word file: L from codes, F by free reduction, D from a digest, R by rewriting.
 fn written(operation: u8, from: &[u8], moves: &[u8], out: &mut [u8]) -> Written {
     match operation {
-        b'L' => writer::write_word(from, out),
-        b'F' => reduction::free_reduce(from, out),
-        b'D' => digest::encode(from, out),
-        _ => moves::rewrite(from, moves, out),
+        b'L' => word_writer::write_word(from, out),
+        b'F' => word_reduction::free_reduce(from, out),
+        b'D' => slip_digest::encode(from, out),
+        _ => move_rewriter::rewrite(from, moves, out),
     }
 }
 
-// The answer, the number of bytes written, these bytes, and whether the rest of the output kept its bytes.
+// Prints the answer, the number of bytes written, the bytes written, and whether the rest of the output kept its bytes.
 fn write_into(operation: u8, from: &[u8], moves: &[u8], out: &mut [u8]) {
     let done = written(operation, from, moves, out);
     print::answer(done.answer);
@@ -48,7 +48,7 @@ fn write_into(operation: u8, from: &[u8], moves: &[u8], out: &mut [u8]) {
     print::output(out, done.bytes, FILL);
 }
 
-// Into an output that lacks so many bytes of the 5,002.
+// Writes a word file to an output of 5,002 bytes, less the number in `lacks`.
 pub(crate) fn write(operation: u8, from: &[u8], moves: &[u8], lacks: &[u8]) {
     let start = wide(first(lacks));
     let mut out = [FILL; 5002];

@@ -1,6 +1,6 @@
--- The polynomials over two elements, reduced by one of degree n, are a binary field if each element but 0 has a
--- reciprocal: the record of laws asks nothing else of them, whatever the degree. That each has one is computed, by one
--- product for each element: for GF(32) and GF(256), and for two fields that the library does not use, of four and of
+-- The polynomials over two elements, reduced by a polynomial of degree n, are a binary field if each element except 0
+-- has a reciprocal. All other laws hold for every degree from 1 on. antt computes that the reciprocals exist, by one
+-- product for each element, for GF(32) and GF(256), and for two fields that the library does not use, of four and of
 -- sixteen elements.
 use Prim.Native.Nat.{ℕ, zero, suc, _%_, _^_, _≤_, _<_}
 use mathlib.Core.Path.{_≡_, refl, sym, ap, _∙_}
@@ -29,7 +29,7 @@ pub record HasReciprocal (n p a : ℕ) : Type 0 where
   pub below : element < 2 ^ n
   pub product-one : times n p a element ≡ 1
 
--- each element but 0 has one
+-- each element except 0 has a reciprocal
 abbrev pub AllReciprocals : ℕ → ℕ → Type 0
 AllReciprocals n p = (a : ℕ) → 0 < a → a < 2 ^ n → HasReciprocal n p a
 
@@ -53,13 +53,13 @@ polynomials-field {n} {p} degree all =
           (let r = all a pos below in times-reciprocal n p a (r .element) (r .below) (r .product-one));
     }
 
--- ---- how to show that each has one
+-- ---- how to show that each element has a reciprocal
 
--- the products of 1 to m, each with the number that g names for it
+-- for each of 1 to m, its product with the number that g names for it
 abbrev named-products : ℕ → ℕ → ℕ → (ℕ → ℕ) → List ℕ
 named-products n p m g = values (λ k. times n p (suc k) (g (suc k) % 2 ^ n)) m
 
--- 1 to m are the elements but 0, and all these products are 1
+-- if 1 to m are the elements except 0, and all these products are 1, each element except 0 has a reciprocal
 pub all-one : (n p m : ℕ) (g : ℕ → ℕ) → 2 ^ n ≡ suc m → named-products n p m g ≡ values (λ k. 1) m → AllReciprocals n p
 all-one n p m g e all zero pos below = absurd (not-suc-le-zero pos)
 all-one n p m g e all (suc k) pos below =
@@ -73,28 +73,28 @@ all-one n p m g e all (suc k) pos below =
           ∙ getD-values (λ k. 1) m k h;
     }
 
--- where x^j takes a to 1, for a j below k, x^j times b
+-- x^j times b, for the first j below k with x^j × a = 1; 0 if there is none
 pub towards : ℕ → ℕ → ℕ → ℕ → ℕ → ℕ
 towards n p zero a b = 0
 towards n p (suc k) a b = elim (eqb a 1) [ true ↦ b | false ↦ towards n p k (timesX n p a) (timesX n p b) ]
 
--- the power of x that takes a to 1; 0 if there is none
+-- the power of x whose product with a is 1; 0 if there is none
 abbrev powerTo1 : ℕ → ℕ → ℕ → ℕ
 powerTo1 n p a = towards n p (2 ^ n) a 1
 
--- where x is a generator, each element but 0 has such a power
+-- where x is a generator, the reciprocals are powers of x
 pub by-powers : (n p m : ℕ) → 2 ^ n ≡ suc m → named-products n p m (powerTo1 n p) ≡ values (λ k. 1) m
     → AllReciprocals n p
 by-powers n p m = all-one n p m (powerTo1 n p)
 
 -- ---- the two fields of the library
 
--- the degrees
+-- the polynomial of each field has the degree that the bits of an element say
 pub degree : (f : Field) → Degree (bits f) (modulus f)
 degree Gf32 = record { positive = lit< tt; from = lit≤ tt; to = lit< tt }
 degree Gf256 = record { positive = lit< tt; from = lit≤ tt; to = lit< tt }
 
--- an element is a byte
+-- an element has at most eight bits
 pub narrow : (f : Field) → bits f ≤ 8
 narrow Gf32 = lit≤ tt
 narrow Gf256 = lit≤ tt
@@ -110,17 +110,17 @@ gf256-field : BinaryField (operations Gf256)
 unfolding valuesFrom timesX horner times towards
 gf256-field = polynomials-field (degree Gf256) (by-powers 8 (modulus Gf256) 255 refl refl)
 
--- a field by its name
+-- the name of a field, as one of two, gives back the field
 pub named : (f : Field) → fieldOf (isLarge f) ≡ f
 named Gf32 = refl
 named Gf256 = refl
 
--- both are binary fields
+-- both fields of the library are binary fields
 pub binary : (f : Field) → BinaryField (operations f)
 binary Gf32 = gf32-field
 binary Gf256 = gf256-field
 
--- ---- two that it does not use
+-- ---- two fields that the library does not use
 
 -- the field of four elements: x^2 + x + 1
 pub gf4-field : BinaryField (polynomials 2 0b111)
@@ -128,7 +128,7 @@ unfolding valuesFrom timesX horner times towards
 gf4-field =
     polynomials-field (record { positive = lit< tt; from = lit≤ tt; to = lit< tt }) (by-powers 2 0b111 3 refl refl)
 
--- a field of sixteen elements: x^4 + x^3 + x^2 + x + 1, by which x^5 = 1, so that x is no generator
+-- a field of sixteen elements: x^4 + x^3 + x^2 + x + 1. There x^5 = 1, so x is not a generator
 pub gf16-field : BinaryField (polynomials 4 0b11111)
 unfolding valuesFrom timesX horner times first reciprocalOf
 gf16-field =

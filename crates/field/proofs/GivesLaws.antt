@@ -1,4 +1,4 @@
--- What an operation of a field gives: the element where every question is passed, and 0 on a refusal.
+-- An operation of a field gives the element if every question is passed, and 0 on a refusal.
 use Prim.Native.Nat.{ℕ, suc}
 use mathlib.Core.Path.{_≡_, sym, _∙_}
 use mathlib.Core.List.{List}

@@ -1,7 +1,7 @@
--- Products of polynomials over two elements, reduced by a polynomial p of degree n: the laws of a ring, for every
--- degree from 1 on and every p. One step, x times a, is linear. So is then the multiplication by any b, and it commutes
--- with the step; hence (c × a) × b = (c × b) × a. With 1 × a = a that gives commutativity and associativity. Products
--- read the n low bits of their factors alone, so that only the law of 1 names a bound.
+-- Products of polynomials over two elements, reduced by a polynomial p of degree n, have the laws of a ring, for every
+-- degree from 1 on and every p. One step, x times a, is linear. Therefore the multiplication by any b is linear too,
+-- and it commutes with the step. Hence (c × a) × b = (c × b) × a. With 1 × a = a, this equation gives commutativity and
+-- associativity. Products depend only on the n low bits of their factors, so only the law of 1 names a bound.
 use Prim.Native.Nat.{ℕ, zero, suc, _+_, _-_, _*_, _/_, _%_, _^_, _≤_, _<_}
 use mathlib.Core.Path.{_≡_, refl, sym, ap, ap₂, _∙_}
 use mathlib.Core.Bool.{Bool, true, false, cond}
@@ -18,11 +18,11 @@ use Rattle.field.proofs.Xor.{by-digit, xor-swap, xor-double}
 two-pos : 0 < 2
 two-pos = zero-lt-suc 1
 
--- v where the digit t is 1, and 0 where it is 0
+-- v if the digit t is 1, otherwise 0
 abbrev pub pick : ℕ → ℕ → ℕ
 pick t v = cond (eqb t 1) v 0
 
--- a map that keeps 0 goes through
+-- a map that keeps 0 commutes with `pick`
 pick-map : (f : ℕ → ℕ) → f 0 ≡ 0 → (t v : ℕ) → f (pick t v) ≡ pick t (f v)
 pick-map f z t v = go (eqb t 1)
   where
@@ -53,7 +53,7 @@ module _ {n p : ℕ} (degree : Degree n p) where
   one-below-size : 1 < 2 ^ n
   one-below-size = pow-lt (degree .positive)
 
-  -- the coefficient of x^n in a polynomial of degree n at most
+  -- the coefficient of x^n in a polynomial of degree at most n: 0 if the number is below 2^n, otherwise 1
   low-top : (c : ℕ) → c < 2 ^ n → c / 2 ^ n ≡ 0
   low-top c h = div-eq-of-lt h
 
@@ -103,7 +103,7 @@ module _ {n p : ℕ} (degree : Degree n p) where
   step-zero : timesX n p 0 ≡ 0
   step-zero = step-is 0 (pow-pos n) ∙ ap (λ (x : ℕ). pick x p) (low-top 0 (pow-pos n))
 
-  -- where the degree stays below n, the step doubles
+  -- if the degree stays below n, the step doubles the number
   step-double : (a : ℕ) → a * 2 < 2 ^ n → timesX n p a ≡ a * 2
   step-double a h =
       step-is a (omega arith) ∙ ap (λ (x : ℕ). bitXor (a * 2) (pick x p)) (low-top (a * 2) h) ∙ xor-zero-r (a * 2)
@@ -152,13 +152,14 @@ module _ {n p : ℕ} (degree : Degree n p) where
       ∙ sym (step-sum (timesX n p u) (pick t (a % 2 ^ n)) (step-below u (horner-below a k (b / 2)))
       (pick-below t (a % 2 ^ n) (2 ^ n) (pow-pos n) (mod-lt a (pow-pos n))))
 
-  -- the lowest bit of b first: a is added where it is 1, and what is left of b multiplies x times a
+  -- Horner's rule from the lowest bit of b: x times a is multiplied by the rest of b, and a is added if the lowest bit
+  -- is 1
   pub horner-first : (a k b : ℕ) → a < 2 ^ n
       → horner n p a (suc k) b ≡ bitXor (horner n p (timesX n p a) k (b / 2)) (pick (b % 2) a)
   unfolding horner
   horner-first a k b h = ap₂ bitXor (sym (horner-step a k (b / 2) h)) (ap (pick (b % 2)) (mod-eq-of-lt h))
 
-  -- two multiplications of c, in either order
+  -- c may be multiplied by two numbers in either order
   horner-past : (c k a j b : ℕ) → horner n p (horner n p c k a) j b ≡ horner n p (horner n p c j b) k a
   unfolding horner
   horner-past c zero a j b = horner-zero j b
@@ -170,7 +171,7 @@ module _ {n p : ℕ} (degree : Degree n p) where
       (pick-map (λ (x : ℕ). horner n p x j b) (horner-zero j b) t (c % 2 ^ n)
       ∙ ap (pick t) (horner-low c j b ∙ sym (mod-eq-of-lt (horner-below c j b))))
 
-  -- 1 times the k low bits of b
+  -- 1 times the k low bits of b is these k bits
   horner-one : (k b : ℕ) → k ≤ n → horner n p 1 k b ≡ b % 2 ^ k
   unfolding horner
   horner-one zero b h = sym (mod-one b)
@@ -192,7 +193,7 @@ module _ {n p : ℕ} (degree : Degree n p) where
   unfolding times
   times-below a b = horner-below a n b
 
-  -- products read the n low bits alone
+  -- a product depends only on the n low bits of its first factor
   pub times-low : (a b : ℕ) → times n p (a % 2 ^ n) b ≡ times n p a b
   unfolding times
   times-low a b = horner-low a n b
@@ -208,7 +209,7 @@ module _ {n p : ℕ} (degree : Degree n p) where
   unfolding times
   zero-times b = horner-zero n b
 
-  -- x times a factor is x times the product
+  -- (x × a) × b = x × (a × b)
   pub times-step : (a b : ℕ) → a < 2 ^ n → times n p (timesX n p a) b ≡ timesX n p (times n p a b)
   unfolding times
   times-step a b h = horner-step a n b h
@@ -238,7 +239,8 @@ module _ {n p : ℕ} (degree : Degree n p) where
       let l = a % 2 ^ n in
       sym (times-low a b) ∙ times-comm l b ∙ sym (times-low b l) ∙ times-comm (b % 2 ^ n) l
 
-  -- the product with x^0, and with each further power of x below x^n: x times the last
+  -- the product with x^0 is the n low bits of a. The product with each further power of x below x^n is x times the
+  -- product with the power before it
   pub times-one : (a : ℕ) → times n p a 1 ≡ a % 2 ^ n
   times-one a = times-comm a 1 ∙ one-times-low a
 

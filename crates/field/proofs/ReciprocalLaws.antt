@@ -1,5 +1,5 @@
--- The reciprocal as the first element that passes a test: it is found if there is one, it is below the size, and it is
--- the only one. For every degree from 1 on and every polynomial of that degree.
+-- The reciprocal is the first element that passes a test. The search finds it if there is one. It is below the size,
+-- and no other element passes the test. The laws hold for every degree from 1 on and every polynomial of that degree.
 use Prim.Native.Nat.{ℕ, zero, suc, _+_, _^_, _≤_, _<_}
 use mathlib.Core.Path.{_≡_, refl, sym, ap, _∙_}
 use mathlib.Core.Bool.{Bool, true, false, cond, false≢true}
@@ -15,11 +15,11 @@ passes-at : (f : ℕ → Bool) (i r : ℕ) (t : Bool) → f i ≡ t → (f i ≡
 passes-at f i r true e h = e
 passes-at f i r false e h = h e
 
--- a number that passes is not one that fails
+-- a number that passes the test is not a number that fails it
 apart : (f : ℕ → Bool) (i b : ℕ) → f i ≡ false → f b ≡ true → i ≡ b → ⊥
 apart f i b z e q = false≢true (sym z ∙ ap f q ∙ e)
 
--- among k numbers from i on, one passes: the first that does passes
+-- if one of the k numbers from i on passes the test, the number that `first` finds passes it
 first-passes : (f : ℕ → Bool) (i k b : ℕ) → i ≤ b → b < i + k → f b ≡ true → f (first f i k) ≡ true
 unfolding first
 first-passes f i zero b l h e = let z : ⊥ = omega arith in absurd z
@@ -31,7 +31,7 @@ choice-below : (t : Bool) (i r m : ℕ) → i < m → r < m → cond t i r < m
 choice-below true i r m h k = h
 choice-below false i r m h k = k
 
--- the search stays below a bound of all its numbers
+-- if m is above 0 and above all numbers tried, the number that `first` finds is below m
 first-below : (f : ℕ → Bool) (i k m : ℕ) → 0 < m → i + k ≤ m → first f i k < m
 unfolding first
 first-below f i zero m p h = p
@@ -42,7 +42,7 @@ pub reciprocal-below : (n p a : ℕ) → reciprocalOf n p a < 2 ^ n
 unfolding reciprocalOf
 reciprocal-below n p a = first-below (λ b. eqb (times n p a b) 1) 0 (2 ^ n) (2 ^ n) (pow-pos n) (omega arith)
 
--- where some element's product with a is 1, the reciprocal's is
+-- if the product of a and some element is 1, the product of a and its reciprocal is 1
 pub times-reciprocal : (n p a b : ℕ) → b < 2 ^ n → times n p a b ≡ 1 → times n p a (reciprocalOf n p a) ≡ 1
 unfolding reciprocalOf
 times-reciprocal n p a b h e =
@@ -50,7 +50,7 @@ times-reciprocal n p a b h e =
     eqb-true (times n p a (first f 0 (2 ^ n))) 1
     (first-passes f 0 (2 ^ n) b (omega arith) (omega arith) (eq-eqb (times n p a b) 1 e))
 
--- and it is that element
+-- an element whose product with a is 1 is the reciprocal of a
 pub reciprocal-unique : {n p : ℕ} → Degree n p → (a b : ℕ) → b < 2 ^ n → times n p a b ≡ 1 → reciprocalOf n p a ≡ b
 reciprocal-unique {n} {p} degree a b h e =
     let r = reciprocalOf n p a in
@@ -60,7 +60,7 @@ reciprocal-unique {n} {p} degree a b h e =
     ∙ ap (λ (x : ℕ). times n p x b) (times-reciprocal n p a b h e)
     ∙ one-times degree b h
 
--- nothing times 0 is 1, so that 0 has none
+-- no product with 0 is 1, so the reciprocal of 0 is 0
 pub reciprocal-zero : {n p : ℕ} → Degree n p → reciprocalOf n p 0 ≡ 0
 unfolding reciprocalOf first
 reciprocal-zero {n} {p} degree = none 0 (2 ^ n)

@@ -1,6 +1,6 @@
--- Rules for `simp` in any binary field, given as a variable record of operations and its laws. `simp ring` sorts sums
--- and products and lets equal terms cancel; `simp (ring, reciprocals)` cancels a reciprocal against its element too,
--- where the hypotheses say that the element is above 0 and below the size.
+-- Rules for `simp` in any binary field. The field is a variable: a record of operations and a record of their laws.
+-- `simp ring` sorts sums and products and cancels equal terms. `simp (ring, reciprocals)` also cancels an element
+-- against its reciprocal, if the hypotheses say that the element is above 0 and below the size.
 use Prim.Native.Nat.{ℕ, _<_}
 use mathlib.Core.Path.{_≡_, sym, ap, _∙_}
 use Rattle.field.specs.Binary.{Operations, BinaryField}
@@ -24,7 +24,7 @@ module _ {F : Operations} (L : BinaryField F) where
   pub add-self : (a : ℕ) → F .add a a ≡ 0
   add-self = L .add-self
 
-  -- a term that is added twice goes away
+  -- a term that is added twice cancels
   pub twice : (a b : ℕ) → F .add a (F .add a b) ≡ b
   twice a b = sym (L .add-assoc a a b) ∙ ap (λ (x : ℕ). F .add x b) (L .add-self a) ∙ L .zero-add b
 
@@ -55,7 +55,7 @@ module _ {F : Operations} (L : BinaryField F) where
   pub mul-one : (a : ℕ) → a < F .size → F .mul a 1 ≡ a
   mul-one a h = L .mul-comm a 1 ∙ L .one-mul h
 
-  -- a product is below the size, whatever its factors are, so that a factor 1 goes away beside any two others
+  -- 1 × (a × b) = a × b needs no bound on a and b, because every product is below the size
   pub one-mul-mul : (a b : ℕ) → F .mul 1 (F .mul a b) ≡ F .mul a b
   one-mul-mul a b = L .one-mul (L .mul-below a b)
 
@@ -91,7 +91,7 @@ pub ruleset ring = (
   one-mul-inv,
 )
 
--- two factors whose product is 1 go away, wherever sorting puts them: side by side, or with up to two factors between
+-- two factors whose product is 1 cancel, wherever sorting puts them: side by side, or with one or two factors between
 -- them
 module _ {F : Operations} (L : BinaryField F) (p q : ℕ) (e : F .mul p q ≡ 1) where
   over : (x u w : ℕ) → F .mul p u ≡ w → F .mul p (F .mul x u) ≡ F .mul x w
@@ -112,7 +112,7 @@ module _ {F : Operations} (L : BinaryField F) (p q : ℕ) (e : F .mul p q ≡ 1)
   two-between-more : (x y z : ℕ) → F .mul p (F .mul x (F .mul y (F .mul q z))) ≡ F .mul x (F .mul y z)
   two-between-more x y z = over x (F .mul y (F .mul q z)) (F .mul y z) (one-between-more y z)
 
--- the same for an element a other than 0 and its reciprocal, in either order
+-- an element other than 0 and its reciprocal cancel, whichever of the two stands first
 module _ {F : Operations} (L : BinaryField F) (a : ℕ) (pos : 0 < a) (below : a < F .size) where
   pub mul-inv : F .mul a (F .inv a) ≡ 1
   mul-inv = L .mul-inv pos below

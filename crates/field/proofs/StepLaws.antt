@@ -1,4 +1,5 @@
--- Products by steps: x times a by one exclusive or, and a turn of the loop over the bits of a factor, the lowest first.
+-- Products by steps: x times a is one exclusive or. One iteration of the loop takes one bit of a factor, the lowest
+-- first.
 use Prim.Native.Nat.{ℕ, suc, _*_, _/_, _%_, _^_, _<_}
 use mathlib.Core.Path.{_≡_, sym, ap, _∙_}
 use native.Mathlib.Nat.{mod-lt, one-mul, zero-mul}
@@ -8,7 +9,7 @@ use Rattle.field.specs.Polynomial.{Degree, timesX, horner}
 use Rattle.field.proofs.Xor.{by-digit, xor-assoc}
 use Rattle.field.proofs.Laws.{pick, top-below, step-is, horner-first}
 
--- a digit times a number
+-- `pick` by a digit is multiplication by the digit
 digit-times : (t v : ℕ) → t < 2 → pick t v ≡ t * v
 digit-times t v h = by-digit (λ (x : ℕ). pick x v ≡ x * v) (sym (zero-mul v)) (sym (one-mul v)) t h
 
@@ -21,7 +22,7 @@ module _ {n p : ℕ} (degree : Degree n p) where
   step-by a h =
       step-is degree a h ∙ ap (bitXor (a * 2)) (digit-times (a * 2 / 2 ^ n) p (top-below degree (a * 2) (omega arith)))
 
-  -- a turn: what is added to the total, and what the rest multiplies
+  -- one iteration keeps the sum of the total and the product that is left to add
   pub turn : (total t k b : ℕ) → t < 2 ^ n
       → bitXor (bitXor total (b % 2 * t)) (horner n p (timesX n p t) k (b / 2)) ≡ bitXor total (horner n p t (suc k) b)
   turn total t k b h =

@@ -1,5 +1,5 @@
--- Wrong operations of the larger field are shut out by their contracts, which see bytes alone: the product by x^8 + x^4
--- + x^3 + x + 1, 17 for an element over 31, and the smaller field's reciprocals.
+-- The contracts shut out wrong operations of the larger field: the product reduced by x^8 + x^4 + x^3 + x + 1, the
+-- answer 17 for an element over 31, and the smaller field's reciprocals. Each contract is assumed for bytes alone.
 use Prim.Native.Nat.{ℕ, _<_}
 use mathlib.Core.Path.{_≡_, refl, sym, _∙_}
 use native.Mathlib.Omega.{arith}
@@ -15,7 +15,7 @@ use Rattle.field.proofs.ReciprocalLaws.{reciprocal-unique}
 module _ (answer value : ℕ → ℕ → ℕ)
     (right : (a b : ℕ) → a < 256 → b < 256
     → Gives (productQuestions Gf256 a b) (operations Gf256 .mul a b) (answer a b) (value a b)) where
-  -- 128 × 2 is x^8, which is x^4 + x^3 + x^2 + 1, 29; by the other polynomial it would be 27
+  -- 128 × 2 is x^8, which reduces to x^4 + x^3 + x^2 + 1 = 29. The other polynomial gives 27
   pub no-other-polynomial : value 128 2 ≡ 27 → ⊥
   unfolding firstNo granted timesX horner times
   no-other-polynomial wrong =
@@ -28,7 +28,7 @@ module _ (answer value : ℕ → ℕ → ℕ)
 module _ (answer value : ℕ → ℕ)
     (right : (a : ℕ) → a < 256
     → Gives (reciprocalQuestions Gf256 a) (operations Gf256 .inv a) (answer a) (value a)) where
-  -- the reciprocal of 2 is 142, and in the smaller field 18
+  -- the reciprocal of 2 is 142 in the larger field and 18 in the smaller
   pub no-small-reciprocals : value 2 ≡ operations Gf32 .inv 2 → ⊥
   unfolding firstNo granted timesX horner times
   no-small-reciprocals wrong =

@@ -1,4 +1,4 @@
--- Laws of the sum of polynomials, `bitXor`: it is associative, and doubling passes through it.
+-- Laws of the sum of polynomials, `bitXor`: it is associative, and twice a sum is the sum of the doubles.
 use Prim.Native.Nat.{ℕ, zero, suc, _+_, _*_, _/_, _%_, _<_}
 use mathlib.Core.Path.{_≡_, refl, sym, ap, ap₂, _∙_}
 use native.Mathlib.Nat.{le-refl, mod-lt, zero-lt-suc, le-of-suc-le-suc, not-suc-le-zero, mul-div-cancel, mul-mod-left}
@@ -9,7 +9,7 @@ use lib.Bits.{bitXor, differ, xor-step, xor-comm, xor-shr}
 two-pos : 0 < 2
 two-pos = zero-lt-suc 1
 
--- what holds at both digits holds at each number below 2
+-- a statement that holds of 0 and of 1 holds of every number below 2
 pub by-digit {ℓ} : (P : ℕ → Type ℓ) → P 0 → P 1 → (x : ℕ) → x < 2 → P x
 by-digit P p q zero h = p
 by-digit P p q (suc zero) h = q
@@ -44,7 +44,7 @@ xor-assoc =
 xor-left-comm : (a b c : ℕ) → bitXor a (bitXor b c) ≡ bitXor b (bitXor a c)
 xor-left-comm a b c = sym (xor-assoc a b c) ∙ ap (λ (x : ℕ). bitXor x c) (xor-comm a b) ∙ xor-assoc b a c
 
--- a sum of sums, regrouped
+-- (a + b) + (c + d) = (a + c) + (b + d)
 pub xor-swap : (a b c d : ℕ) → bitXor (bitXor a b) (bitXor c d) ≡ bitXor (bitXor a c) (bitXor b d)
 xor-swap a b c d = xor-assoc a b (bitXor c d) ∙ ap (bitXor a) (xor-left-comm b c d) ∙ sym (xor-assoc a c (bitXor b d))
 

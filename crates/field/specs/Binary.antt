@@ -1,16 +1,17 @@
--- Binary fields: finite fields in which a + a = 0, with elements 0 to size - 1.
--- The operations are total on all numbers; the laws name a bound only where they need it.
+-- A binary field is a finite field in which a + a = 0. Its elements are 0 to size - 1. The operations are defined on
+-- all numbers. A law names a bound only where it needs one.
 use Prim.Native.Nat.{ℕ, _<_}
 use mathlib.Core.Path.{_≡_}
 
--- size, sum, product and reciprocal. Minus changes nothing, so there is no difference
+-- the size, sum, product and reciprocal. Minus changes nothing, so subtraction needs no operation of its own
 pub record Operations : Type 0 where
   pub size : ℕ
   pub add : ℕ → ℕ → ℕ
   pub mul : ℕ → ℕ → ℕ
   pub inv : ℕ → ℕ
 
--- the laws of a binary field, for any size and operations. Those with no bound hold of every number, an element or not
+-- the laws of a binary field, for any size and operations. A law without a bound holds of every number, even of one
+-- that is not an element
 pub record BinaryField (F : Operations) : Type 0 where
   pub zero-below : 0 < F .size
   pub one-below : 1 < F .size

@@ -1,4 +1,4 @@
--- The two public operations on elements of a field, product and reciprocal, with their questions.
+-- The two public operations on elements of a field, product and reciprocal, and the questions that they ask.
 use Prim.Native.Nat.{ℕ}
 use mathlib.Core.Path.{_≡_}
 use mathlib.Core.Bool.{Bool, not}
@@ -8,7 +8,7 @@ use Rattle.base.specs.Questions.{Question, _else_, firstNo, granted}
 use Rattle.field.specs.Fields.{operations}
 use Rattle.field.specs.declared.Field.{Field}
 
--- is the number an element of the field?
+-- question 17: is the number below q, the size of the field?
 abbrev pub isElement : Field → ℕ → Bool
 isElement f a = ltb a (operations f .size)
 
@@ -20,7 +20,8 @@ productQuestions f a b = (isElement f a else 17) ∷ (isElement f b else 17) ∷
 abbrev pub reciprocalQuestions : Field → ℕ → List Question
 reciprocalQuestions f a = (isElement f a else 17) ∷ (not (eqb a 0) else 4) ∷ []
 
--- an answer, and beside it an element, which is 0 on a refusal
+-- the answer is the number of the first question answered no, or 0. The value is the element if the answer is 0; on a
+-- refusal the value is 0
 pub record Gives (questions : List Question) (element answer value : ℕ) : Type 0 where
   pub answer-is : answer ≡ firstNo questions
   pub value-is : value ≡ granted (firstNo questions) element 0

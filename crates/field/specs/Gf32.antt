@@ -1,4 +1,4 @@
--- GF(32) by its name, and the table of its products.
+-- The field GF(32) under a short name, and the table of its products.
 use Prim.Native.Nat.{ℕ, _/_, _%_}
 use mathlib.Core.List.{List}
 use Rattle.base.specs.Lists.{values}

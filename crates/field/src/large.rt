@@ -1,4 +1,4 @@
-// The reciprocals of GF(256), named by one function, and its products.
+// The products of GF(256), and the table of its reciprocals.
 use crate::Element;
 use crate::LARGE_BITS;
 use crate::LARGE_MODULUS;
@@ -6,10 +6,10 @@ use crate::steps::times;
 ghost use mathlib.Core.Path.{_≡_};
 ghost use Rattle.field.specs.Fields.{bits, modulus, operations};
 ghost use Rattle.field.specs.Elements.{productQuestions, Gives};
-ghost use Rattle.field.specs.Reciprocals.{reciprocals};
+ghost use Rattle.field.specs.steps.Reciprocals.{reciprocals};
 ghost use Rattle.field.specs.declared.Field.the-variants.{Gf256};
 
-// Field product, by steps. Every byte is an element.
+// Field product, by steps. Every byte is an element, so every question is passed.
 pub(crate) fn large_product(a: u8, b: u8) -> Element
     ensures { λ r. ⌜ Gives (productQuestions Gf256 a b) (operations Gf256 .mul a b) (r .answer) (r .value) ⌝ }
 {
@@ -19,7 +19,7 @@ pub(crate) fn large_product(a: u8, b: u8) -> Element
     }
 }
 
-// The table of reciprocals.
+// Only this function names the table.
 pub fn large_reciprocals() -> [u8; 255]
     ensures { λ r. ⌜ r ≡ reciprocals (bits Gf256) (modulus Gf256) ⌝ }
 {

@@ -1,12 +1,12 @@
-// The two fields, GF(32) and GF(256): polynomials over two elements, reduced by x^5 + x^2 + 1 and by
-// x^8 + x^4 + x^3 + x^2 + 1.
+// GF(32) and GF(256): products, reciprocals, the laws of a binary field. GF(32) is reduced by x^5 + x^2 + 1. GF(256) is
+// reduced by x^8 + x^4 + x^3 + x^2 + 1.
 ghost use mathlib.Core.Path.{_≡_};
 ghost use Rattle.field.specs.Fields.{bits, modulus, operations, fieldOf, isLarge};
-ghost use Rattle.field.specs.Reciprocals.{reciprocals};
+ghost use Rattle.field.specs.steps.Reciprocals.{reciprocals};
 ghost use Rattle.field.specs.Elements.{productQuestions, reciprocalQuestions, Gives};
 
-mod large; // large.rt: all reciprocals of GF(256), and its products by steps
-mod small; // small.rt: all products and all reciprocals of GF(32)
+mod large; // large.rt: the reciprocals of GF(256), and its products by steps
+mod small; // small.rt: the products and the reciprocals of GF(32)
 mod steps; // steps.rt: products and reciprocals in any field whose elements are bytes
 
 pub use large::large_reciprocals;
@@ -14,8 +14,8 @@ pub use small::small_reciprocals;
 pub use steps::inverse;
 pub use steps::times_x;
 
-// One of the two fields. A function that is handed it alone takes it apart once, and lends what is below it the bits of
-// an element, the polynomial and the tables.
+// One of the two fields. A function that receives only the field matches on it once. It lends the functions below it
+// the bits of an element, the polynomial and the tables.
 pub enum Field {
     Gf32,
     Gf256,
@@ -35,14 +35,13 @@ pub struct Element {
     pub value: u8,
 }
 
-// The field that is named as one of two, the larger or the other.
+// The field that a caller names as one of two: true is the larger field.
 pub fn field_of(large: bool) -> Field
     ensures { λ r. ⌜ r ≡ fieldOf large ⌝ }
 {
     if large { Field::Gf256 } else { Field::Gf32 }
 }
 
-// Is it the larger one?
 pub fn is_large(f: Field) -> bool
     ensures { λ r. ⌜ r ≡ isLarge f ⌝ }
 {
@@ -52,7 +51,7 @@ pub fn is_large(f: Field) -> bool
     }
 }
 
-// Field product: 17 where an operand is no element.
+// Field product. The answer is 17 if an operand is not an element.
 pub fn product(a: u8, b: u8, f: Field) -> Element
     ensures { λ r. ⌜ Gives (productQuestions f a b) (operations f .mul a b) (r .answer) (r .value) ⌝ }
 {
@@ -62,7 +61,8 @@ pub fn product(a: u8, b: u8, f: Field) -> Element
     }
 }
 
-// Reciprocal by the field's table of them: 17 where the operand is past its end, then 4 where it is zero.
+// Looks the reciprocal up in the field's table. The answer is 17 if the operand is greater than the table's length,
+// then 4 if the operand is zero.
 fn reciprocal_by(a: u8, table: &[u8], f: Field) -> Element
     requires { ⌜ now table ≡ reciprocals (bits f) (modulus f) ⌝ }
     ensures { λ r. ⌜ Gives (reciprocalQuestions f a) (operations f .inv a) (r .answer) (r .value) ⌝ }
@@ -85,7 +85,7 @@ fn reciprocal_by(a: u8, table: &[u8], f: Field) -> Element
     }
 }
 
-// Reciprocal: 17 where the operand is no element, then 4 where it is zero.
+// Reciprocal. The answer is 17 if the operand is not an element, then 4 if it is zero.
 pub fn reciprocal(a: u8, f: Field) -> Element
     ensures { λ r. ⌜ Gives (reciprocalQuestions f a) (operations f .inv a) (r .answer) (r .value) ⌝ }
 {

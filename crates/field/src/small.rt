@@ -1,20 +1,20 @@
-// The tables of GF(32), each named by one function, and its products.
+// The products of GF(32), and the tables of its products and reciprocals.
 use crate::Element;
 ghost use mathlib.Core.Path.{_≡_};
 ghost use Rattle.field.specs.Gf32.{gf32, products};
 ghost use Rattle.field.specs.Fields.{bits, modulus};
 ghost use Rattle.field.specs.Elements.{productQuestions, Gives};
-ghost use Rattle.field.specs.Reciprocals.{reciprocals};
+ghost use Rattle.field.specs.steps.Reciprocals.{reciprocals};
 ghost use Rattle.field.specs.declared.Field.the-variants.{Gf32};
 
-// The table of products.
+// Only this function names the table.
 fn table() -> [u8; 1024]
     ensures { λ r. ⌜ r ≡ products ⌝ }
 {
     PRODUCTS
 }
 
-// A product, by the table. Factors count by their five low bits.
+// Looks the product up in the table. Only the five low bits of each factor count.
 fn product(a: u8, b: u8) -> u8
     ensures { λ r. ⌜ r ≡ gf32 .mul a b ⌝ }
 {
@@ -24,7 +24,7 @@ fn product(a: u8, b: u8) -> u8
     products[32 * i + j]
 }
 
-// Field product, by the table: 17 where an operand is not below 32.
+// Field product, by the table. The answer is 17 if an operand is not below 32.
 pub(crate) fn small_product(a: u8, b: u8) -> Element
     ensures { λ r. ⌜ Gives (productQuestions Gf32 a b) (gf32 .mul a b) (r .answer) (r .value) ⌝ }
 {
@@ -46,7 +46,7 @@ pub(crate) fn small_product(a: u8, b: u8) -> Element
     }
 }
 
-// The table of reciprocals.
+// Only this function names the table.
 pub fn small_reciprocals() -> [u8; 31]
     ensures { λ r. ⌜ r ≡ reciprocals (bits Gf32) (modulus Gf32) ⌝ }
 {

@@ -1,11 +1,12 @@
-// Products and reciprocals in any field of polynomials whose elements are bytes, by what is lent of the field.
+// Products and reciprocals in any field of polynomials whose elements are bytes. The caller lends the bits of an
+// element and the polynomial, or the table of reciprocals.
 ghost use mathlib.Core.Path.{_≡_};
 ghost use Prim.Native.Nat.{_%_, _^_, _<_, _≤_};
 ghost use lib.ListN.{length};
 ghost use Rattle.field.specs.Polynomial.{Degree, timesX, times};
-ghost use Rattle.field.specs.Reciprocals.{lookedUp};
+ghost use Rattle.field.specs.steps.Reciprocals.{lookedUp};
 
-// x times a: where the degree reaches the polynomial's, the polynomial is taken away.
+// x times a. If the degree reaches the polynomial's degree, the polynomial is subtracted, which is exclusive or.
 pub fn times_x(a: u64, bits: usize, modulus: u64) -> u64
     requires { ⌜ Degree bits modulus × (bits ≤ 8) × (a < 2 ^ bits) ⌝ }
     ensures { λ r. ⌜ (r ≡ timesX bits modulus a) × (r < 2 ^ bits) ⌝ }
@@ -15,7 +16,7 @@ pub fn times_x(a: u64, bits: usize, modulus: u64) -> u64
     doubled ^ (top * modulus)
 }
 
-// The low bits of a number.
+// The `bits` low bits of a number.
 fn low(a: u8, bits: usize) -> u64
     requires { ⌜ bits ≤ 8 ⌝ }
     ensures { λ r. ⌜ r ≡ a % 2 ^ bits ⌝ }
@@ -24,7 +25,7 @@ fn low(a: u8, bits: usize) -> u64
     (a as u64) & (size - 1)
 }
 
-// A product, by the bits of b, the lowest first. Factors count by their low bits.
+// Multiplies by one bit of b after another, the lowest first. Only the low bits of the factors count.
 pub(crate) fn times(a: u8, b: u8, bits: usize, modulus: u64) -> u8
     requires { ⌜ Degree bits modulus × (bits ≤ 8) ⌝ }
     ensures { λ r. ⌜ r ≡ times bits modulus a b ⌝ }
@@ -42,7 +43,8 @@ pub(crate) fn times(a: u8, b: u8, bits: usize, modulus: u64) -> u8
     total as u8
 }
 
-// A reciprocal by the lent table, whose entry a - 1 is that of a; 0 for zero. A number counts by its low bits.
+// Looks the reciprocal of a up in the lent table, at entry a - 1; the reciprocal of zero is 0. A number past the
+// table's end counts by its remainder modulo the table's length plus 1, which is its low bits.
 pub fn inverse(a: u8, table: &[u8]) -> u8
     requires { ⌜ length (now table) < 256 ⌝ }
     ensures { λ r. ⌜ r ≡ lookedUp (now (table .entry)) a ⌝ }

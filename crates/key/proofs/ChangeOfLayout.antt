@@ -1,6 +1,6 @@
--- A key file has its matrices by rows, and memory by columns: the matrix that is read is the file's rows one after
--- another, with the layout changed; and what a file has of a matrix, with the layout changed, are the first 56 of its
--- numbers by rows, and the last.
+-- A key file holds its matrices by rows, and memory holds them by columns. The matrix that the reader gives is the
+-- file's rows, one after another, with the layout changed. The entries that a file holds of a matrix with the layout
+-- changed are the first 56 of its numbers by rows, and the last one.
 use Prim.Native.Nat.{ℕ, _+_, _*_, _/_, _%_, _<_}
 use mathlib.Core.Path.{_≡_, sym, ap, ap₂, _∙_}
 use mathlib.Core.List.{List, [], _∷_, _++_}
@@ -14,7 +14,7 @@ use Rattle.matrix.proofs.LayoutLaws.{matrixOf-ext, matrixOf-entry}
 use Rattle.matrix.proofs.ChangeOfLayout.{length-turned, entry-turned}
 use Rattle.key.specs.Keys.{wholeMatrix, fileEntries}
 
--- reading
+-- the matrix that the reader gives
 pub whole-turned : (es : List ℕ) → wholeMatrix es ≡ turned (take 56 es ++ (replicate 7 0 ++ drop 56 es))
 unfolding wholeMatrix entryByRows
 whole-turned es =
@@ -22,7 +22,7 @@ whole-turned es =
     matrixOf-ext (entryByRows rows) (entry (turned rows)) (λ r c hr hc. sym (entry-turned rows r c hr hc))
     ∙ matrixOf-entry (turned rows) (length-turned rows)
 
--- what a file has of a matrix
+-- the entries that a file holds of a matrix
 pub entries-turned : (m : List ℕ) → length m ≡ 64 → fileEntries (turned m) ≡ take 56 m ++ (getD m 63 0 ∷ [])
 unfolding fileEntries entryByRows
 entries-turned m l =

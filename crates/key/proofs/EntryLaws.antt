@@ -1,11 +1,12 @@
--- The entries that a key file has of a matrix: as a loop reads them out one by one, the matrix that a loop fills with
--- them one by one, and those of that matrix are these again.
+-- The entries that a key file holds of a matrix: a loop that reads them one by one, and a loop that fills a matrix with
+-- them one by one. The entries of that matrix are the given entries.
 use Prim.Native.Nat.{ℕ, zero, suc, _+_, _-_, _*_, _/_, _%_, _≤_, _<_}
 use mathlib.Core.Path.{_≡_, refl, sym, ap, ap₂, _∙_}
 use mathlib.Core.List.{List, [], _∷_, _++_}
 use native.Mathlib.Omega.{arith}
 use native.Mathlib.Decide.{decLt, ℕ-discrete}
-use lib.ListN.{length, take, drop, getD, set, replicate, length-set, drop-of-length-le, take-append-drop, List·getD-append}
+use lib.ListN.{length, take, drop, getD, set, replicate, length-set, drop-of-length-le, take-append-drop}
+use lib.ListN.{List·getD-append}
 use lib.Seq.{drop-cons, set-split, getD-take, getD-append-add, length-take-le}
 use Rattle.base.specs.Lists.{values}
 use Rattle.base.proofs.ListLaws.{values-of}
@@ -14,14 +15,15 @@ use Rattle.matrix.proofs.LayoutLaws.{entry-matrixOf, by-entries}
 use Rattle.matrix.proofs.StoreLaws.{store-same, store-other}
 use Rattle.key.specs.Keys.{wholeMatrix, fileEntries}
 
--- the entry at a place of the file, before the last
+-- entry k of the file, for k before the last
 abbrev pub fileEntry : List ℕ → ℕ → ℕ
 fileEntry m k = entry m (k / 8) (k % 8)
 
 -- ---- entries read out
 
--- the first 56 entries of a list, with one more
-put : (m es : List ℕ) (x : ℕ) (rest : List ℕ) → length es ≡ 57 → ((k : ℕ) → k < 56 → getD es k 0 ≡ fileEntry m k) → x ≡ entry m 7 7 → rest ≡ []
+-- the first 56 entries of a list, and one more
+put : (m es : List ℕ) (x : ℕ) (rest : List ℕ) → length es ≡ 57 → ((k : ℕ) → k < 56 → getD es k 0 ≡ fileEntry m k)
+    → x ≡ entry m 7 7 → rest ≡ []
     → take 56 es ++ (x ∷ rest) ≡ fileEntries m
 unfolding fileEntries
 put m es x rest l rows last none =
@@ -30,8 +32,9 @@ put m es x rest l rows last none =
     values-of (fileEntry m) 56 (take 56 es) size (λ k h. getD-take 56 es k 0 h ∙ rows k h) in
     λ i. front i ++ (last i ∷ none i)
 
--- 56 entries in their places, and the last one put to them
-pub entries-put : (m es : List ℕ) (x : ℕ) → length es ≡ 57 → ((k : ℕ) → k < 56 → getD es k 0 ≡ fileEntry m k) → x ≡ entry m 7 7
+-- 56 entries in their places, and then the last entry
+pub entries-put : (m es : List ℕ) (x : ℕ) → length es ≡ 57 → ((k : ℕ) → k < 56 → getD es k 0 ≡ fileEntry m k)
+    → x ≡ entry m 7 7
     → set es 56 x ≡ fileEntries m
 entries-put m es x l rows last =
     set-split es 56 x (omega arith) ∙ put m es x (drop 57 es) l rows last (drop-of-length-le es {i = 57} (omega arith))
@@ -54,8 +57,9 @@ unfolding entry
 filled-none es =
     record { size = refl; placed = λ k h. absurd (omega arith); zeros = λ k h b. getD-zeros 64 (place (k / 8) (k % 8)) }
 
--- one entry more
-pub filled-more : (es m : List ℕ) (n : ℕ) {at : ℕ} → at ≡ place (n / 8) (n % 8) → n < 56 → Filled es n m → Filled es (n + 1) (set m at (getD es n 0))
+-- one more entry
+pub filled-more : (es m : List ℕ) (n : ℕ) {at : ℕ} → at ≡ place (n / 8) (n % 8) → n < 56 → Filled es n m
+    → Filled es (n + 1) (set m at (getD es n 0))
 filled-more es m n e h f =
     rw e record {
       size = length-set m (place (n / 8) (n % 8)) (getD es n 0) ∙ f .size;
@@ -65,14 +69,15 @@ filled-more es m n e h f =
   where
     other : (k : ℕ) → k < 64 → (k ≡ n → ⊥) → fileEntry (set m (place (n / 8) (n % 8)) (getD es n 0)) k ≡ fileEntry m k
     other k b d =
-        store-other m (n / 8) (n % 8) (getD es n 0) (omega arith) (omega arith) (k / 8) (k % 8) (omega arith) (omega arith) (λ p q. d (omega arith))
+        store-other m (n / 8) (n % 8) (getD es n 0) (omega arith) (omega arith) (k / 8) (k % 8) (omega arith)
+        (omega arith) (λ p q. d (omega arith))
 
     own : (k : ℕ) → k < n + 1 → Dec (k ≡ n) → fileEntry (set m (place (n / 8) (n % 8)) (getD es n 0)) k ≡ getD es k 0
     own k b (yes e) = rw e (store-same m (n / 8) (n % 8) (getD es n 0) (omega arith) (omega arith) (f .size))
     own k b (no d) = other k (omega arith) d ∙ f .placed k (omega arith)
 
 module _ (es : List ℕ) (l : length es ≡ 57) where
-  -- the matrix row by row, as `wholeMatrix` has it
+  -- the matrix row by row, as in `wholeMatrix`
   abbrev whole : List ℕ
   whole = take 56 es ++ (replicate 7 0 ++ drop 56 es)
 
@@ -80,10 +85,14 @@ module _ (es : List ℕ) (l : length es ≡ 57) where
   front-size = length-take-le 56 es (omega arith)
 
   whole-row : (k : ℕ) → k < 56 → getD whole k 0 ≡ getD es k 0
-  whole-row k h = List·getD-append (take 56 es) (replicate 7 0 ++ drop 56 es) 0 k (omega (arith, front-size)) ∙ getD-take 56 es k 0 h
+  whole-row k h =
+      List·getD-append (take 56 es) (replicate 7 0 ++ drop 56 es) 0 k (omega (arith, front-size))
+      ∙ getD-take 56 es k 0 h
 
   row-8 : (k : ℕ) → getD whole (56 + k) 0 ≡ getD (replicate 7 0 ++ drop 56 es) k 0
-  row-8 k = ap (λ (n : ℕ). getD whole (n + k) 0) (sym front-size) ∙ getD-append-add (take 56 es) (replicate 7 0 ++ drop 56 es) k 0
+  row-8 k =
+      ap (λ (n : ℕ). getD whole (n + k) 0) (sym front-size)
+      ∙ getD-append-add (take 56 es) (replicate 7 0 ++ drop 56 es) k 0
 
   whole-zero : (k : ℕ) → k < 7 → getD whole (56 + k) 0 ≡ 0
   whole-zero k h = row-8 k ∙ List·getD-append (replicate 7 0) (drop 56 es) 0 k h ∙ getD-zeros 7 k
@@ -95,7 +104,7 @@ module _ (es : List ℕ) (l : length es ≡ 57) where
   abbrev x : ℕ
   x = getD es 56 0
 
-  -- 56 entries in their places, and the last one put to them
+  -- 56 entries in their places, and then the last entry
   pub whole-put : (m : List ℕ) {at : ℕ} → at ≡ place 7 7 → Filled es 56 m → set m at x ≡ wholeMatrix es
   unfolding wholeMatrix
   whole-put m e f =
@@ -103,13 +112,15 @@ module _ (es : List ℕ) (l : length es ≡ 57) where
       ∙ by-entries (set m (place 7 7) x) (λ r c. getD whole (8 * r + c) 0) (length-set m (place 7 7) x ∙ f .size)
       (λ r c p q. at r c p q (decLt (8 * r + c) 56) (ℕ-discrete (8 * r + c) 63))
     where
-      kept : (r c : ℕ) → r < 8 → c < 8 → (8 * r + c ≡ 63 → ⊥) → entry (set m (place 7 7) x) r c ≡ fileEntry m (8 * r + c)
+      kept : (r c : ℕ) → r < 8 → c < 8 → (8 * r + c ≡ 63 → ⊥)
+          → entry (set m (place 7 7) x) r c ≡ fileEntry m (8 * r + c)
       kept r c p q d =
           let er : r ≡ (8 * r + c) / 8 = omega arith in
           let ec : c ≡ (8 * r + c) % 8 = omega arith in
           store-other m 7 7 x (omega arith) (omega arith) r c p q (λ a b. d (omega arith)) ∙ ap₂ (entry m) er ec
 
-      at : (r c : ℕ) → r < 8 → c < 8 → Dec (8 * r + c < 56) → Dec (8 * r + c ≡ 63) → entry (set m (place 7 7) x) r c ≡ getD whole (8 * r + c) 0
+      at : (r c : ℕ) → r < 8 → c < 8 → Dec (8 * r + c < 56) → Dec (8 * r + c ≡ 63)
+          → entry (set m (place 7 7) x) r c ≡ getD whole (8 * r + c) 0
       at r c p q (yes h) e = kept r c p q (λ d. omega arith) ∙ f .placed (8 * r + c) h ∙ sym (whole-row (8 * r + c) h)
       at r c p q (no h) (no d) =
           let k : 56 + (8 * r + c - 56) ≡ 8 * r + c = omega arith in
@@ -134,7 +145,7 @@ module _ (es : List ℕ) (l : length es ≡ 57) where
   unfolding wholeMatrix
   last = sym (entry-matrixOf (λ r c. getD whole (8 * r + c) 0) 7 7 (omega arith) (omega arith) ∙ whole-last)
 
-  -- what a file has of the matrix of 57 entries are these entries
+  -- the entries that a file holds of the matrix of 57 entries are these 57 entries
   pub entries-whole : fileEntries (wholeMatrix es) ≡ es
   entries-whole =
       sym

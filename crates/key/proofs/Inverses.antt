@@ -1,7 +1,7 @@
--- Question 26 by inverses: where all other questions of the key reader, or of the key writer, are passed, the answer is
--- not 26 exactly if each matrix has an inverse. The blank key is refused with 26, and so is a key with one blank matrix; the plain key passes, and so
--- does a key of permutation matrices; the blank key and the plain key over either field. Nothing of the elimination is
--- computed.
+-- Question 26 by inverses. If the key reader's or the key writer's other questions are passed, the answer is not 26
+-- exactly if each matrix has an inverse. The blank key, and a key with one blank matrix, are refused with 26. The plain
+-- key, and a key of permutation matrices, are accepted. The blank key and the plain key are tested over either field.
+-- No proof computes an elimination.
 use Prim.Native.Nat.{ℕ, _-_, _<_}
 use mathlib.Core.Path.{_≡_, refl, sym, ap, _∙_}
 use mathlib.Core.Bool.{Bool, true, false, cond, _&&_, false≢true}
@@ -25,19 +25,20 @@ use Rattle.matrix.specs.Layout.{place, rowOf, columnOf, entry, matrixOf, Matrix
 use Rattle.matrix.specs.Product.{identity}
 use Rattle.matrix.specs.Elimination.{invertible, HasInverse}
 use Rattle.matrix.proofs.Invertible.{invertible-iff, identity-inverse, permuted, permuted-inverse, zero-not-invertible}
-use Rattle.operands.specs.Operands.{elements}
+use Rattle.pair_operands.specs.Operands.{elements}
 use Rattle.key.specs.declared.Key.{Key}
-use Rattle.key.specs.Keys.{tValues, labels, entries, firstBytes, secondBytes, wholeMatrix, fileEntries, bothInvertible, keyField, keyQuestions, keyAnswer, keyFile, keyWriterQuestions, ReadsKey, WroteKey}
+use Rattle.key.specs.Keys.{tValues, keyLabels, entries, firstBytes, secondBytes, wholeMatrix, fileEntries}
+use Rattle.key.specs.Keys.{bothInvertible, keyField, keyQuestions, keyAnswer, keyFile, keyWriterQuestions}
+use Rattle.key.specs.Keys.{ReadsKey, WroteKey}
 use Rattle.key.proofs.KeyFacts.{matrix-good, entries-good}
 
--- the two matrices of a file
 abbrev pub first-matrix : List ℕ → List ℕ
 first-matrix file = let b = bits (keyField file) in wholeMatrix (entries b (firstBytes b file))
 
 abbrev pub second-matrix : List ℕ → List ℕ
 second-matrix file = let b = bits (keyField file) in wholeMatrix (entries b (secondBytes b file))
 
--- both tests say yes exactly if each matrix has an inverse
+-- `bothInvertible` says yes exactly if each matrix has an inverse
 both-iff : (f : Field) (m n : List ℕ) → Matrix (operations f .size) m → Matrix (operations f .size) n
     → (bothInvertible f m n ≡ true) ↔ (HasInverse (operations f) m × HasInverse (operations f) n)
 both-iff f m n p q =
@@ -47,7 +48,7 @@ both-iff f m n p q =
     let j = invertible-iff (binary f) n q in
     (λ e. (i .0 (and-left a b e), j .0 (and-right a b e)), λ h. and-both (i .1 (h .0)) (j .1 (h .1)))
 
--- where only question 26 is left, 26 is the answer exactly if it is failed
+-- if only question 26 is left, the answer is not 26 exactly if it is passed
 last-iff : (t : Bool) {answer : ℕ} → answer ≡ firstNo ((t else 26) ∷ []) → (answer ≡ 26 → ⊥) ↔ (t ≡ true)
 unfolding firstNo
 last-iff true e = (λ h. refl, λ h w. let z : _≡_ {A = ℕ} 26 0 = sym w ∙ e in omega arith)
@@ -59,118 +60,140 @@ module _ (file : List ℕ) (seven : firstNo (take 7 (keyQuestions file)) ≡ 0) 
   past-7 = all-passed (take 7 (keyQuestions file)) (drop 7 (keyQuestions file)) tt seven
 
   inverses-iff : (bothInvertible (keyField file) (first-matrix file) (second-matrix file) ≡ true)
-      ↔ (HasInverse (operations (keyField file)) (first-matrix file) × HasInverse (operations (keyField file)) (second-matrix file))
+      ↔ (HasInverse (operations (keyField file)) (first-matrix file)
+      × HasInverse (operations (keyField file)) (second-matrix file))
   inverses-iff =
       let f = keyField file in
-      both-iff f (first-matrix file) (second-matrix file) (matrix-good f (firstBytes (bits f) file)) (matrix-good f (secondBytes (bits f) file))
+      both-iff f (first-matrix file) (second-matrix file) (matrix-good f (firstBytes (bits f) file))
+      (matrix-good f (secondBytes (bits f) file))
 
-  -- the key reader's answer to a file that passes 1 to 7 is not 26 exactly if each matrix has an inverse
+  -- if a file passes 1 to 7, the key reader's answer is not 26 exactly if each matrix has an inverse
   pub reads-iff-inverses : {answer : ℕ} {key : Key} → ReadsKey file answer key
-      → (answer ≡ 26 → ⊥) ↔ (HasInverse (operations (keyField file)) (first-matrix file) × HasInverse (operations (keyField file)) (second-matrix file))
+      → (answer ≡ 26 → ⊥)
+      ↔ (HasInverse (operations (keyField file)) (first-matrix file)
+      × HasInverse (operations (keyField file)) (second-matrix file))
   reads-iff-inverses r =
-      let t = last-iff (bothInvertible (keyField file) (first-matrix file) (second-matrix file)) (r .answer-is ∙ past-7) in
+      let t =
+      last-iff (bothInvertible (keyField file) (first-matrix file) (second-matrix file)) (r .answer-is ∙ past-7) in
       (λ h. inverses-iff .0 (t .0 h), λ h. t .1 (inverses-iff .1 h))
 
-  pub accepted-with : HasInverse (operations (keyField file)) (first-matrix file) → HasInverse (operations (keyField file)) (second-matrix file)
+  pub accepted-with : HasInverse (operations (keyField file)) (first-matrix file)
+      → HasInverse (operations (keyField file)) (second-matrix file)
       → keyAnswer file ≡ 0
   unfolding firstNo
   accepted-with p s = past-7 ∙ passes 26 [] (inverses-iff .1 (p, s))
 
-  pub refused-26 : bothInvertible (keyField file) (first-matrix file) (second-matrix file) ≡ false → keyAnswer file ≡ 26
+  refused-26 : bothInvertible (keyField file) (first-matrix file) (second-matrix file) ≡ false → keyAnswer file ≡ 26
   refused-26 e = past-7 ∙ fails 26 [] e
 
--- the key writer's answer where 16, 17, 4, 5 and 6 are passed is not 26 exactly if each matrix has an inverse
-module _ (f : Field) (ts order first second before : List ℕ) where
+-- if 16, 17, 4, 5 and 6 are passed, the key writer's answer is not 26 exactly if each matrix has an inverse
+module _ (f : Field) (ts labels first second before : List ℕ) where
   abbrev asked : List Question
-  asked = keyWriterQuestions f (length before) ts order first second
+  asked = keyWriterQuestions f (length before) ts labels first second
 
-  pub writes-iff-inverses : firstNo (take 5 asked) ≡ 0 → {after : List ℕ} {answer : ℕ} → WroteKey f ts order first second before after answer
-      → (answer ≡ 26 → ⊥) ↔ (HasInverse (operations f) (wholeMatrix first) × HasInverse (operations f) (wholeMatrix second))
+  pub writes-iff-inverses : firstNo (take 5 asked) ≡ 0 → {after : List ℕ} {answer : ℕ}
+      → WroteKey f ts labels first second before after answer
+      → (answer ≡ 26 → ⊥)
+      ↔ (HasInverse (operations f) (wholeMatrix first) × HasInverse (operations f) (wholeMatrix second))
   writes-iff-inverses five w =
       let p = answers-passed (take 5 asked) tt five in
       let q = and-left (elements f ts && elements f first) (elements f second) (p .1 .0) in
       let m = entries-good f first (and-right (elements f ts) (elements f first) q) in
       let n = entries-good f second (and-right (elements f ts && elements f first) (elements f second) (p .1 .0)) in
       let e = both-iff f (wholeMatrix first) (wholeMatrix second) m n in
-      let t = last-iff (bothInvertible f (wholeMatrix first) (wholeMatrix second)) (w .answer-is ∙ all-passed (take 5 asked) (drop 5 asked) tt five) in
+      let t =
+      last-iff (bothInvertible f (wholeMatrix first) (wholeMatrix second))
+      (w .answer-is ∙ all-passed (take 5 asked) (drop 5 asked) tt five) in
       (λ h. e .0 (t .0 h), λ h. t .1 (e .1 h))
 
 -- ---- keys with the T-values 1 1 2 3 4 5 6 7 and the list 0 to 7
 
 abbrev pub keyWith : Field → List ℕ → List ℕ → List ℕ
-keyWith f first second = keyFile (bits f) (1 ∷ 1 ∷ 2 ∷ 3 ∷ 4 ∷ 5 ∷ 6 ∷ 7 ∷ []) (0 ∷ 1 ∷ 2 ∷ 3 ∷ 4 ∷ 5 ∷ 6 ∷ 7 ∷ []) first second
+keyWith f first second =
+    keyFile (bits f) (1 ∷ 1 ∷ 2 ∷ 3 ∷ 4 ∷ 5 ∷ 6 ∷ 7 ∷ []) (0 ∷ 1 ∷ 2 ∷ 3 ∷ 4 ∷ 5 ∷ 6 ∷ 7 ∷ []) first second
 
--- the entries of the blank matrix, of the identity, and of the identity with its first seven rows turned round
+-- The entries of the blank matrix. `unitEntries` is those of the identity, `reversedEntries` those of the identity with
+-- its first seven rows in reverse order.
 abbrev pub blank : List ℕ
 blank = replicate 57 0
 
 abbrev pub unitEntries : List ℕ
 unitEntries = fileEntries identity
 
-abbrev turn : ℕ → ℕ
-turn r = cond (eqb r 7) 7 (6 - r)
+abbrev reversed : ℕ → ℕ
+reversed r = cond (eqb r 7) 7 (6 - r)
 
-abbrev pub turnedEntries : List ℕ
-turnedEntries = fileEntries (permuted (binary Gf32) turn)
+abbrev pub reversedEntries : List ℕ
+reversedEntries = fileEntries (permuted (binary Gf32) reversed)
 
-turned-twice : every (λ r. eqb (turn (turn r)) r && ltb (turn r) 8) (values (λ r. r) 8) ≡ true
+reversed-twice : every (λ r. eqb (reversed (reversed r)) r && ltb (reversed r) 8) (values (λ r. r) 8) ≡ true
 unfolding valuesFrom every
-turned-twice = refl
+reversed-twice = refl
 
-turned-has : HasInverse (operations Gf32) (permuted (binary Gf32) turn)
-turned-has =
+reversed-has : HasInverse (operations Gf32) (permuted (binary Gf32) reversed)
+reversed-has =
     record {
-      inverse = permuted (binary Gf32) turn;
+      inverse = permuted (binary Gf32) reversed;
       inverts =
-          permuted-inverse (binary Gf32) turn turn
-          (λ r h. ltb-true (turn r) 8 (and-right (eqb (turn (turn r)) r) (ltb (turn r) 8) (both r h)))
-          (λ r h. eqb-true (turn (turn r)) r (and-left (eqb (turn (turn r)) r) (ltb (turn r) 8) (both r h)));
+          permuted-inverse (binary Gf32) reversed reversed
+          (λ r h. ltb-true (reversed r) 8 (and-right (eqb (reversed (reversed r)) r) (ltb (reversed r) 8) (both r h)))
+          (λ r h. eqb-true (reversed (reversed r)) r
+          (and-left (eqb (reversed (reversed r)) r) (ltb (reversed r) 8) (both r h)));
     }
   where
-    both : (r : ℕ) → r < 8 → (eqb (turn (turn r)) r && ltb (turn r) 8) ≡ true
-    both = every-values (λ r. eqb (turn (turn r)) r && ltb (turn r) 8) (λ r. r) 8 turned-twice
+    both : (r : ℕ) → r < 8 → (eqb (reversed (reversed r)) r && ltb (reversed r) 8) ≡ true
+    both = every-values (λ r. eqb (reversed (reversed r)) r && ltb (reversed r) 8) (λ r. r) 8 reversed-twice
 
 pub identity-has : (f : Field) → HasInverse (operations f) identity
 identity-has f = record { inverse = identity; inverts = identity-inverse (binary f) }
 
--- a blank matrix in the first place, whatever the second, and in the second
+-- a blank first matrix, whatever the second, and a blank second matrix, whatever the first
 blank-first : (f : Field) (m : List ℕ) → bothInvertible f (replicate 64 0) m ≡ false
 blank-first f m = ap (λ (b : Bool). b && invertible (operations f) 8 (entry m)) (zero-not-invertible (binary f))
 
 blank-second : (f : Field) (m : List ℕ) → bothInvertible f m (replicate 64 0) ≡ false
 blank-second f m =
-    ap (λ (b : Bool). invertible (operations f) 8 (entry m) && b) (zero-not-invertible (binary f)) ∙ and-false (invertible (operations f) 8 (entry m))
+    ap (λ (b : Bool). invertible (operations f) 8 (entry m) && b) (zero-not-invertible (binary f))
+    ∙ and-false (invertible (operations f) 8 (entry m))
 
 pub blank-key : (f : Field) → keyAnswer (keyWith f blank blank) ≡ 26
-unfolding keyField firstNo valuesFrom every tally eachOnce value digits tValues unpackedRow rowFiller labels wholeMatrix matrixOf rowOf columnOf packedRow keyFile
+unfolding keyField firstNo valuesFrom every tally eachOnce value digits tValues unpackedRow rowFiller keyLabels
+    wholeMatrix matrixOf rowOf columnOf packedRow keyFile
 blank-key Gf32 = refused-26 (keyWith Gf32 blank blank) refl (blank-first Gf32 (replicate 64 0))
 blank-key Gf256 = refused-26 (keyWith Gf256 blank blank) refl (blank-first Gf256 (replicate 64 0))
 
 pub blank-first-matrix : keyAnswer (keyWith Gf32 blank unitEntries) ≡ 26
-unfolding keyField firstNo valuesFrom every tally eachOnce value digits tValues unpackedRow rowFiller labels wholeMatrix matrixOf rowOf columnOf place entry identity fileEntries packedRow keyFile
+unfolding keyField firstNo valuesFrom every tally eachOnce value digits tValues unpackedRow rowFiller keyLabels
+    wholeMatrix matrixOf rowOf columnOf place entry identity fileEntries packedRow keyFile
 blank-first-matrix = refused-26 (keyWith Gf32 blank unitEntries) refl (blank-first Gf32 identity)
 
 pub blank-second-matrix : keyAnswer (keyWith Gf32 unitEntries blank) ≡ 26
-unfolding keyField firstNo valuesFrom every tally eachOnce value digits tValues unpackedRow rowFiller labels wholeMatrix matrixOf rowOf columnOf place entry identity fileEntries packedRow keyFile
+unfolding keyField firstNo valuesFrom every tally eachOnce value digits tValues unpackedRow rowFiller keyLabels
+    wholeMatrix matrixOf rowOf columnOf place entry identity fileEntries packedRow keyFile
 blank-second-matrix = refused-26 (keyWith Gf32 unitEntries blank) refl (blank-second Gf32 identity)
 
 pub plain-key : (f : Field) → keyAnswer (keyWith f unitEntries unitEntries) ≡ 0
-unfolding keyField firstNo valuesFrom every tally eachOnce value digits tValues unpackedRow rowFiller labels wholeMatrix matrixOf rowOf columnOf place entry identity fileEntries packedRow keyFile
+unfolding keyField firstNo valuesFrom every tally eachOnce value digits tValues unpackedRow rowFiller keyLabels
+    wholeMatrix matrixOf rowOf columnOf place entry identity fileEntries packedRow keyFile
 plain-key Gf32 = accepted-with (keyWith Gf32 unitEntries unitEntries) refl (identity-has Gf32) (identity-has Gf32)
 plain-key Gf256 = accepted-with (keyWith Gf256 unitEntries unitEntries) refl (identity-has Gf256) (identity-has Gf256)
 
-pub permutation-key : keyAnswer (keyWith Gf32 turnedEntries turnedEntries) ≡ 0
-unfolding keyField firstNo valuesFrom every tally eachOnce value digits tValues unpackedRow rowFiller labels wholeMatrix matrixOf rowOf columnOf place entry identity fileEntries packedRow keyFile
-permutation-key = accepted-with (keyWith Gf32 turnedEntries turnedEntries) refl turned-has turned-has
+pub permutation-key : keyAnswer (keyWith Gf32 reversedEntries reversedEntries) ≡ 0
+unfolding keyField firstNo valuesFrom every tally eachOnce value digits tValues unpackedRow rowFiller keyLabels
+    wholeMatrix matrixOf rowOf columnOf place entry identity fileEntries packedRow keyFile
+permutation-key = accepted-with (keyWith Gf32 reversedEntries reversedEntries) refl reversed-has reversed-has
 
 -- ---- 26 comes last
 
--- a blank key whose last byte has a filler bit gets 7
+-- a blank key with a filler bit in its last byte gives 7
 pub filler-before-26 : keyAnswer (take 82 (keyWith Gf32 blank blank) ++ (1 ∷ [])) ≡ 7
-unfolding keyField firstNo valuesFrom every tally eachOnce value digits tValues rowFiller unpackedRow labels packedRow keyFile keyAnswer
+unfolding keyField firstNo valuesFrom every tally eachOnce value digits tValues rowFiller unpackedRow keyLabels
+    packedRow keyFile keyAnswer
 filler-before-26 = refl
 
--- and the writer of blank entries with a list that names label 0 twice gives 6
-pub list-before-26 : firstNo (keyWriterQuestions Gf32 83 (1 ∷ 1 ∷ 2 ∷ 3 ∷ 4 ∷ 5 ∷ 6 ∷ 7 ∷ []) (0 ∷ 0 ∷ 2 ∷ 3 ∷ 4 ∷ 5 ∷ 6 ∷ 7 ∷ []) blank blank) ≡ 6
+-- the key writer gives 6 for blank entries and a list that has label 0 twice
+pub list-before-26 : firstNo
+    (keyWriterQuestions Gf32 83 (1 ∷ 1 ∷ 2 ∷ 3 ∷ 4 ∷ 5 ∷ 6 ∷ 7 ∷ []) (0 ∷ 0 ∷ 2 ∷ 3 ∷ 4 ∷ 5 ∷ 6 ∷ 7 ∷ []) blank blank)
+    ≡ 6
 unfolding firstNo valuesFrom every tally eachOnce
 list-before-26 = refl

@@ -1,6 +1,5 @@
--- Keys there and back, from bytes to bytes, of what the key writer and the key reader give, over either field: a key
--- that was written reads back as its field, its T-values, its list and its matrices, and a file that was read is
--- written back as its own bytes.
+-- Keys there and back, from bytes to bytes, over either field. A key that the key writer wrote reads back as its field,
+-- its T-values, its list and its matrices. A file that the key reader read is written back as its own bytes.
 use Prim.Native.Nat.{ℕ, _+_, _%_, _^_, _≤_, _<_}
 use mathlib.Core.Path.{_≡_, refl, sym, ap, ap₂, _∙_, subst}
 use mathlib.Core.List.{List, [], _∷_}
@@ -21,36 +20,43 @@ use Rattle.base.proofs.DigitLaws.{digits-value, value-digits-below}
 use Rattle.base.proofs.PackLaws.{below-part, length-part}
 use Rattle.base.proofs.RowLaws.{unpacked-packed, filler-packed, length-unpacked, packed-unpacked}
 use Rattle.base.proofs.FileLaws.{joined-parts}
-use Rattle.braid.specs.Strands.{isOrder}
+use Rattle.word.specs.Strands.{isOrder}
 use Rattle.field.specs.Fields.{bits, keyBytes}
 use Rattle.field.specs.declared.Field.{Field}
-use Rattle.operands.specs.Operands.{nonzero}
+use Rattle.pair_operands.specs.Operands.{nonzero}
 use Rattle.key.specs.declared.Key.{Key}
-use Rattle.key.specs.Keys.{keyField, keySizes, keyPlace, fileBytes, tValues, labels, entries, firstBytes, secondBytes, fieldSize, fileEntries, wholeMatrix, startsWithOnes, bothInvertible, keyAnswer, keyHolding, keyParts, keyOf, zeroKey, ReadsKey, fileParts, keyFile, keyWriterQuestions, WroteFile, WroteKey}
-use Rattle.key.specs.Parts.{Parts, Sizes}
+use Rattle.key.specs.Keys.{keyField, keySizes, keyPlace, fileBytes, tValues, keyLabels, entries, firstBytes}
+use Rattle.key.specs.Keys.{secondBytes, fieldSize, fileEntries, wholeMatrix, startsWithOnes, bothInvertible}
+use Rattle.key.specs.Keys.{keyAnswer, keyHolding, keyParts, keyOf, zeroKey, ReadsKey, fileParts, keyFile}
+use Rattle.key.specs.Keys.{keyWriterQuestions, WroteFile, WroteKey}
+use Rattle.key.specs.steps.Parts.{Parts, Sizes}
 use Rattle.key.proofs.Widths.{narrow, file-bytes, field-of-length}
 use Rattle.key.proofs.FileLaws.{key-file-size, part-back}
-use Rattle.key.proofs.KeyFacts.{Accepted, accepted, accepted-answers, Writable, writable, parts, t-values-elements, entries-elements}
+use Rattle.key.proofs.KeyFacts.{Accepted, accepted, accepted-answers, Writable, writable, parts}
+use Rattle.key.proofs.KeyFacts.{t-values-elements, entries-elements}
 use Rattle.key.proofs.EntryLaws.{entries-whole}
 
 -- ---- written and read back
 
--- the file of these parts
-module _ (b : ℕ) (narrow : b ≤ 8) (ts order first second : List ℕ) (size : Sizes ts order first second) (fit : Parts b ts order first second) where
+-- the file of T-values, a list and the entries of two matrices
+module _ (b : ℕ) (narrow : b ≤ 8) (ts labels first second : List ℕ) (size : Sizes ts labels first second)
+    (fit : Parts b ts labels first second) where
   abbrev written : List ℕ
-  written = keyFile b ts order first second
+  written = keyFile b ts labels first second
 
   -- a part of n numbers, cut out and unpacked
-  row-back : (c n i : ℕ) (xs : List ℕ) → Below (2 ^ c) xs → length xs ≡ n → filePart (keySizes b) i written ≡ packedRow c xs
+  row-back : (c n i : ℕ) (xs : List ℕ) → Below (2 ^ c) xs → length xs ≡ n
+      → filePart (keySizes b) i written ≡ packedRow c xs
       → unpackedRow c n (filePart (keySizes b) i written) ≡ xs
   row-back c n i xs below l e = ap₂ (unpackedRow c) (sym l) e ∙ unpacked-packed c xs below
 
-  clear-back : (n i : ℕ) (xs : List ℕ) → Below (2 ^ b) xs → length xs ≡ n → filePart (keySizes b) i written ≡ packedRow b xs
+  clear-back : (n i : ℕ) (xs : List ℕ) → Below (2 ^ b) xs → length xs ≡ n
+      → filePart (keySizes b) i written ≡ packedRow b xs
       → rowFiller b n (filePart (keySizes b) i written) ≡ 0
   clear-back n i xs below l e = ap₂ (rowFiller b) (sym l) e ∙ filler-packed b xs below
 
-  back : (i : ℕ) → filePart (keySizes b) i written ≡ getD (fileParts b ts order first second) i []
-  back = part-back b ts order first second size
+  back : (i : ℕ) → filePart (keySizes b) i written ≡ getD (fileParts b ts labels first second) i []
+  back = part-back b ts labels first second size
 
   strands-written : getD written 0 0 ≡ 8
   unfolding keyFile
@@ -65,9 +71,9 @@ module _ (b : ℕ) (narrow : b ≤ 8) (ts order first second : List ℕ) (size :
   unfolding tValues
   ts-back = row-back b 8 2 ts (fit .ts-below) (size .ts-size) (back 2)
 
-  order-back : labels b written ≡ order
-  unfolding labels
-  order-back = row-back 3 8 4 order (fit .order-below) (size .order-size) (back 4)
+  labels-back : keyLabels b written ≡ labels
+  unfolding keyLabels
+  labels-back = row-back 3 8 4 labels (fit .labels-below) (size .labels-size) (back 4)
 
   first-back : entries b (firstBytes b written) ≡ first
   first-back = row-back b 57 3 first (fit .first-below) (size .first-size) (back 3)
@@ -75,44 +81,52 @@ module _ (b : ℕ) (narrow : b ≤ 8) (ts order first second : List ℕ) (size :
   second-back : entries b (secondBytes b written) ≡ second
   second-back = row-back b 57 5 second (fit .second-below) (size .second-size) (back 5)
 
--- over a field
-module _ (f : Field) (ts order first second : List ℕ) (size : Sizes ts order first second) (fit : Parts (bits f) ts order first second) where
-  written-size : length (keyFile (bits f) ts order first second) ≡ keyBytes f
-  written-size = key-file-size (bits f) ts order first second size ∙ file-bytes f
+-- a written file, over a field
+module _ (f : Field) (ts labels first second : List ℕ) (size : Sizes ts labels first second)
+    (fit : Parts (bits f) ts labels first second) where
+  written-size : length (keyFile (bits f) ts labels first second) ≡ keyBytes f
+  written-size = key-file-size (bits f) ts labels first second size ∙ file-bytes f
 
-  accepted-back : {room : ℕ} → Writable f room ts order first second → Accepted f (keyFile (bits f) ts order first second)
+  accepted-back : {room : ℕ} → Writable f room ts labels first second
+      → Accepted f (keyFile (bits f) ts labels first second)
   accepted-back q =
       let b = bits f in
       let w = narrow f in
       record {
         size = written-size;
-        strands-are = strands-written b w ts order first second size fit;
-        field-size = field-size-written b w ts order first second size fit;
-        no-zero = ap (λ (xs : List ℕ). nonzero xs) (ts-back b w ts order first second size fit) ∙ q .ts-nonzero;
-        ones = ap (λ (xs : List ℕ). startsWithOnes xs) (ts-back b w ts order first second size fit) ∙ q .ts-ones;
-        order = ap (λ (xs : List ℕ). isOrder xs) (order-back b w ts order first second size fit) ∙ q .is-order;
-        first-filler = clear-back b w ts order first second size fit 57 3 first (fit .first-below) (size .first-size) (back b w ts order first second size fit 3);
-        second-filler = clear-back b w ts order first second size fit 57 5 second (fit .second-below) (size .second-size) (back b w ts order first second size fit 5);
+        strands-are = strands-written b w ts labels first second size fit;
+        field-size = field-size-written b w ts labels first second size fit;
+        no-zero = ap (λ (xs : List ℕ). nonzero xs) (ts-back b w ts labels first second size fit) ∙ q .ts-nonzero;
+        ones = ap (λ (xs : List ℕ). startsWithOnes xs) (ts-back b w ts labels first second size fit) ∙ q .ts-ones;
+        is-order = ap (λ (xs : List ℕ). isOrder xs) (labels-back b w ts labels first second size fit) ∙ q .is-order;
+        first-filler =
+            clear-back b w ts labels first second size fit 57 3 first (fit .first-below) (size .first-size)
+            (back b w ts labels first second size fit 3);
+        second-filler =
+            clear-back b w ts labels first second size fit 57 5 second (fit .second-below) (size .second-size)
+            (back b w ts labels first second size fit 5);
         inverses =
-            ap₂ (λ (p s : List ℕ). bothInvertible f (wholeMatrix p) (wholeMatrix s)) (first-back b w ts order first second size fit)
-            (second-back b w ts order first second size fit)
+            ap₂ (λ (p s : List ℕ). bothInvertible f (wholeMatrix p) (wholeMatrix s))
+            (first-back b w ts labels first second size fit)
+            (second-back b w ts labels first second size fit)
             ∙ q .inverses;
       }
 
-  -- the key that it holds
-  key-back : keyOf (keyFile (bits f) ts order first second) ≡ keyHolding f ts order first second
+  -- the key that the written file holds
+  key-back : keyOf (keyFile (bits f) ts labels first second) ≡ keyHolding f ts labels first second
   unfolding keyOf
   key-back =
       let b = bits f in
       let w = narrow f in
-      let file = keyFile (bits f) ts order first second in
+      let file = keyFile (bits f) ts labels first second in
       ap (λ (g : Field). keyParts g (bits g) file) (field-of-length f file written-size)
-      ∙ (λ i. keyHolding f (ts-back b w ts order first second size fit i) (order-back b w ts order first second size fit i)
-      (first-back b w ts order first second size fit i) (second-back b w ts order first second size fit i))
+      ∙ (λ i. keyHolding f (ts-back b w ts labels first second size fit i)
+      (labels-back b w ts labels first second size fit i)
+      (first-back b w ts labels first second size fit i) (second-back b w ts labels first second size fit i))
 
 -- ---- read and written back
 
--- eight numbers of b bits fill b bytes
+-- eight numbers of b bits fill b bytes, so they have no filler
 eight-clear : (b : ℕ) (bytes : List ℕ) → rowFiller b 8 bytes ≡ 0
 unfolding rowFiller
 eight-clear b bytes =
@@ -125,17 +139,20 @@ module _ (b : ℕ) (file : List ℕ) (bytes : Below 256 file) (l : length file �
 
   size-again : fieldSize file ≡ 2 ^ b → digits 256 2 (2 ^ b) ≡ part 1 2 file
   size-again q =
-      ap₂ (digits 256) (sym (length-part 1 2 file (omega (arith, l)))) (sym q) ∙ digits-value 256 (part 1 2 file) (below-part 256 1 2 file bytes)
+      ap₂ (digits 256) (sym (length-part 1 2 file (omega (arith, l)))) (sym q)
+      ∙ digits-value 256 (part 1 2 file) (below-part 256 1 2 file bytes)
 
-  -- n numbers of c bits from a place on
+  -- n numbers of c bits from place `at` on, unpacked and packed
   row-again : (at c n : ℕ) → at + rowBytes c n ≤ fileBytes b → rowFiller c n (part at (rowBytes c n) file) ≡ 0
       → packedRow c (unpackedRow c n (part at (rowBytes c n) file)) ≡ part at (rowBytes c n) file
   row-again at c n h z =
-      packed-unpacked c n (part at (rowBytes c n) file) (below-part 256 at (rowBytes c n) file bytes) (length-part at (rowBytes c n) file (omega (arith, l))) z
+      packed-unpacked c n (part at (rowBytes c n) file) (below-part 256 at (rowBytes c n) file bytes)
+      (length-part at (rowBytes c n) file (omega (arith, l))) z
 
 again : (f : Field) (file : List ℕ) → Below 256 file → Accepted f file → let b = bits f in
-    keyFile b (tValues b file) (labels b file) (entries b (firstBytes b file)) (entries b (secondBytes b file)) ≡ file
-unfolding keyFile tValues labels
+    keyFile b (tValues b file) (keyLabels b file) (entries b (firstBytes b file)) (entries b (secondBytes b file))
+    ≡ file
+unfolding keyFile tValues keyLabels
 again f file bytes ok =
     let b = bits f in
     let l = ok .size ∙ sym (file-bytes f) in
@@ -149,23 +166,28 @@ again f file bytes ok =
     ∷ []))
     ∙ joined-parts 0 (keySizes b) file l
 
--- the key writer's questions are passed by what is read
+-- what the key reader gives passes the key writer's questions
 read-is-writable : (f : Field) (room : ℕ) (file : List ℕ) → keyBytes f ≤ room → Accepted f file → let b = bits f in
-    firstNo (keyWriterQuestions f room (tValues b file) (labels b file) (entries b (firstBytes b file)) (entries b (secondBytes b file))) ≡ 0
+    firstNo (keyWriterQuestions f room (tValues b file) (keyLabels b file) (entries b (firstBytes b file))
+    (entries b (secondBytes b file))) ≡ 0
 read-is-writable f room file h ok =
     let b = bits f in
-    passed-answers (keyWriterQuestions f room (tValues b file) (labels b file) (entries b (firstBytes b file)) (entries b (secondBytes b file))) (
+    passed-answers
+    (keyWriterQuestions f room (tValues b file) (keyLabels b file) (entries b (firstBytes b file))
+    (entries b (secondBytes b file))) (
       le-leb (keyBytes f) room h,
       (
-        and-both (and-both (t-values-elements f file) (entries-elements f (firstBytes b file))) (entries-elements f (secondBytes b file)),
-        (ok .no-zero, (ok .ones, (ok .order, (ok .inverses, tt)))),
+        and-both (and-both (t-values-elements f file) (entries-elements f (firstBytes b file)))
+            (entries-elements f (secondBytes b file)),
+        (ok .no-zero, (ok .ones, (ok .is-order, (ok .inverses, tt)))),
       ),
     )
 
 -- ---- what the operations give
 
--- on answer 0 a file of n bytes stands in the output's first n, and the rest is as it was
-module _ {questions : List Question} {file before after : List ℕ} {answer : ℕ} (w : WroteFile questions file before after answer) (z : firstNo questions ≡ 0) {n : ℕ} (l : length file ≡ n) where
+-- on answer 0 a file of n bytes stands in the output's first n bytes, and the rest is unchanged
+module _ {questions : List Question} {file before after : List ℕ} {answer : ℕ}
+    (w : WroteFile questions file before after answer) (z : firstNo questions ≡ 0) {n : ℕ} (l : length file ≡ n) where
   output : after ≡ overlaid file before
   output = w .output-is ∙ granted-zero (overlaid file before) before z
 
@@ -178,31 +200,39 @@ module _ {questions : List Question} {file before after : List ℕ} {answer : �
       ∙ drop-overlaid file before
       ∙ ap (λ (k : ℕ). drop k before) l
 
--- where the key writer answers 0, the key reader, on the bytes of a file in its output, answers 0 and gives the field,
--- the T-values, the list and the matrices that were written
-pub written-reads-back : (f : Field) (ts order first second : List ℕ) → Sizes ts order first second
+-- If the key writer answers 0, the key reader answers 0 on the file in the output's first bytes, and gives the field,
+-- the T-values, the list and the matrices that were written.
+pub written-reads-back : (f : Field) (ts labels first second : List ℕ) → Sizes ts labels first second
     → {before after : List ℕ} {answer answer′ : ℕ} {key : Key}
-    → WroteKey f ts order first second before after answer → answer ≡ 0
+    → WroteKey f ts labels first second before after answer → answer ≡ 0
     → ReadsKey (take (keyBytes f) after) answer′ key
-    → (answer′ ≡ 0) × (key ≡ keyHolding f ts order first second)
-written-reads-back f ts order first second size {before} {after} w z r =
-    let asked : firstNo (keyWriterQuestions f (length before) ts order first second) ≡ 0 = sym (w .answer-is) ∙ z in
-    let ok = writable f (length before) ts order first second asked in
+    → (answer′ ≡ 0) × (key ≡ keyHolding f ts labels first second)
+written-reads-back f ts labels first second size {before} {after} w z r =
+    let asked : firstNo (keyWriterQuestions f (length before) ts labels first second) ≡ 0 = sym (w .answer-is) ∙ z in
+    let ok = writable f (length before) ts labels first second asked in
     let fit = parts ok in
-    let file : take (keyBytes f) after ≡ keyFile (bits f) ts order first second = output-file w asked (written-size f ts order first second size fit) in
+    let file : take (keyBytes f) after ≡ keyFile (bits f) ts labels first second =
+    output-file w asked (written-size f ts labels first second size fit) in
     let e : keyAnswer (take (keyBytes f) after) ≡ 0 =
-    ap keyAnswer file ∙ accepted-answers f (keyFile (bits f) ts order first second) (accepted-back f ts order first second size fit ok) in
-    (r .answer-is ∙ e, r .key-is ∙ granted-zero (keyOf (take (keyBytes f) after)) zeroKey e ∙ ap keyOf file ∙ key-back f ts order first second size fit)
+    ap keyAnswer file
+    ∙ accepted-answers f (keyFile (bits f) ts labels first second)
+    (accepted-back f ts labels first second size fit ok) in (
+      r .answer-is ∙ e,
+      r .key-is ∙ granted-zero (keyOf (take (keyBytes f) after)) zeroKey e ∙ ap keyOf file
+          ∙ key-back f ts labels first second size fit,
+    )
 
--- where the key reader answers 0 on a file of bytes, the key writer, on what it gave, with the key's own field and the
--- entries that a file has of its matrices, and an output that has room, answers 0 and leaves the file's own bytes in
--- the output's first, the rest as it was
+-- The key reader answers 0 on a file of bytes. The key writer then gets what the reader gave, with the key's own field,
+-- the entries that a file holds of the key's matrices, and an output that has room. It answers 0, leaves the file's own
+-- bytes in the output's first bytes, and leaves the rest unchanged.
 pub read-writes-back : (file : List ℕ) → ((k : ℕ) → getD file k 0 < 256)
     → {answer answer′ : ℕ} {key : Key} → ReadsKey file answer key → answer ≡ 0
-    → {first second before after : List ℕ} → first ≡ fileEntries (key .pair .matrix) → second ≡ fileEntries (key .second)
+    → {first second before after : List ℕ} → first ≡ fileEntries (key .pair .matrix)
+    → second ≡ fileEntries (key .second)
     → keyBytes (key .field) ≤ length before
     → WroteKey (key .field) (key .«t_values») (key .pair .labels) first second before after answer′
-    → (answer′ ≡ 0) × (take (keyBytes (key .field)) after ≡ file) × (drop (keyBytes (key .field)) after ≡ drop (keyBytes (key .field)) before)
+    → (answer′ ≡ 0) × (take (keyBytes (key .field)) after ≡ file)
+    × (drop (keyBytes (key .field)) after ≡ drop (keyBytes (key .field)) before)
 unfolding keyOf
 read-writes-back file bytes {key = key} r z {first} {second} {before} {after} ef es room w =
     let e : keyAnswer file ≡ 0 = sym (r .answer-is) ∙ z in
@@ -213,13 +243,18 @@ read-writes-back file bytes {key = key} r z {first} {second} {before} {after} ef
     let again-held : key ≡ keyParts g b file = held ∙ ap (λ (f : Field). keyParts f (bits f) file) same in
     let ok : Accepted g file = subst (λ (f : Field). Accepted f file) same (accepted file e) in
     let t : key .«t_values» ≡ tValues b file = ap (λ (k : Key). k .«t_values») again-held in
-    let o : key .pair .labels ≡ labels b file = ap (λ (k : Key). k .pair .labels) again-held in
+    let o : key .pair .labels ≡ keyLabels b file = ap (λ (k : Key). k .pair .labels) again-held in
     let p : first ≡ entries b (firstBytes b file) =
-    ef ∙ ap (λ (k : Key). fileEntries (k .pair .matrix)) again-held ∙ entries-whole (entries b (firstBytes b file)) (length-unpacked b 57 (firstBytes b file)) in
+    ef ∙ ap (λ (k : Key). fileEntries (k .pair .matrix)) again-held
+    ∙ entries-whole (entries b (firstBytes b file)) (length-unpacked b 57 (firstBytes b file)) in
     let s : second ≡ entries b (secondBytes b file) =
-    es ∙ ap (λ (k : Key). fileEntries (k .second)) again-held ∙ entries-whole (entries b (secondBytes b file)) (length-unpacked b 57 (secondBytes b file)) in
+    es ∙ ap (λ (k : Key). fileEntries (k .second)) again-held
+    ∙ entries-whole (entries b (secondBytes b file)) (length-unpacked b 57 (secondBytes b file)) in
     let asked : firstNo (keyWriterQuestions g (length before) (key .«t_values») (key .pair .labels) first second) ≡ 0 =
-    (λ i. firstNo (keyWriterQuestions g (length before) (t i) (o i) (p i) (s i))) ∙ read-is-writable g (length before) file room ok in
-    let equal : keyFile b (key .«t_values») (key .pair .labels) first second ≡ file = (λ i. keyFile b (t i) (o i) (p i) (s i)) ∙ again g file bytes ok in
-    let size : length (keyFile b (key .«t_values») (key .pair .labels) first second) ≡ keyBytes g = ap length equal ∙ ok .size in
+    (λ i. firstNo (keyWriterQuestions g (length before) (t i) (o i) (p i) (s i)))
+    ∙ read-is-writable g (length before) file room ok in
+    let equal : keyFile b (key .«t_values») (key .pair .labels) first second ≡ file =
+    (λ i. keyFile b (t i) (o i) (p i) (s i)) ∙ again g file bytes ok in
+    let size : length (keyFile b (key .«t_values») (key .pair .labels) first second) ≡ keyBytes g =
+    ap length equal ∙ ok .size in
     (w .answer-is ∙ asked, output-file w asked size ∙ equal, output-rest w asked size)

@@ -1,5 +1,5 @@
--- The two widths of an element, 5 bits and 8, and the two lengths of a key file: each field's own, and the field that
--- goes with a length.
+-- The two widths of an element, 5 bits and 8 bits, and the two lengths of a key file: each field's own length, and the
+-- field that goes with a length.
 use Prim.Native.Nat.{ℕ, _≤_}
 use mathlib.Core.Path.{_≡_, refl, sym, ap, _∙_, subst}
 use mathlib.Core.Bool.{Bool, true, false, cond, _||_, false≢true}
@@ -18,19 +18,19 @@ pub narrow : (f : Field) → bits f ≤ 8
 narrow Gf32 = omega arith
 narrow Gf256 = omega arith
 
--- the bytes of a file, by the bits of an element
+-- the number of bytes of a file, by the bits of an element
 pub file-bytes : (f : Field) → fileBytes (bits f) ≡ keyBytes f
 file-bytes Gf32 = refl
 file-bytes Gf256 = refl
 
--- the same of a number that is a field's bits
+-- a number b that equals a field's bits is at most 8, and `fileBytes b` is the field's file length
 pub told-narrow : (f : Field) {b : ℕ} → b ≡ bits f → b ≤ 8
 told-narrow f e = subst (λ (b : ℕ). b ≤ 8) (sym e) (narrow f)
 
 pub told-bytes : (f : Field) {b n : ℕ} → b ≡ bits f → n ≡ keyBytes f → n ≡ fileBytes b
 told-bytes f e l = l ∙ sym (file-bytes f) ∙ ap (λ (b : ℕ). fileBytes b) (sym e)
 
--- a file of a field's length is a file over this field
+-- a file of a field's length is a file over that field
 by-length : (f : Field) → cond (eqb (keyBytes f) (keyBytes Gf256)) Gf256 Gf32 ≡ f
 by-length Gf32 = refl
 by-length Gf256 = refl
@@ -39,7 +39,7 @@ pub field-of-length : (f : Field) (file : List ℕ) → length file ≡ keyBytes
 unfolding keyField
 field-of-length f file e = ap (λ (n : ℕ). cond (eqb n (keyBytes Gf256)) Gf256 Gf32) e ∙ by-length f
 
--- question 1 is passed by just these lengths
+-- Question 1 is passed by exactly two lengths, 83 and 128.
 abbrev pub eitherLength : ℕ → Bool
 eitherLength n = eqb n (keyBytes Gf32) || eqb n (keyBytes Gf256)
 

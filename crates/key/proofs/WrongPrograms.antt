@@ -1,6 +1,7 @@
--- Wrong programs that the contracts shut out: a reader that takes a key of 128 bytes with q = 32 or one of 83 with q =
--- 256, that asks filler bits of the larger field, or whose refusal names it; a writer that says 17 of an element over
--- 31 of the larger field; one that gives the first 57 of a matrix's 64 numbers as those that a file has.
+-- The contracts shut out wrong programs: a reader that accepts a key of 128 bytes with q = 32 or one of 83 bytes with q
+-- = 256; one that tests filler bits over the larger field; one whose refusal names the larger field; a writer that
+-- gives 17 for an element over 31 of the larger field; one that gives the first 57 of a matrix's 64 numbers as the
+-- entries of a file.
 use Prim.Native.Nat.{ℕ}
 use mathlib.Core.Path.{_≡_, refl, sym, ap, _∙_, subst}
 use mathlib.Core.Bool.{true, false≢true}
@@ -28,41 +29,48 @@ abbrev Bytes : List ℕ → Type 0
 Bytes file = every (λ b. ltb b 256) file ≡ true
 
 -- any reader that meets the contract on bytes
-module _ (answer : List ℕ → ℕ) (key : List ℕ → Key) (right : (file : List ℕ) → Bytes file → ReadsKey file (answer file) (key file)) where
+module _ (answer : List ℕ → ℕ) (key : List ℕ → Key)
+    (right : (file : List ℕ) → Bytes file → ReadsKey file (answer file) (key file)) where
   taken-over : (f : Field) (file : List ℕ) → Bytes file → keyField file ≡ f → answer file ≡ 0 → Accepted f file
   taken-over f file b e z = subst (λ (g : Field). Accepted g file) e (accepted file (sym (right file b .answer-is) ∙ z))
 
   -- whatever the rest of the file
   pub no-128-with-32 : (file : List ℕ) → Bytes file → length file ≡ 128 → fieldSize file ≡ 32 → answer file ≡ 0 → ⊥
   no-128-with-32 file b l q z =
-      let e : _≡_ {A = ℕ} 32 256 = sym q ∙ taken-over Gf256 file b (field-of-length Gf256 file l) z .field-size in omega arith
+      let e : _≡_ {A = ℕ} 32 256 = sym q ∙ taken-over Gf256 file b (field-of-length Gf256 file l) z .field-size in
+      omega arith
 
   pub no-83-with-256 : (file : List ℕ) → Bytes file → length file ≡ 83 → fieldSize file ≡ 256 → answer file ≡ 0 → ⊥
   no-83-with-256 file b l q z =
-      let e : _≡_ {A = ℕ} 256 32 = sym q ∙ taken-over Gf32 file b (field-of-length Gf32 file l) z .field-size in omega arith
+      let e : _≡_ {A = ℕ} 256 32 = sym q ∙ taken-over Gf32 file b (field-of-length Gf32 file l) z .field-size in
+      omega arith
 
-  -- the plain key's last byte is 1
+  -- the plain key over the larger field ends with the byte 1, which is an entry and no filler
   pub no-filler-of-the-larger : answer (keyWith Gf256 unitEntries unitEntries) ≡ 7 → ⊥
   unfolding every valuesFrom value digits keyFile packedRow fileEntries matrixOf rowOf columnOf entry place identity
   no-filler-of-the-larger wrong =
-      let e : _≡_ {A = ℕ} 7 0 = sym wrong ∙ right (keyWith Gf256 unitEntries unitEntries) refl .answer-is ∙ plain-key Gf256 in omega arith
+      let e : _≡_ {A = ℕ} 7 0 =
+      sym wrong ∙ right (keyWith Gf256 unitEntries unitEntries) refl .answer-is ∙ plain-key Gf256 in omega arith
 
-  -- the blank key of 128 bytes is refused
+  -- the blank key of 128 bytes is refused, and the zeros of a refusal name the field with 32 elements
   pub no-refusal-names-the-larger : key (keyWith Gf256 blank blank) .field ≡ Gf256 → ⊥
   unfolding zeroKey every valuesFrom value digits keyFile packedRow
   no-refusal-names-the-larger wrong =
       let file = keyWith Gf256 blank blank in
-      let zeros = granted-refused (keyOf file) zeroKey (λ z. let e : _≡_ {A = ℕ} 26 0 = sym (blank-key Gf256) ∙ z in omega arith) in
+      let zeros =
+      granted-refused (keyOf file) zeroKey (λ z. let e : _≡_ {A = ℕ} 26 0 = sym (blank-key Gf256) ∙ z in omega arith) in
       false≢true (ap isLarge (sym (ap (λ (k : Key). k .field) (right file refl .key-is ∙ zeros)) ∙ wrong))
 
--- any writer that meets the contract: T-values and entries of 200, and a list of eight labels 0, which gets 6
+-- Any writer that meets the contract, given T-values and entries of 200 and a list of eight labels 0, gives 6 and not
+-- 17.
 pub no-17-for-an-element : {after : List ℕ} {answer : ℕ}
-    → WroteKey Gf256 (1 ∷ 1 ∷ replicate 6 200) (replicate 8 0) (replicate 57 200) (replicate 57 200) (replicate 128 0) after answer
+    → WroteKey Gf256 (1 ∷ 1 ∷ replicate 6 200) (replicate 8 0) (replicate 57 200) (replicate 57 200)
+    (replicate 128 0) after answer
     → answer ≡ 17 → ⊥
 unfolding firstNo valuesFrom every tally eachOnce
 no-17-for-an-element w wrong = let e : _≡_ {A = ℕ} 17 6 = sym wrong ∙ w .answer-is in omega arith
 
--- refuted on the matrix whose numbers all differ: its last is not the last of row 8
+-- refuted on the matrix whose 64 numbers all differ: its 57th number is not the last entry of row 8
 pub first-57 : take 57 (values (λ k. k) 64) ≡ fileEntries (values (λ k. k) 64) → ⊥
 unfolding fileEntries place entry valuesFrom
 first-57 e = let z : _≡_ {A = ℕ} 56 63 = ap (λ (l : List ℕ). getD l 56 0) e in omega arith

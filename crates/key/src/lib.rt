@@ -1,7 +1,7 @@
-// Key files: N, q, eight T-values, the matrix of Pub(S), its list and the matrix of Pub(S'), in 83 bytes over GF(32)
-// and in 128 over GF(256); and what their reader and their writer share.
-use action::Pair;
+// Key files. A key file has 83 bytes over GF(32) and 128 over GF(256). This crate has what the key reader and the key
+// writer share.
 use field::Field;
+use pair::Pair;
 ghost use mathlib.Core.Path.{_≡_};
 ghost use lib.ListN.{length};
 ghost use Rattle.key.specs.Keys.{wholeMatrix, fileEntries, startsWithOnes, zeroKey};
@@ -14,10 +14,10 @@ pub use width::VALUES_PLACE;
 pub use width::bits_of;
 pub use width::file_bytes;
 pub use width::first_place;
-pub use width::list_place;
+pub use width::labels_place;
 pub use width::second_place;
 
-// What a key file holds: its field, T-values, the pair Pub(S), the matrix of Pub(S').
+// What a key file holds: the field, the T-values, the pair Pub(S) and the matrix of Pub(S').
 pub struct Key {
     pub field: Field,
     pub t_values: [u8; 8],
@@ -25,14 +25,14 @@ pub struct Key {
     pub second: [u8; 64],
 }
 
-// An answer, and beside it a key, which is all zeros on a refusal.
+// An answer and a key. On a refusal the key is all zeros.
 pub struct KeyRead {
     pub answer: u8,
     pub key: Key,
 }
 
 impl KeyRead {
-    // A refusal.
+    // A refusal: its number, and a key of zeros. The field of this key is the one with 32 elements.
     pub fn refused(answer: u8) -> KeyRead
         ensures { λ r. ⌜ (r .answer ≡ answer) × (r .key ≡ zeroKey) ⌝ }
     {
@@ -56,7 +56,8 @@ pub fn starts_with_ones(ts: &[u8; 8]) -> bool
     (ts[0] == 1) & (ts[1] == 1)
 }
 
-// The matrix of the 57 entries that a file has of it: rows 1 to 7 whole, then the last entry of row 8.
+// The matrix of the 57 entries that a file holds: rows 1 to 7 whole, then the last entry of row 8, whose other entries
+// are 0.
 pub fn whole_matrix(all: &[u8]) -> [u8; 64]
     requires { ⌜ length (now all) ≡ 57 ⌝ }
     ensures { λ r. ⌜ r ≡ wholeMatrix (now (all .entry)) ⌝ }
@@ -71,8 +72,8 @@ pub fn whole_matrix(all: &[u8]) -> [u8; 64]
     m
 }
 
-// The 57 entries that a key file has of a matrix, as the key writer takes them: rows 1 to 7 whole, then the last entry
-// of row 8.
+// The 57 entries that a key file holds of a matrix, as the key writer takes them: rows 1 to 7 whole, then the last
+// entry of row 8.
 pub fn file_entries(matrix: &[u8; 64]) -> [u8; 57]
     ensures { λ r. ⌜ r ≡ fileEntries (now (matrix .entry)) ⌝ }
 {

@@ -1,20 +1,20 @@
-// What differs between the key files of the two fields: the bits of an element, and with them where the parts of a file
-// begin.
+// What differs between the key files of the two fields: the number of bits of an element, and the places where the
+// parts of a file begin.
 use field::Field;
 ghost use mathlib.Core.Path.{_≡_};
 ghost use Prim.Native.Nat.{_≤_};
 ghost use Rattle.field.specs.Fields.{bits};
 ghost use Rattle.key.specs.Keys.{keyPlace, fileBytes};
 
-// The bytes of a key file over either field.
+// The number of bytes of a key file, over GF(32) and over GF(256).
 pub const SMALL_BYTES: usize = 83;
 
 pub const LARGE_BYTES: usize = 128;
 
-// N and q come first, and then the T-values.
+// The T-values come after N, which has 1 byte, and q, which has 2.
 pub const VALUES_PLACE: usize = 3;
 
-// The bits of an element.
+// The number of bits of an element.
 pub fn bits_of(f: Field) -> usize
     ensures { λ r. ⌜ r ≡ bits f ⌝ }
 {
@@ -24,7 +24,7 @@ pub fn bits_of(f: Field) -> usize
     }
 }
 
-// Where the matrix of Pub(S) begins, by the bits of an element.
+// Where the matrix of Pub(S) begins, if an element has `bits` bits.
 pub fn first_place(bits: usize) -> usize
     requires { ⌜ bits ≤ 8 ⌝ }
     ensures { λ r. ⌜ r ≡ keyPlace bits 3 ⌝ }
@@ -32,8 +32,8 @@ pub fn first_place(bits: usize) -> usize
     VALUES_PLACE + base::row_bytes(bits, 8)
 }
 
-// Where its list begins.
-pub fn list_place(bits: usize) -> usize
+// Where the list of Pub(S) begins.
+pub fn labels_place(bits: usize) -> usize
     requires { ⌜ bits ≤ 8 ⌝ }
     ensures { λ r. ⌜ r ≡ keyPlace bits 4 ⌝ }
 {
@@ -45,10 +45,10 @@ pub fn second_place(bits: usize) -> usize
     requires { ⌜ bits ≤ 8 ⌝ }
     ensures { λ r. ⌜ r ≡ keyPlace bits 5 ⌝ }
 {
-    list_place(bits) + base::row_bytes(3, 8)
+    labels_place(bits) + base::row_bytes(3, 8)
 }
 
-// The bytes of a key file.
+// The number of bytes of a key file.
 pub fn file_bytes(bits: usize) -> usize
     requires { ⌜ bits ≤ 8 ⌝ }
     ensures { λ r. ⌜ r ≡ fileBytes bits ⌝ }

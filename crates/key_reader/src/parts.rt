@@ -1,5 +1,5 @@
-// The parts of a key file whose elements have some number of bits, and the questions that are asked of it before its
-// matrices are taken: 2 to 7.
+// The parts of a key file whose elements have `bits` bits, and questions 2 to 7, which come before the matrices are
+// unpacked.
 ghost use mathlib.Core.Path.{_≡_};
 ghost use mathlib.Core.Bool.{_&&_};
 ghost use lib.Dec.{eqb};
@@ -7,9 +7,10 @@ ghost use Prim.Native.Nat.{_≤_};
 ghost use lib.ListN.{length};
 ghost use Rattle.base.specs.Questions.{firstNo};
 ghost use Rattle.base.specs.Packing.{rowBytes, unpackedRow};
-ghost use Rattle.key.specs.Keys.{fileBytes, tValues, labels, entries, wholeMatrix, filler, firstBytes, secondBytes, partQuestions};
+ghost use Rattle.key.specs.Keys.{fileBytes, tValues, keyLabels, entries, wholeMatrix, matrixFiller, firstBytes};
+ghost use Rattle.key.specs.Keys.{secondBytes, partQuestions};
 
-// Eight numbers of so many bits.
+// Unpacks eight numbers of `bits` bits.
 fn eight(bytes: &[u8], bits: usize) -> [u8; 8]
     requires { ⌜ (bits ≤ 8) × (length (now bytes) ≡ rowBytes bits 8) ⌝ }
     ensures { λ r. ⌜ r ≡ unpackedRow bits 8 (now (bytes .entry)) ⌝ }
@@ -28,16 +29,16 @@ pub(crate) fn t_values(file: &[u8], bits: usize) -> [u8; 8]
     eight(&file[at..end], bits)
 }
 
-pub(crate) fn order(file: &[u8], bits: usize) -> [u8; 8]
+pub(crate) fn labels(file: &[u8], bits: usize) -> [u8; 8]
     requires { ⌜ (bits ≤ 8) × (length (now file) ≡ fileBytes bits) ⌝ }
-    ensures { λ r. ⌜ r ≡ labels bits (now (file .entry)) ⌝ }
+    ensures { λ r. ⌜ r ≡ keyLabels bits (now (file .entry)) ⌝ }
 {
-    let at = key::list_place(bits);
+    let at = key::labels_place(bits);
     let end = key::second_place(bits);
     eight(&file[at..end], 3)
 }
 
-// The matrix of its bytes.
+// Unpacks a matrix from its bytes.
 pub(crate) fn matrix(bytes: &[u8], bits: usize) -> [u8; 64]
     requires { ⌜ (bits ≤ 8) × (length (now bytes) ≡ rowBytes bits 57) ⌝ }
     ensures { λ r. ⌜ r ≡ wholeMatrix (entries bits (now (bytes .entry))) ⌝ }
@@ -50,20 +51,27 @@ pub(crate) fn matrix(bytes: &[u8], bits: usize) -> [u8; 64]
 // Are all filler bits zero?
 fn filler_is_zero(file: &[u8], bits: usize) -> bool
     requires { ⌜ (bits ≤ 8) × (length (now file) ≡ fileBytes bits) ⌝ }
-    ensures { λ r. ⌜ r ≡ (eqb (filler bits (firstBytes bits (now (file .entry)))) 0 && eqb (filler bits (secondBytes bits (now (file .entry)))) 0) ⌝ }
+    ensures { λ r.
+        ⌜
+        r ≡ (eqb (matrixFiller bits (firstBytes bits (now (file .entry)))) 0
+        && eqb (matrixFiller bits (secondBytes bits (now (file .entry)))) 0)
+        ⌝ }
 {
     let at = key::first_place(bits);
-    let list = key::list_place(bits);
+    let end = key::labels_place(bits);
     let after = key::second_place(bits);
-    let first = base::filler_is_zero(&file[at..list], bits, 57);
+    let first = base::filler_is_zero(&file[at..end], bits, 57);
     let second = base::filler_is_zero(&file[after..], bits, 57);
     first & second
 }
 
-// The questions 2 to 7, in order, of a file with these T-values and this list: the number of the first one answered no,
-// 0 if there is none.
-pub(crate) fn answer(file: &[u8], ts: &[u8; 8], list: &[u8; 8], bits: usize) -> u8
-    requires { ⌜ (bits ≤ 8) × (length (now file) ≡ fileBytes bits) × (now ts ≡ tValues bits (now file)) × (now list ≡ labels bits (now file)) ⌝ }
+// Questions 2 to 7, in order: the number of the first question answered no, or 0 if there is none. The caller has
+// already unpacked the T-values and the list.
+pub(crate) fn answer(file: &[u8], ts: &[u8; 8], labels: &[u8; 8], bits: usize) -> u8
+    requires { ⌜
+        (bits ≤ 8) × (length (now file) ≡ fileBytes bits) × (now ts ≡ tValues bits (now file))
+        × (now labels ≡ keyLabels bits (now file))
+        ⌝ }
     ensures { λ r. ⌜ r ≡ firstNo (partQuestions bits (now (file .entry))) ⌝ }
 {
     let strands = file[0];
@@ -75,7 +83,7 @@ pub(crate) fn answer(file: &[u8], ts: &[u8; 8], list: &[u8; 8], bits: usize) -> 
     if size != wanted {
         return 3;
     }
-    let set = operands::all_nonzero(ts);
+    let set = pair_operands::all_nonzero(ts);
     if !set {
         return 4;
     }
@@ -83,7 +91,7 @@ pub(crate) fn answer(file: &[u8], ts: &[u8; 8], list: &[u8; 8], bits: usize) -> 
     if !ones {
         return 5;
     }
-    let each = operands::is_order(list);
+    let each = pair_operands::is_order(labels);
     if !each {
         return 6;
     }

@@ -1,36 +1,44 @@
-// The key writer: the questions 16, 17, 4, 5, 6, 26, and then the bytes of a key file.
+// The key writer.
 use field::Field;
 ghost use mathlib.Core.Path.{_≡_};
 ghost use mathlib.Core.Bool.{_&&_};
 ghost use Rattle.base.specs.Questions.{firstNo};
 ghost use Rattle.base.specs.Lists.{overlaid};
 ghost use Rattle.field.specs.Fields.{bits};
-ghost use Rattle.operands.specs.Operands.{fit};
+ghost use Rattle.pair_operands.specs.steps.Fitting.{fit};
 ghost use Rattle.key.specs.Keys.{keyFile, keyWriterQuestions, WroteKey};
-ghost use Rattle.key.specs.Parts.{Fillable};
+ghost use Rattle.key.specs.steps.Parts.{Fillable};
 
-// Does every T-value and entry fit so many bits?
+// Does every T-value and entry fit `bits` bits?
 fn all_fit(ts: &[u8; 8], first: &[u8; 57], second: &[u8; 57], bits: usize) -> bool
-    ensures { λ r. ⌜ r ≡ (fit bits (now (ts .entry)) && fit bits (now (first .entry)) && fit bits (now (second .entry))) ⌝ }
+    ensures { λ r.
+        ⌜
+        r ≡ (fit bits (now (ts .entry)) && fit bits (now (first .entry)) && fit bits (now (second .entry)))
+        ⌝ }
 {
-    let a = operands::all_fit(ts, bits);
-    let b = operands::all_fit(first, bits);
-    let c = operands::all_fit(second, bits);
+    let a = pair_operands::all_fit(ts, bits);
+    let b = pair_operands::all_fit(first, bits);
+    let c = pair_operands::all_fit(second, bits);
     a & b & c
 }
 
-// The questions 16, 17, 4, 5, 6, 26, in this order, over a field whose elements have so many bits.
+// Questions 16, 17, 4, 5, 6, 26, in this order: the number of the first question answered no, or 0 if there is none. An
+// element of the field has `width` bits.
 fn answer(
     room: usize,
     ts: &[u8; 8],
-    order: &[u8; 8],
+    labels: &[u8; 8],
     first: &[u8; 57],
     second: &[u8; 57],
     width: usize,
     f: Field,
 ) -> u8
     requires { ⌜ width ≡ bits f ⌝ }
-    ensures { λ r. ⌜ r ≡ firstNo (keyWriterQuestions f room (now (ts .entry)) (now (order .entry)) (now (first .entry)) (now (second .entry))) ⌝ }
+    ensures { λ r.
+        ⌜
+        r ≡ firstNo
+        (keyWriterQuestions f room (now (ts .entry)) (now (labels .entry)) (now (first .entry)) (now (second .entry)))
+        ⌝ }
 {
     let size = key::file_bytes(width);
     if room < size {
@@ -40,7 +48,7 @@ fn answer(
     if !elements {
         return 17;
     }
-    let set = operands::all_nonzero(ts);
+    let set = pair_operands::all_nonzero(ts);
     if !set {
         return 4;
     }
@@ -48,33 +56,39 @@ fn answer(
     if !ones {
         return 5;
     }
-    let each = operands::is_order(order);
+    let each = pair_operands::is_order(labels);
     if !each {
         return 6;
     }
     let whole = key::whole_matrix(first);
     let other = key::whole_matrix(second);
-    let inverses = elimination::both_invertible(whole, other, f);
+    let inverses = matrix_elimination::both_invertible(whole, other, f);
     if !inverses {
         return 26;
     }
     0
 }
 
-// The file in the output's first bytes: N and q, and then the packed parts, each behind the last.
-fn fill(out: &mut [u8], ts: &[u8], order: &[u8], first: &[u8], second: &[u8], bits: usize)
-    requires { ⌜ Fillable bits (now ts) (now order) (now first) (now second) (now out) ⌝ }
-    ensures { λ r. ⌜ now (out .exit) ≡ overlaid (keyFile bits (now (ts .entry)) (now (order .entry)) (now (first .entry)) (now (second .entry))) (now (out .entry)) ⌝ }
+// Writes the file to the output's first bytes: N and q, and then the packed parts, one after another.
+fn fill(out: &mut [u8], ts: &[u8], labels: &[u8], first: &[u8], second: &[u8], bits: usize)
+    requires { ⌜ Fillable bits (now ts) (now labels) (now first) (now second) (now out) ⌝ }
+    ensures { λ r.
+        ⌜
+        now (out .exit)
+        ≡ overlaid (keyFile bits (now (ts .entry)) (now (labels .entry)) (now (first .entry)) (now (second .entry)))
+        (now (out .entry))
+        ⌝ }
 {
     let size = base::power(bits);
     base::put(out, &[8, (size / 256) as u8, (size % 256) as u8]);
     let matrix = base::pack_at(out, key::VALUES_PLACE, ts, bits);
-    let list = base::pack_at(out, matrix, first, bits);
-    let after = base::pack_at(out, list, order, 3);
+    let labels_at = base::pack_at(out, matrix, first, bits);
+    let after = base::pack_at(out, labels_at, labels, 3);
     base::pack_at(out, after, second, bits);
 }
 
 // Writes a key file over a field from fixed arrays: questions 16, 17, 4, 5, 6, 26. Bytes past the file do not change.
+// On a refusal no byte changes.
 pub fn write_key(
     t_values: &[u8; 8],
     labels: &[u8; 8],
@@ -83,7 +97,11 @@ pub fn write_key(
     out: &mut [u8],
     f: Field,
 ) -> u8
-    ensures { λ r. ⌜ WroteKey f (now («t_values» .entry)) (now (labels .entry)) (now (first .entry)) (now (second .entry)) (now (out .entry)) (now (out .exit)) r ⌝ }
+    ensures { λ r.
+        ⌜
+        WroteKey f (now («t_values» .entry)) (now (labels .entry)) (now (first .entry)) (now (second .entry))
+        (now (out .entry)) (now (out .exit)) r
+        ⌝ }
 {
     let bits = key::bits_of(f);
     let answer = answer(out.len(), t_values, labels, first, second, bits, f);

@@ -1,18 +1,18 @@
-// The letters of a word file on standard input, in plain lines: the part that holds the codes; the letter at each place
-// up to the first where none is left, and at the next one; and the second letter through a reader of words. Its run is
-// document 01's word of seven letters.
-use braid::Letter;
+// Prints the letters of a word file from standard input, in plain lines: the part that holds the codes; the letter at
+// each place, up to the first place where none is left and the place after it; and the second letter, by a reader of
+// words. The typed run has document 01's word of seven letters.
 use libc::STDIN_FILENO;
+use word::Letter;
 
-// Whether a letter is left, and its code.
+// Prints whether a letter is left, and its code.
 fn letter(found: Letter) {
     print::choice(found.left, b" yes", b" no");
     print::byte(found.code);
 }
 
-// The line of a place: its letter. Is one left there?
+// Prints the line of a place, and returns whether a letter is left there.
 fn line(file: &[u8], place: usize) -> bool {
-    let found = braid::letter_at(file, place);
+    let found = word::letter_at(file, place);
     let left = found.left;
     print::text(b"place");
     print::number(place);
@@ -21,10 +21,10 @@ fn line(file: &[u8], place: usize) -> bool {
     left
 }
 
-// A line for each letter, for the first place where none is left, and for the next one.
+// Prints a line for each letter, for the first place where none is left, and for the place after it.
 fn lines(file: &[u8]) {
     let mut place = 0;
-    while place <= braid::MAX_LETTERS {
+    while place <= word::MAX_LETTERS {
         if !line(file, place) {
             line(file, place + 1);
             return;
@@ -35,11 +35,11 @@ fn lines(file: &[u8]) {
 
 fn show(file: &[u8]) {
     print::text(b"codes");
-    print::hex(braid::code_part(file));
+    print::hex(word::code_part(file));
     print::text(b"\n");
     lines(file);
     print::text(b"second");
-    letter(reader::second(file));
+    letter(word_reader::second(file));
     print::text(b"\n");
 }
 

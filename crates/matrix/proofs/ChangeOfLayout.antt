@@ -1,5 +1,5 @@
--- The operations on matrices held by columns are those on matrices held by rows, through the plain change of layout:
--- product, comparison and elimination, over any operations of a field. The change is its own inverse.
+-- Product, comparison and elimination of matrices held by columns equal those of matrices held by rows, through the
+-- plain change of layout. The laws hold for the operations of any field. The change of layout is its own inverse.
 use Prim.Native.Nat.{ℕ, _+_, _*_, _/_, _%_, _<_}
 use mathlib.Core.Path.{_≡_, refl, sym, ap, ap₂, _∙_}
 use mathlib.Core.Bool.{Bool, true, false}
@@ -28,7 +28,7 @@ getD-turned : (m : List ℕ) (k : ℕ) → k < 64 → getD (turned m) k 0 ≡ ge
 unfolding turned
 getD-turned m k h = getD-values (λ k. getD m (8 * (k % 8) + k / 8) 0) 64 k h
 
--- it is its own inverse
+-- the change of layout is its own inverse
 pub turned-twice : (m : List ℕ) → length m ≡ 64 → turned (turned m) ≡ m
 unfolding turned
 turned-twice m l = sym (values-of (λ k. getD (turned m) (8 * (k % 8) + k / 8) 0) 64 m l at)
@@ -39,7 +39,7 @@ turned-twice m l = sym (values-of (λ k. getD (turned m) (8 * (k % 8) + k / 8) 0
         let e : 8 * (i % 8) + i / 8 ≡ k = omega arith in
         sym (getD-turned m i (omega arith) ∙ ap (λ (j : ℕ). getD m j 0) e)
 
--- the entries of a matrix by rows are those of the changed one by columns
+-- the changed matrix has, by columns, the entries that the matrix has by rows
 pub entry-turned : (m : List ℕ) (r c : ℕ) → r < 8 → c < 8 → entry (turned m) r c ≡ entryByRows m r c
 unfolding place entry entryByRows
 entry-turned m r c hr hc =
@@ -58,7 +58,7 @@ matrix-turned f =
         let c : i % 8 ≡ k / 8 = omega arith in
         getD-turned (matrixByRows f) k h ∙ getD-values (λ k. f (k / 8) (k % 8)) 64 i (omega arith) ∙ ap₂ f r c
 
--- a test on every number
+-- a test of every number gives the same result in both layouts
 pub every-turned : (f : ℕ → Bool) (m : List ℕ) → length m ≡ 64 → every f (turned m) ≡ every f m
 every-turned f m l = go (every f m) refl
   where
@@ -77,7 +77,7 @@ every-turned f m l = go (every f m) refl
 
 -- ---- the operations
 
--- the product
+-- the product of the changed matrices is the product by rows, changed
 pub product-turned : (F : Operations) (a b : List ℕ)
     → matrixProduct F (turned a) (turned b) ≡ turned (productByRows F a b)
 unfolding matrixProduct productByRows
@@ -89,7 +89,7 @@ product-turned F a b =
     (λ k h. entry-turned a r k hr h) (λ k h. entry-turned b k c h hc))
     ∙ matrix-turned rows
 
--- the comparison
+-- two matrices are equal in one layout exactly if they are equal in the other
 pub comparison-turned : (a b : List ℕ) → length a ≡ 64 → length b ≡ 64 → equal (turned a) (turned b) ≡ equal a b
 comparison-turned a b l l' = go (equal a b) refl
   where
@@ -99,7 +99,7 @@ comparison-turned a b l l' = go (equal a b) refl
         equal-false (turned a) (turned b)
         (λ d. true-false (equal a b) (equal-of (sym (turned-twice a l) ∙ ap turned d ∙ turned-twice b l')) e)
 
--- the elimination
+-- elimination gives the same answer in both layouts
 pub elimination-turned : (F : Operations) (m : List ℕ) → invertible F 8 (entry (turned m)) ≡ invertibleByRows F m
 unfolding invertibleByRows
 elimination-turned F m = invertible-same F 8 (entry (turned m)) (entryByRows m) (entry-turned m)

@@ -1,5 +1,6 @@
 -- Elimination decides whether an n by n matrix of elements has a left inverse, over any binary field and for any n. A
--- left inverse is a row of weights for each row of the identity, by which the matrix's rows add up to it.
+-- left inverse has a row of weights for each row of the identity: the rows of the matrix, each times its weight, add up
+-- to the row of the identity.
 use Prim.Native.Nat.{ℕ, zero, suc, _<_, _≤_}
 use mathlib.Core.Path.{_≡_, refl, sym, ap, ap₂, _∙_}
 use mathlib.Core.Bool.{Bool, true, false, cond, not, true≢false, false≢true}
@@ -27,7 +28,7 @@ pivot-below column (suc n) = at (eqb (column (suc n)) 0) (pivot-below column n)
     at true h = omega arith
     at false h = omega arith
 
--- where the column is zero at its pivot it is zero everywhere
+-- if the column is zero at its pivot, it is zero in all rows 0 to n
 pivot-zero : (column : ℕ → ℕ) (n : ℕ) → column (pivot column n) ≡ 0 → (i : ℕ) → i < suc n → column i ≡ 0
 unfolding pivot
 pivot-zero column zero e i h = let z : i ≡ 0 = omega arith in ap column z ∙ e
@@ -39,7 +40,7 @@ pivot-zero column (suc n) e i h = at (eqb (column (suc n)) 0) refl e (λ d. pivo
     at true t d rec (no s) = rec d i (omega arith)
     at false t d rec k = absurd (true≢false (sym (eq-eqb (column (suc n)) 0 d) ∙ t))
 
--- ---- rows without the pivot's
+-- ---- the rows without the pivot's row
 
 pub without-other : (n p i : ℕ) → (i ≡ p → ⊥) → without n p i ≡ i
 unfolding without
@@ -57,8 +58,9 @@ without-below n p i h = at (ℕ-discrete i p)
     at (no d) = let s : without n p i ≡ i = without-other n p i d in omega arith
 
 module _ {F : Operations} (L : BinaryField F) where
-  -- a sum over all rows is that over the rows without p, and p's own term
-  sum-without : (f : ℕ → ℕ) (n p : ℕ) → p < suc n → F .add (sum F (λ i. f (without n p i)) n) (f p) ≡ sum F f (suc n)
+  -- a sum over all rows is the sum over the rows without row p, plus the term of row p
+  pub sum-without : (f : ℕ → ℕ) (n p : ℕ) → p < suc n
+      → F .add (sum F (λ i. f (without n p i)) n) (f p) ≡ sum F f (suc n)
   unfolding sum
   sum-without f n p h = at (ℕ-discrete p n)
     where
@@ -81,21 +83,21 @@ module _ {F : Operations} (L : BinaryField F) where
 
 -- ---- left inverses
 
--- weights by which the rows of an n by n matrix add up to a row
+-- the rows of an n by n matrix, each times its weight, add up to the given row
 pub record Reached (F : Operations) (n : ℕ) (m : ℕ → ℕ → ℕ) (row : ℕ → ℕ) : Type 0 where
   pub weights : ℕ → ℕ
   pub reach : (c : ℕ) → c < n → rowBy F n weights m c ≡ row c
 
--- every row of the identity is reached
+-- a left inverse: every row of the identity is reached
 abbrev pub LeftInverse : Operations → ℕ → (ℕ → ℕ → ℕ) → Type 0
 LeftInverse F n m = (r : ℕ) → r < n → Reached F n m (unit r)
 
--- an n by n matrix of elements
+-- the entries of an n by n matrix are elements
 abbrev pub Elements : Operations → ℕ → (ℕ → ℕ → ℕ) → Type 0
 Elements F n m = (r c : ℕ) → r < n → c < n → m r c < F .size
 
 module _ {F : Operations} (L : BinaryField F) where
-  -- weights for rows past the matrix's: the identity has only zeros there
+  -- a row of the identity past the matrix is reached too: it has only zeros in the matrix's columns
   pub every-row : (n : ℕ) (m : ℕ → ℕ → ℕ) → LeftInverse F n m → (r : ℕ) → Reached F n m (unit r)
   every-row n m b r = at (decLt r n)
     where
@@ -107,7 +109,8 @@ module _ {F : Operations} (L : BinaryField F) where
             reach = λ c hc. rowBy-zero L n (λ k. 0) m c (λ k b. refl) ∙ sym (unit-other r c (λ e. omega arith));
           }
 
-  -- what is left of a row and of a multiple of the pivot's row, where x is its weight, y its entry and a the pivot
+  -- the term of the pivot's row drops out of a cleared sum. x is the weight of the pivot's row, y its entry and a the
+  -- pivot
   cancel : (t u x y a : ℕ) → 0 < a → a < F .size
       → F .add t (F .mul u (F .mul (F .inv a) y))
       ≡ F .add (F .add t (F .mul x y)) (F .mul (F .add u (F .mul x a)) (F .mul (F .inv a) y))
@@ -117,13 +120,13 @@ module _ {F : Operations} (L : BinaryField F) where
   cancel-own : (x a : ℕ) → 0 < a → a < F .size → x < F .size → F .add x (F .mul x (F .mul (F .inv a) a)) ≡ 0
   cancel-own x a pos below h = simp (ring, reciprocals)
 
-  -- a weighted row, cleared
+  -- a weight times a cleared entry, multiplied out
   spread : (b x y z : ℕ) → F .mul b (F .add x (F .mul y z)) ≡ F .add (F .mul b x) (F .mul (F .mul b y) z)
   spread b x y z = simp ring
 
-  -- a matrix of n + 1 rows with a pivot in row p
+  -- a matrix of n + 1 rows with its pivot in row p
   module _ (n p : ℕ) (m : ℕ → ℕ → ℕ) (hp : p < suc n) (pos : 0 < m p n) (good : Elements F (suc n) m) where
-    cleared-below : Elements F n (cleared F n p m)
+    pub cleared-below : Elements F n (cleared F n p m)
     unfolding cleared
     cleared-below i j hi hj =
         L .add-below (good (without n p i) j (without-below n p i hi) (omega arith)) (L .mul-below _ _)
@@ -134,8 +137,8 @@ module _ {F : Operations} (L : BinaryField F) where
         cancel-own (m (without n p i) n) (m p n) pos (good p n hp (omega arith))
         (good (without n p i) n (without-below n p i hi) (omega arith))
 
-    -- weights b of all rows, on the cleared matrix
-    cleared-row : (b : ℕ → ℕ) (c : ℕ)
+    -- the cleared rows, under the weights b, add up to the sum of all rows, cleared in column n
+    pub cleared-row : (b : ℕ → ℕ) (c : ℕ)
         → rowBy F n (λ i. b (without n p i)) (cleared F n p m) c
         ≡ F .add (rowBy F (suc n) b m c) (F .mul (rowBy F (suc n) b m n) (F .mul (F .inv (m p n)) (m p c)))
     unfolding cleared
@@ -158,7 +161,7 @@ module _ {F : Operations} (L : BinaryField F) where
         right : ℕ → ℕ
         right k = F .mul (b k) (m k n)
 
-    -- a left inverse, its columns taken without the pivot's, is one of the cleared matrix
+    -- a left inverse of the matrix, without the weights of the pivot's row, is a left inverse of the cleared matrix
     cleared-inverse : LeftInverse F (suc n) m → LeftInverse F n (cleared F n p m)
     cleared-inverse b r hr = go (b r (omega arith))
       where
@@ -175,8 +178,8 @@ module _ {F : Operations} (L : BinaryField F) where
                   ∙ add-zero L (unit r c);
             }
 
-    -- weights v of the cleared matrix's rows, as weights of the matrix's rows: the pivot's row gets the weight that
-    -- makes column n zero
+    -- turns the weights v of the cleared matrix's rows into weights of the matrix's rows. The pivot's row gets the
+    -- weight that makes column n zero
     raised : (ℕ → ℕ) → ℕ → ℕ
     raised v k =
         cond (eqb k p) (F .mul (F .inv (m p n)) (sum F (λ i. F .mul (v i) (m (without n p i) n)) n))
@@ -198,7 +201,7 @@ module _ {F : Operations} (L : BinaryField F) where
             let f : eqb i n ≡ false = ne-eqb i n (λ k. omega arith) in
             simp (ne-eqb i p d, f)
 
-    -- the pivot's column of the raised weights is zero
+    -- under the raised weights, column n adds up to zero
     column-zero : (v : ℕ → ℕ) → rowBy F (suc n) (raised v) m n ≡ 0
     column-zero v =
         sym (sum-without L (λ k. F .mul (raised v k) (m k n)) n p hp)
@@ -213,7 +216,7 @@ module _ {F : Operations} (L : BinaryField F) where
         gone : (x a : ℕ) → 0 < a → a < F .size → x < F .size → F .add x (F .mul (F .mul (F .inv a) x) a) ≡ 0
         gone x a above below h = simp (ring, reciprocals)
 
-    -- the raised weights reach what the weights reach of the cleared matrix
+    -- the matrix under the raised weights gives the row that the cleared matrix gives under the weights v
     raised-row : (v : ℕ → ℕ) (c : ℕ) → rowBy F (suc n) (raised v) m c ≡ rowBy F n v (cleared F n p m) c
     raised-row v c =
         let z = F .mul (F .inv (m p n)) (m p c) in
@@ -225,9 +228,9 @@ module _ {F : Operations} (L : BinaryField F) where
         ∙ ap (F .add (rowBy F (suc n) (raised v) m c)) (zero-mul L z)
         ∙ add-zero L (rowBy F (suc n) (raised v) m c))
 
-    -- a left inverse of the cleared matrix gives one of the matrix
+    -- a left inverse of the cleared matrix gives a left inverse of the matrix
     module _ (b : LeftInverse F n (cleared F n p m)) where
-      -- weights for the rows of the identity above the last
+      -- the weights that reach the rows of the identity above the last row
       above : ℕ → ℕ → ℕ
       above r = raised (every-row n (cleared F n p m) b r .weights)
 
@@ -243,7 +246,7 @@ module _ {F : Operations} (L : BinaryField F) where
               ap (rowBy F (suc n) (raised (w .weights)) m) e ∙ column-zero (w .weights)
               ∙ sym (unit-other r c (λ d. omega arith))
 
-      -- the last row: the pivot's row divided by the pivot, with what it has in the other columns taken away
+      -- the last row of the identity is the pivot's row divided by the pivot, less its entries in the other columns
       divided : ℕ → ℕ
       divided j = F .mul (F .inv (m p n)) (m p j)
 
@@ -286,7 +289,8 @@ module _ {F : Operations} (L : BinaryField F) where
 
   -- ---- elimination decides
 
-  -- with a left inverse the last column has a pivot: otherwise the last row and column of their product would hold 0
+  -- if there is a left inverse, the last column has a pivot: otherwise the product would have 0 in its last row and
+  -- column
   pivot-found : (n : ℕ) (m : ℕ → ℕ → ℕ) → LeftInverse F (suc n) m → 0 < m (pivot (λ i. m i n) n) n
   pivot-found n m b = at (ℕ-discrete (m (pivot (λ i. m i n) n) n) 0) (b n (omega arith))
     where
@@ -307,7 +311,7 @@ module _ {F : Operations} (L : BinaryField F) where
       and-both (ap not (ne-eqb (m p n) 0 (λ e. omega arith)))
       (inverse-found n (cleared F n p m) (cleared-below n p m hp pos good) (cleared-inverse n p m hp pos good b))
 
-  not-zero : (x : ℕ) → not (eqb x 0) ≡ true → 0 < x
+  pub not-zero : (x : ℕ) → not (eqb x 0) ≡ true → 0 < x
   not-zero x e = at (ℕ-discrete x 0)
     where
       at : Dec (x ≡ 0) → 0 < x

@@ -1,6 +1,6 @@
--- Elimination answers yes exactly where there is an inverse, for any binary field and any 64 elements. Products of
--- invertible matrices are invertible; the identity and every permutation matrix are, and a matrix with a column of
--- zeros is not.
+-- Elimination answers yes exactly if the matrix has an inverse, for any binary field and any 64 elements. Products of
+-- invertible matrices are invertible. The identity and every permutation matrix are invertible. A matrix with a column
+-- of zeros is not.
 use Prim.Native.Nat.{ℕ, _-_, _<_}
 use mathlib.Core.Path.{_≡_, refl, sym, ap, _∙_}
 use mathlib.Core.Bool.{true, false}
@@ -24,21 +24,21 @@ use Rattle.matrix.proofs.EliminationLaws.{found-inverse}
 module _ {F : Operations} (L : BinaryField F) where
   -- ---- lists of 64 and functions of row and column
 
-  entries-elements : (m : List ℕ) → Matrix (F .size) m → Elements F 8 (entry m)
+  pub entries-elements : (m : List ℕ) → Matrix (F .size) m → Elements F 8 (entry m)
   entries-elements m good r c hr hc = entry-below m r c (good .below)
 
-  entries-inverse : (b m : List ℕ) → Inverse F b m → LeftInverse F 8 (entry m)
+  pub inverse-entry : (b m : List ℕ) → Inverse F b m → (r c : ℕ) → r < 8 → c < 8
+      → rowBy F 8 (entry b r) (entry m) c ≡ unit r c
   unfolding matrixProduct identity
-  entries-inverse b m i r hr =
-      record {
-        weights = entry b r;
-        reach = λ c hc.
-            sym (entry-matrixOf (λ r. rowBy F 8 (entry b r) (entry m)) r c hr hc)
-            ∙ ap (λ (l : List ℕ). entry l r c) (i .gives-identity)
-            ∙ entry-matrixOf unit r c hr hc;
-      }
+  inverse-entry b m i r c hr hc =
+      sym (entry-matrixOf (λ r. rowBy F 8 (entry b r) (entry m)) r c hr hc)
+      ∙ ap (λ (l : List ℕ). entry l r c) (i .gives-identity)
+      ∙ entry-matrixOf unit r c hr hc
 
-  -- a weight counts by the element that it is
+  entries-inverse : (b m : List ℕ) → Inverse F b m → LeftInverse F 8 (entry m)
+  entries-inverse b m i r hr = record { weights = entry b r; reach = λ c hc. inverse-entry b m i r c hr hc }
+
+  -- a weight may be any number, so the inverse takes 1 times the weight, which is an element
   list-inverse : (m : List ℕ) → LeftInverse F 8 (entry m) → HasInverse F m
   unfolding matrixProduct identity
   list-inverse m w =
@@ -73,7 +73,7 @@ module _ {F : Operations} (L : BinaryField F) where
       λ h. inverse-found L 8 (entry m) (entries-elements m good) (entries-inverse (h .inverse) m (h .inverts)),
     )
 
-    invertible-by : (b : List ℕ) → Inverse F b m → invertible F 8 (entry m) ≡ true
+    pub invertible-by : (b : List ℕ) → Inverse F b m → invertible F 8 (entry m) ≡ true
     invertible-by b i = invertible-iff .1 (record { inverse = b; inverts = i })
 
     not-invertible : (HasInverse F m → ⊥) → invertible F 8 (entry m) ≡ false
@@ -103,7 +103,7 @@ module _ {F : Operations} (L : BinaryField F) where
       invertible-by (matrixProduct F m n) (product-elements L m n) (matrixProduct F (j .inverse) (i .inverse))
       (product-inverse (i .inverse) (j .inverse) m n gn (i .inverts) (j .inverts))
 
-  -- ---- some that are, and one that is not
+  -- ---- some matrices that are invertible, and one that is not
 
   pub identity-inverse : Inverse F identity identity
   identity-inverse =
@@ -112,14 +112,14 @@ module _ {F : Operations} (L : BinaryField F) where
   pub identity-invertible : invertible F 8 (entry identity) ≡ true
   identity-invertible = invertible-by identity (identity-elements L) identity identity-inverse
 
-  -- the matrix that has its 1 of row r in column s r
+  -- the matrix whose row r has 1 in column s r and 0 elsewhere
   abbrev pub permuted : (ℕ → ℕ) → List ℕ
   permuted s = matrixOf (λ r. unit (s r))
 
   pub permuted-elements : (s : ℕ → ℕ) → Matrix (F .size) (permuted s)
   permuted-elements s = matrixOf-good (λ r. unit (s r)) (L .zero-below) (λ r c hr hc. unit-below L (s r) c)
 
-  -- where s takes back what t does, the one's matrix is an inverse of the other's
+  -- if s (t r) = r for every row r, the matrix of t is an inverse of the matrix of s
   pub permuted-inverse : (s t : ℕ → ℕ) → ((r : ℕ) → r < 8 → t r < 8) → ((r : ℕ) → r < 8 → s (t r) ≡ r)
       → Inverse F (permuted t) (permuted s)
   unfolding matrixProduct identity
@@ -135,13 +135,13 @@ module _ {F : Operations} (L : BinaryField F) where
             ∙ ap (λ (k : ℕ). unit k c) (back r hr));
       }
 
-  -- the rows of the identity from the last to the first
+  -- the identity with its rows in reverse order has an inverse
   pub reversed-invertible : invertible F 8 (entry (permuted (λ r. 7 - r))) ≡ true
   reversed-invertible =
       invertible-by (permuted (λ r. 7 - r)) (permuted-elements (λ r. 7 - r)) (permuted (λ r. 7 - r))
       (permuted-inverse (λ r. 7 - r) (λ r. 7 - r) (λ r h. omega arith) (λ r h. omega arith))
 
-  -- a column of zeros
+  -- a matrix with a column of zeros has no inverse
   zero-column : (m : List ℕ) (c : ℕ) → c < 8 → ((r : ℕ) → r < 8 → entry m r c ≡ 0) → HasInverse F m → ⊥
   zero-column m c hc zeros h =
       let w = entries-inverse (h .inverse) m (h .inverts) c hc in
@@ -149,7 +149,7 @@ module _ {F : Operations} (L : BinaryField F) where
       sym (rowBy-column-zero L 8 (w .weights) (entry m) c zeros) ∙ w .reach c hc ∙ unit-same c c refl in
       omega arith
 
-  -- the blank matrix
+  -- the blank matrix, all zeros, is a matrix of elements
   pub zero-elements : Matrix (F .size) (replicate 64 0)
   zero-elements = record { size = length-replicate {A = ℕ} 64 0; below = λ k. at k (decLt k 64) }
     where

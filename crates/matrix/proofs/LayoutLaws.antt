@@ -1,6 +1,7 @@
--- Laws of the layout of an 8 by 8 matrix: each place has its row and column, and they their place; what an entry of
--- `matrixOf f` is, matrices with the same entries are the same, a list of 64 is the matrix of its entries, and bounds
--- on entries. Nothing above this file knows which entry is where.
+-- Laws of the layout of an 8 by 8 matrix. Each place belongs to one row and column, and each row and column to one
+-- place. The entry of `matrixOf f` in row r and column c is f r c. Matrices with the same entries are equal. A list of
+-- 64 numbers is the matrix of its entries. Entries keep their bounds. Other laws use these and do not unfold the
+-- layout. Exceptions: `ChangeOfLayout`, and proofs that compute with a given matrix.
 use Prim.Native.Nat.{ℕ, _<_}
 use mathlib.Core.Path.{_≡_, sym, ap, ap₂, _∙_}
 use mathlib.Core.List.{List}
@@ -39,7 +40,7 @@ module _ (k : ℕ) (h : k < 64) where
   unfolding place rowOf columnOf
   place-of = omega arith
 
--- two entries at one place are one entry
+-- two entries at one place have the same row and the same column
 pub place-row : (r c i j : ℕ) → r < 8 → c < 8 → i < 8 → j < 8 → place i j ≡ place r c → i ≡ r
 place-row r c i j hr hc hi hj e = sym (row-place i j hi hj) ∙ ap rowOf e ∙ row-place r c hr hc
 
@@ -56,13 +57,13 @@ getD-matrixOf : (f : ℕ → ℕ → ℕ) (k : ℕ) → k < 64 → getD (matrixO
 unfolding matrixOf
 getD-matrixOf f k h = getD-values (λ k. f (rowOf k) (columnOf k)) 64 k h
 
--- an entry of the matrix of f
+-- the entry of the matrix of f in row r and column c is f r c
 pub entry-matrixOf : (f : ℕ → ℕ → ℕ) (r c : ℕ) → r < 8 → c < 8 → entry (matrixOf f) r c ≡ f r c
 unfolding entry
 entry-matrixOf f r c hr hc =
     getD-matrixOf f (place r c) (place-below r c hr hc) ∙ ap₂ f (row-place r c hr hc) (column-place r c hr hc)
 
--- matrices with the same entries are the same
+-- matrices with the same entries are equal
 pub matrixOf-ext : (f g : ℕ → ℕ → ℕ) → ((r c : ℕ) → r < 8 → c < 8 → f r c ≡ g r c) → matrixOf f ≡ matrixOf g
 matrixOf-ext f g equal =
     ext-getD 0 (matrixOf f) (matrixOf g) (length-matrixOf f ∙ sym (length-matrixOf g))
@@ -73,7 +74,7 @@ matrixOf-ext f g equal =
         getD-matrixOf f k h ∙ equal (rowOf k) (columnOf k) (row-below k h) (column-below k h)
         ∙ sym (getD-matrixOf g k h)
 
--- a list of 64 is the matrix of its entries
+-- a list of 64 numbers is the matrix of its entries
 pub matrixOf-entry : (m : List ℕ) → length m ≡ 64 → matrixOf (entry m) ≡ m
 unfolding entry
 matrixOf-entry m l =
@@ -83,13 +84,13 @@ matrixOf-entry m l =
     at : (k : ℕ) → k < 64 → getD (matrixOf (entry m)) k 0 ≡ getD m k 0
     at k h = getD-matrixOf (entry m) k h ∙ ap (λ (j : ℕ). getD m j 0) (place-of k h)
 
--- two lists of 64 with the same entries are the same
+-- two lists of 64 numbers with the same entries are equal
 pub matrix-ext : (m m' : List ℕ) → length m ≡ 64 → length m' ≡ 64
     → ((r c : ℕ) → r < 8 → c < 8 → entry m r c ≡ entry m' r c) → m ≡ m'
 matrix-ext m m' l l' equal =
     sym (matrixOf-entry m l) ∙ matrixOf-ext (entry m) (entry m') equal ∙ matrixOf-entry m' l'
 
--- a matrix by its entries
+-- a list of 64 numbers with the entries f r c is the matrix of f
 pub by-entries : (m : List ℕ) (f : ℕ → ℕ → ℕ) → length m ≡ 64 → ((r c : ℕ) → r < 8 → c < 8 → entry m r c ≡ f r c)
     → m ≡ matrixOf f
 by-entries m f l h = sym (matrixOf-entry m l) ∙ matrixOf-ext (entry m) f h

@@ -4,6 +4,7 @@ pub mod SumLaws
 pub mod ProductLaws
 pub mod EliminationLaws
 pub mod Invertible
+pub mod BothSides
 pub mod SweepLaws
 pub mod MultiplyLaws
 pub mod ChangeOfLayout

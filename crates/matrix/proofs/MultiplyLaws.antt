@@ -1,4 +1,4 @@
--- The product of two matrices by logarithms, column after column.
+-- Laws of the product of two matrices by logarithms, one column after another.
 use Prim.Native.Nat.{ℕ, _+_, _<_}
 use mathlib.Core.Path.{_≡_, refl, _∙_}
 use mathlib.Core.List.{List}
@@ -7,22 +7,22 @@ use native.Mathlib.Decide.{ℕ-discrete}
 use lib.ListN.{length, getD, set, length-set}
 use Rattle.field.specs.Fields.{operations}
 use Rattle.field.specs.declared.Field.{Field}
-use Rattle.logarithms.specs.Logarithms.{ProductsBy, LogarithmsOf}
-use Rattle.logarithms.proofs.PowerLaws.{sum-product}
+use Rattle.field_logarithms.specs.steps.Logarithms.{ProductsBy, LogarithmsOf}
+use Rattle.field_logarithms.proofs.PowerLaws.{sum-product}
 use Rattle.matrix.specs.Layout.{place, entry}
 use Rattle.matrix.specs.Product.{rowBy}
-use Rattle.matrix.specs.Multiplying.{Near, rowByLogarithms, ColumnFilled}
+use Rattle.matrix.specs.steps.Multiplying.{Near, rowByLogarithms, ColumnFilled}
 use Rattle.matrix.proofs.LayoutLaws.{place-below}
 use Rattle.matrix.proofs.StoreLaws.{store-same, store-other}
 use Rattle.matrix.proofs.SumLaws.{sum-ext}
 
--- logarithms lead to no place outside of their table
+-- the sum of any two logarithms leads to a place in the table
 pub all-near : {f : Field} {table : List ℕ} → ProductsBy f table → (y : ℕ → ℕ) (n : ℕ) (logs : List ℕ)
     → LogarithmsOf table y n logs
     → Near table n logs
 all-near by y n logs l k h = omega (arith, l k h .entry, by .near (y k) (l k h .byte))
 
--- ---- a column, row after row
+-- ---- a column of the product, row after row
 
 pub filled-start : (g : ℕ → ℕ) (column : ℕ) (m : List ℕ) → length m ≡ 64 → ColumnFilled g column 0 m m
 filled-start g column m l = record { size = l; there = λ i h. absurd (omega arith); elsewhere = λ i c hi hc d. refl }
@@ -40,7 +40,7 @@ filled-next g column r m a hr hc w =
     at i h (yes e) = rw e (store-same a r column (g r) hr hc (w .size))
     at i h (no d) = store-other a r column (g r) hr hc i column (omega arith) hc (λ e _. d e) ∙ w .there i (omega arith)
 
--- ---- column after column
+-- ---- the product, column after column
 
 module _ {f : Field} {table : List ℕ} (by : ProductsBy f table) (a rows b : List ℕ)
     (l : LogarithmsOf table (λ k. getD a k 0) 64 rows) where

@@ -1,5 +1,6 @@
--- Laws of a row by a matrix and of the product of matrices over any binary field: linear in the row, associative, with
--- the identity on both sides. Bounds are named only where a law needs them: products read every number as an element.
+-- Laws of a row times a matrix and of the product of matrices, over any binary field. A row times a matrix is linear in
+-- the row. The product is associative and has the identity on both sides. A law names a bound only where it needs one:
+-- products treat every number as an element.
 use Prim.Native.Nat.{ℕ, _<_}
 use mathlib.Core.Path.{_≡_, sym, ap, _∙_}
 use mathlib.Core.List.{List}
@@ -13,7 +14,7 @@ use Rattle.matrix.proofs.LayoutLaws.{entry-matrixOf, matrixOf-ext, by-e
 use Rattle.matrix.proofs.SumLaws.{sum-ext, sum-zeros, sum-alone, sum-add, mul-sum, sum-mul, sum-exchange}
 use Rattle.matrix.proofs.SumLaws.{sum-below}
 
--- ---- the identity, as a function
+-- ---- the identity, as a function of row and column
 
 pub unit-same : (r c : ℕ) → r ≡ c → unit r c ≡ 1
 unit-same r c e = rw (eq-eqb r c e)
@@ -28,7 +29,7 @@ unit-below {F} L r c = at (ℕ-discrete r c)
     at (yes e) = rw (eq-eqb r c e) (L .one-below)
     at (no d) = rw (ne-eqb r c d) (L .zero-below)
 
--- ---- a row by a matrix, of any size
+-- ---- a row times a matrix, of any size
 
 pub rowBy-ext : (F : Operations) (n : ℕ) (u v : ℕ → ℕ) (m m' : ℕ → ℕ → ℕ) (c : ℕ) → ((k : ℕ) → k < n → u k ≡ v k)
     → ((k : ℕ) → k < n → m k c ≡ m' k c) → rowBy F n u m c ≡ rowBy F n v m' c
@@ -39,7 +40,7 @@ module _ {F : Operations} (L : BinaryField F) where
   pub rowBy-below : (n : ℕ) (row : ℕ → ℕ) (m : ℕ → ℕ → ℕ) (c : ℕ) → rowBy F n row m c < F .size
   rowBy-below n row m c = sum-below L (λ k. F .mul (row k) (m k c)) n (λ k h. L .mul-below (row k) (m k c))
 
-  -- linear in the row
+  -- a row times a matrix is linear in the row
   pub rowBy-add : (n : ℕ) (u v : ℕ → ℕ) (m : ℕ → ℕ → ℕ) (c : ℕ)
       → rowBy F n (λ k. F .add (u k) (v k)) m c ≡ F .add (rowBy F n u m c) (rowBy F n v m c)
   rowBy-add n u v m c =
@@ -58,13 +59,13 @@ module _ {F : Operations} (L : BinaryField F) where
   rowBy-zero n row m c z =
       sum-zeros L (λ k. F .mul (row k) (m k c)) n (λ k h. ap (λ (x : ℕ). F .mul x (m k c)) (z k h) ∙ zero-mul L (m k c))
 
-  -- a row by a column of zeros
+  -- a row times a column of zeros is 0
   pub rowBy-column-zero : (n : ℕ) (row : ℕ → ℕ) (m : ℕ → ℕ → ℕ) (c : ℕ) → ((k : ℕ) → k < n → m k c ≡ 0)
       → rowBy F n row m c ≡ 0
   rowBy-column-zero n row m c z =
       sum-zeros L (λ k. F .mul (row k) (m k c)) n (λ k h. ap (F .mul (row k)) (z k h) ∙ mul-zero L (row k))
 
-  -- a row by two matrices, one after the other
+  -- a row times two matrices, one after the other, is the row times their product
   pub rowBy-rowBy : (n l : ℕ) (row : ℕ → ℕ) (a b : ℕ → ℕ → ℕ) (c : ℕ)
       → rowBy F l (rowBy F n row a) b c ≡ rowBy F n row (λ k. rowBy F l (a k) b) c
   rowBy-rowBy n l row a b c =
@@ -75,7 +76,7 @@ module _ {F : Operations} (L : BinaryField F) where
       ∙ sum-ext F (λ j. sum F (λ k. F .mul (F .mul (row j) (a j k)) (b k c)) l)
       (λ j. F .mul (row j) (rowBy F l (a j) b c)) n (λ j h. rowBy-mul l (row j) (a j) b c)
 
-  -- a row of the identity takes a row of the matrix
+  -- row r of the identity times a matrix is row r of the matrix
   pub unit-rowBy : (n r : ℕ) (m : ℕ → ℕ → ℕ) (c : ℕ) → r < n → m r c < F .size → rowBy F n (unit r) m c ≡ m r c
   unit-rowBy n r m c hr hm =
       sum-alone L (λ k. F .mul (unit r k) (m k c)) n r hr
@@ -83,7 +84,7 @@ module _ {F : Operations} (L : BinaryField F) where
       ∙ ap (λ (x : ℕ). F .mul x (m r c)) (unit-same r r (λ j. r))
       ∙ L .one-mul hm
 
-  -- a row by the identity
+  -- a row times the identity is the row
   pub rowBy-unit : (n : ℕ) (row : ℕ → ℕ) (c : ℕ) → c < n → row c < F .size → rowBy F n row unit c ≡ row c
   rowBy-unit n row c hc h =
       sum-alone L (λ k. F .mul (row k) (unit k c)) n c hc
@@ -94,7 +95,7 @@ module _ {F : Operations} (L : BinaryField F) where
 -- ---- 8 by 8 matrices
 
 module _ {F : Operations} (L : BinaryField F) where
-  -- whatever is multiplied, the product has 64 elements of the field
+  -- a product has 64 elements of the field, whatever the two lists hold
   pub product-elements : (a b : List ℕ) → Matrix (F .size) (matrixProduct F a b)
   unfolding matrixProduct
   product-elements a b =

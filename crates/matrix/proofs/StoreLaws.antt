@@ -1,4 +1,4 @@
--- Stores into a matrix: a store at its own entry and at another.
+-- A store into a matrix changes its own entry and no other.
 use Prim.Native.Nat.{ℕ, _<_}
 use mathlib.Core.Path.{_≡_}
 use mathlib.Core.List.{List}

@@ -1,5 +1,5 @@
--- Elimination in place: stores and turns of its loops, and that clearing a column in place does what the definition
--- does. Elimination reads only the entries within its size.
+-- Laws of elimination in place: what one iteration of each loop stores, and that clearing a column in place agrees with
+-- the definition. Elimination reads only the entries within its size.
 use Prim.Native.Nat.{ℕ, zero, suc, _+_, _-_, _<_, _≤_}
 use mathlib.Core.Path.{_≡_, refl, sym, ap, ap₂, _∙_}
 use mathlib.Core.Bool.{Bool, true, false, cond, not, _&&_}
@@ -11,11 +11,11 @@ use borrow.Author.Tests.{eq-eqb, ne-eqb}
 use lib.Dec.{eqb}
 use lib.ListN.{length, set, length-set}
 use Rattle.field.specs.Binary.{Operations, BinaryField}
-use Rattle.logarithms.specs.Logarithms.{LogarithmsOf}
-use Rattle.logarithms.proofs.PowerLaws.{same-number}
+use Rattle.field_logarithms.specs.steps.Logarithms.{LogarithmsOf}
+use Rattle.field_logarithms.proofs.PowerLaws.{same-number}
 use Rattle.matrix.specs.Layout.{place, entry}
 use Rattle.matrix.specs.Elimination.{pivot, without, cleared, invertible}
-use Rattle.matrix.specs.Sweeping.{Raised, RowGained, gain, Swept}
+use Rattle.matrix.specs.steps.Sweeping.{Raised, RowGained, gain, Swept}
 use Rattle.matrix.proofs.StoreLaws.{store-same, store-other}
 use Rattle.matrix.proofs.EliminationLaws.{pivot-below, without-other, without-same, without-below}
 
@@ -87,7 +87,7 @@ module _ (n p j : ℕ) (m a : List ℕ) (hp : p ≤ n) (hn : n < 8) (hj : j ≤ 
       store-other a₁ n j (entry a p j) hn (omega arith) i c hi hc (λ _ e. d e)
       ∙ store-other a p j (entry a n j) (omega arith) (omega arith) i c hi hc (λ _ e. d e)
 
-  -- row p is as it was, from column j on
+  -- in column j, row p is still unchanged
   pub raised-own : entry a p j ≡ entry m p j
   raised-own = w .rest p j (omega arith) (omega arith) (omega arith)
 
@@ -124,7 +124,7 @@ module _ (n p j : ℕ) (m a : List ℕ) (hp : p ≤ n) (hn : n < 8) (hj : j ≤ 
       other i c hi h (yes e) = rw e (other-here i hi (ℕ-discrete i p))
       other i c hi h (no d) = away i c (omega arith) (omega arith) d ∙ w .others i c hi (omega arith)
 
--- the logarithms of row p are those of the row that has its place
+-- the logarithms of row p before the exchange are the logarithms of row n after it
 pub raised-logarithms : (n p : ℕ) (m a table logs : List ℕ) → Raised n p (n + 1) m a
     → LogarithmsOf table (entry m p) (n + 1) logs
     → LogarithmsOf table (entry a n) n logs
@@ -163,7 +163,7 @@ module _ (F : Operations) (g : ℕ → ℕ) (i : ℕ) (m : List ℕ) where
   row-same g' j a same w =
       record { size = w .size; done = λ c h. w .done c h ∙ ap (F .add (entry m i c)) (same c h); rest = w .rest }
 
--- ---- row after row
+-- ---- the rows swept, one after another
 
 pub swept-start : (F : Operations) (q n : ℕ) (m : List ℕ) → length m ≡ 64 → Swept F q n 0 m m
 swept-start F q n m l = record { size = l; done = λ r c h hc. absurd (omega arith); rest = λ r c hr hc h. refl }
@@ -196,7 +196,7 @@ module _ {F : Operations} (L : BinaryField F) (n : ℕ) (m : List ℕ) (p : ℕ)
   unfolding invertible
   clear-none b z = rw (add-one n, ← at, eq-eqb (entry m p n) 0 z)
 
-  -- the factor may be divided by the pivot in the row's place
+  -- the reciprocal of the pivot may multiply the row instead of the factor
   divided : (q x y : ℕ) → F .mul (F .mul q x) y ≡ F .mul x (F .mul q y)
   divided q x y = ap (λ (z : ℕ). F .mul z y) (L .mul-comm q x) ∙ L .mul-assoc x q y
 

@@ -1,6 +1,6 @@
--- Wrong tests of two matrices for inverses are shut out by the contract of `elimination::both_invertible`, for each of
--- the two fields and on matrices of 64 bytes: one that always says yes, one that always says no, one that asks the
--- first matrix alone, one that asks the second alone, and one that looks for the last column's pivot on the diagonal
+-- The contract of `matrix_elimination::both_invertible` shuts out wrong tests of two matrices for inverses, in each of
+-- the two fields and on matrices of 64 bytes: one that always says yes, one that always says no, one that tests the
+-- first matrix alone, one that tests the second alone, and one that looks for the last column's pivot on the diagonal
 -- alone.
 use Prim.Native.Nat.{ℕ, _-_}
 use mathlib.Core.Path.{_≡_, refl, sym, ap₂, _∙_}
@@ -21,7 +21,7 @@ use Rattle.matrix.proofs.Invertible.{zero-elements, zero-not-invertible
 abbrev Test : Type 0
 Test = (a b : List ℕ) → Bool
 
--- on matrices of bytes, all that the contract sees, one test says what the other says
+-- two tests agree on all matrices of 64 bytes. The contract says nothing of other lists
 abbrev Says : Test → Test → Type 0
 Says test other = (a b : List ℕ) → Matrix 256 a → Matrix 256 b → test a b ≡ other a b
 
@@ -29,11 +29,12 @@ module _ (f : Field) where
   abbrev has-inverse : List ℕ → Bool
   has-inverse m = invertible (operations f) 8 (entry m)
 
-  -- elements are bytes
+  -- a matrix of elements is a matrix of bytes
   bytes : {m : List ℕ} → Matrix (operations f .size) m → Matrix 256 m
   bytes e = record { size = e .size; below = λ k. byte f _ (e .below k) }
 
-  -- the matrices that tell: the identity, the identity's rows turned round, and the blank matrix
+  -- three matrices tell the tests apart: the identity, the identity with its rows in reverse order, and the blank
+  -- matrix
   abbrev turned-round : List ℕ
   turned-round = permuted (binary f) (λ r. 7 - r)
 
@@ -47,7 +48,7 @@ module _ (f : Field) where
   blank = bytes (zero-elements (binary f))
 
   module _ (test : Test) (right : Says test (λ a b. has-inverse a && has-inverse b)) where
-    -- what a right test says of two matrices that have an inverse or have none
+    -- a right test says yes exactly if both matrices have an inverse
     says : {a b : List ℕ} {x y : Bool} → Matrix 256 a → Matrix 256 b → has-inverse a ≡ x → has-inverse b ≡ y
         → test a b ≡ x && y
     says ga gb ea eb = right _ _ ga gb ∙ ap₂ _&&_ ea eb
@@ -72,8 +73,8 @@ module _ (f : Field) where
         let has = identity-invertible (binary f) in
         false≢true (sym (says blank one (zero-not-invertible (binary f)) has) ∙ wrong _ _ blank one ∙ has)
 
-    -- no wherever the last entry of the first matrix's diagonal is zero: but the identity's rows turned round have an
-    -- inverse
+    -- a test that says no whenever the first matrix has 0 at the end of its diagonal is wrong: the identity with its
+    -- rows in reverse order has an inverse
     pub no-diagonal-alone : ((a b : List ℕ) → Matrix 256 a → Matrix 256 b → entry a 7 7 ≡ 0 → test a b ≡ false) → ⊥
     unfolding place rowOf columnOf entry matrixOf valuesFrom
     no-diagonal-alone wrong =

@@ -1,5 +1,6 @@
--- Matrices held by rows, the first one first, and the plain change of layout between rows and columns. No contract
--- cites this file: it says what the operations by columns are compared with (`ChangeOfLayout`).
+-- Matrices held by rows, the first row first, and the plain change of layout between rows and columns. No contract
+-- cites this file. `ChangeOfLayout` compares the operations by columns with the operations by rows that are defined
+-- here.
 use Prim.Native.Nat.{ℕ, _+_, _*_, _/_, _%_}
 use mathlib.Core.Bool.{Bool}
 use mathlib.Core.List.{List}
@@ -9,8 +10,8 @@ use Rattle.field.specs.Binary.{Operations}
 use Rattle.matrix.specs.Product.{rowBy}
 use Rattle.matrix.specs.Elimination.{invertible}
 
--- the change of layout, from rows to columns and from columns to rows: entry (r, c) of the one list is entry (c, r) of
--- the other
+-- the plain change of layout, from rows to columns and from columns to rows: entry 8 c + r of one list is entry 8 r + c
+-- of the other list
 unfoldable pub turned : List ℕ → List ℕ
 turned m = values (λ k. getD m (8 * (k % 8) + k / 8) 0) 64
 
@@ -22,10 +23,10 @@ entryByRows m r c = getD m (8 * r + c) 0
 unfoldable pub matrixByRows : (ℕ → ℕ → ℕ) → List ℕ
 matrixByRows f = values (λ k. f (k / 8) (k % 8)) 64
 
--- the product of two matrices: the rows of the first by the second
+-- the product of two matrices: each row of the first times the second
 unfoldable pub productByRows : Operations → List ℕ → List ℕ → List ℕ
 productByRows F a b = matrixByRows (λ r. rowBy F 8 (entryByRows a r) (entryByRows b))
 
--- has the matrix an inverse, as elimination decides?
+-- does elimination find that the matrix has an inverse?
 unfoldable pub invertibleByRows : Operations → List ℕ → Bool
 invertibleByRows F m = invertible F 8 (entryByRows m)

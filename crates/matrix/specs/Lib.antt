@@ -2,5 +2,4 @@ pub mod Layout
 pub mod Product
 pub mod Elimination
 pub mod ByRows
-pub mod Sweeping
-pub mod Multiplying
+pub mod steps

@@ -2,18 +2,18 @@
 use crate::SIZE;
 use crate::place;
 use field::Field;
-use logarithms::logarithm;
-use logarithms::product_of;
+use field_logarithms::logarithm;
+use field_logarithms::product_of;
 ghost use mathlib.Core.Path.{_≡_};
 ghost use Prim.Native.Nat.{_<_};
 ghost use lib.ListN.{length, getD};
 ghost use Rattle.field.specs.Fields.{operations};
-ghost use Rattle.logarithms.specs.Logarithms.{ProductsBy, LogarithmsOf};
+ghost use Rattle.field_logarithms.specs.steps.Logarithms.{ProductsBy, LogarithmsOf};
 ghost use Rattle.matrix.specs.Layout.{entry};
 ghost use Rattle.matrix.specs.Product.{matrixProduct};
-ghost use Rattle.matrix.specs.Multiplying.{Near, rowByLogarithms, ColumnFilled};
+ghost use Rattle.matrix.specs.steps.Multiplying.{Near, rowByLogarithms, ColumnFilled};
 
-// The logarithms of all entries.
+// The logarithms of all entries, in the layout of the matrix.
 fn logarithms_of(m: &[u8; 64], table: &[u16], f: Field) -> [usize; 64]
     requires { ⌜ ProductsBy f (now table) ⌝ }
     ensures { λ r. ⌜ (length r ≡ 64) × LogarithmsOf (now (table .entry)) (λ k. getD (now (m .entry)) k 0) 64 r ⌝ }
@@ -28,7 +28,7 @@ fn logarithms_of(m: &[u8; 64], table: &[u16], f: Field) -> [usize; 64]
     logs
 }
 
-// The logarithms of a column.
+// The logarithms of one column's entries, the first row first.
 fn column_logarithms(m: &[u8; 64], table: &[u16], column: usize, f: Field) -> [usize; 8]
     requires { ⌜ ProductsBy f (now table) × (column < 8) ⌝ }
     ensures { λ r. ⌜ (length r ≡ 8) × LogarithmsOf (now (table .entry)) (λ k. entry (now (m .entry)) k column) 8 r ⌝ }
@@ -43,7 +43,7 @@ fn column_logarithms(m: &[u8; 64], table: &[u16], column: usize, f: Field) -> [u
     logs
 }
 
-// One entry of the product: a row of the first matrix by a column of the second, by their logarithms.
+// One entry of the product: a row of the first matrix times a column of the second, both given by their logarithms.
 fn dot(table: &[u16], a: &[usize; 64], b: &[usize; 8], row: usize, f: Field) -> u8
     requires { ⌜ ProductsBy f (now table) × Near (now table) 64 (now a) × Near (now table) 8 (now b) × (row < 8) ⌝ }
     ensures { λ r. ⌜ r ≡ rowByLogarithms (operations f) (now (table .entry)) (now (a .entry)) (now (b .entry)) row ⌝ }
@@ -59,7 +59,7 @@ fn dot(table: &[u16], a: &[usize; 64], b: &[usize; 8], row: usize, f: Field) -> 
     total
 }
 
-// One column of the product.
+// Stores one column of the product.
 fn fill_column(
     m: &mut [u8; 64],
     table: &[u16],
@@ -89,7 +89,7 @@ fn fill_column(
     }
 }
 
-// The product, by the lent table of the field.
+// The product of two matrices. The caller lends the table of the field.
 fn multiplied(table: &[u16], a: &[u8; 64], b: &[u8; 64], f: Field) -> [u8; 64]
     requires { ⌜ ProductsBy f (now table) ⌝ }
     ensures { λ r. ⌜ r ≡ matrixProduct (operations f) (now (a .entry)) (now (b .entry)) ⌝ }
@@ -105,17 +105,17 @@ fn multiplied(table: &[u16], a: &[u8; 64], b: &[u8; 64], f: Field) -> [u8; 64]
     m
 }
 
-// The product of two matrices. Entries count by their low bits, as many as an element has.
+// The product of two matrices. Only the low bits of an entry count, as many as an element has.
 pub fn matrix_product(a: &[u8; 64], b: &[u8; 64], f: Field) -> [u8; 64]
     ensures { λ r. ⌜ r ≡ matrixProduct (operations f) (now (a .entry)) (now (b .entry)) ⌝ }
 {
     match f {
         Field::Gf32 => {
-            let table = logarithms::small_logarithms();
+            let table = field_logarithms::small_logarithms();
             multiplied(&table, a, b, f)
         }
         Field::Gf256 => {
-            let table = logarithms::large_logarithms();
+            let table = field_logarithms::large_logarithms();
             multiplied(&table, a, b, f)
         }
     }

@@ -9,19 +9,19 @@ pub fn text(bytes: &[u8]) {
     io::write_all(STDOUT_FILENO, bytes);
 }
 
-// A space, and a number in decimal.
+// Prints a space and a number in decimal.
 pub fn number(n: usize) {
     text(b" ");
     io::print_decimal(STDOUT_FILENO, n as u64);
 }
 
-// A space, and a byte in hexadecimal.
+// Prints a space and a byte in hexadecimal.
 pub fn byte(x: u8) {
     text(b" ");
     io::print_hex(STDOUT_FILENO, wide(x), 2);
 }
 
-// Bytes in hexadecimal, a space before each.
+// Prints bytes in hexadecimal, each after a space.
 pub fn hex(bytes: &[u8]) {
     let mut i = 0;
     while i < bytes.len() {
@@ -30,7 +30,7 @@ pub fn hex(bytes: &[u8]) {
     }
 }
 
-// One of two texts.
+// Prints one of two texts.
 pub fn choice(first: bool, a: &[u8], b: &[u8]) {
     if first {
         text(a);
@@ -39,13 +39,13 @@ pub fn choice(first: bool, a: &[u8], b: &[u8]) {
     }
 }
 
-// A colon, and an answer.
+// Prints a colon, a space and an answer.
 pub fn answer(found: u8) {
     text(b": ");
     io::print_decimal(STDOUT_FILENO, wide(found));
 }
 
-// An answer and bytes, to the end of the line.
+// Prints an answer and bytes, and ends the line.
 pub fn line(found: u8, bytes: &[u8]) {
     answer(found);
     hex(bytes);
@@ -63,7 +63,7 @@ fn is_all(bytes: &[u8], byte: u8) -> bool {
     true
 }
 
-// The first n bytes of an output, and whether the rest of it is as it was filled, to the end of the line.
+// Prints the first n bytes of an output, and whether all bytes after them are `fill`, and ends the line.
 pub fn output(out: &[u8], n: usize, fill: u8) {
     if out.len() < n {
         return;

@@ -1,5 +1,6 @@
--- Two accepted words that are the same braid mean the same. They reach the same matrix from Pub(S), so under every key
--- and digest they get the same verdict. Two corollaries state parts of the claim in the terms of other operations.
+-- Two accepted words that are the same braid have the same meaning. They reach the same matrix from Pub(S), so under
+-- every key and digest they get the same verdict. Two corollaries state parts of the claim in the terms of other
+-- operations.
 use Prim.Native.Nat.{ℕ, _≤_}
 use mathlib.Core.Path.{_≡_, refl, sym, ap, _∙_}
 use mathlib.Core.Bool.{true}
@@ -10,36 +11,38 @@ use Rattle.field.specs.Binary.{Operations, BinaryField}
 use Rattle.field.specs.Fields.{operations}
 use Rattle.field.specs.declared.Field.{Field}
 use Rattle.field.proofs.Fields.{binary}
-use Rattle.braid.specs.Words.{codes, wordAnswer, wordFile}
-use Rattle.braid.specs.Strands.{inOrder, isOrder}
-use Rattle.braid.proofs.ReadLaws.{accepted-word}
-use Rattle.braid.proofs.RoundTrip.{wordFile-accepted, codes-wordFile}
-use Rattle.action.specs.declared.Pair.{Pair}
-use Rattle.action.specs.Action.{pairOf, wordOn}
-use Rattle.action.specs.Good.{TValues, GoodPair}
-use Rattle.action.proofs.GoodLaws.{tested-pair, tested-values}
-use Rattle.crossing.specs.Crossings.{crossings}
-use Rattle.operands.specs.Operands.{elements, nonzero}
-use Rattle.same_braid.specs.SameBraid.{SameBraid}
-use Rattle.same_braid.proofs.Laws.{same-lettered}
+use Rattle.word.specs.Words.{codes, wordAnswer, wordFile}
+use Rattle.word.specs.Strands.{inOrder, isOrder}
+use Rattle.word.proofs.ReadLaws.{accepted-word}
+use Rattle.word.proofs.RoundTrip.{wordFile-accepted, codes-wordFile}
+use Rattle.pair.specs.declared.Pair.{Pair}
+use Rattle.pair.specs.Action.{pairOf, wordOn}
+use Rattle.pair.specs.Good.{TValues, GoodPair}
+use Rattle.pair.proofs.GoodLaws.{tested-pair, tested-values}
+use Rattle.word_crossing.specs.Crossings.{crossings}
+use Rattle.pair_operands.specs.Operands.{elements, nonzero}
+use Rattle.braid_same.specs.SameBraid.{SameBraid}
+use Rattle.braid_same.proofs.Laws.{same-lettered}
 use Rattle.key.specs.Keys.{keyField, keyAnswer, keyOf}
 use Rattle.key.specs.declared.Key.{Key}
 use Rattle.key.proofs.KeyFacts.{key-values, key-pair, key-field}
-use Rattle.verify.specs.Verdict.{signed, signedOver}
-use Rattle.verify.proofs.VerdictIff.{same-verdict, zero-or-14}
+use Rattle.slip_verdict.specs.Verdict.{signed, signedOver}
+use Rattle.slip_verdict.proofs.VerdictIff.{same-verdict, zero-or-14}
 use Rattle.slip_meaning.specs.Meaning.{SameMeaning}
 
 -- ---- from the braid to the meaning
 
--- the same matrix is reached from Pub(S), over any binary field, under any key with T-values other than zero and a pair
--- of that field
+-- Two words of the same braid reach the same matrix from Pub(S). The field may be any binary field, and the key any
+-- with T-values other than zero and a good pair over that field.
 pub signed-alike : (F : Operations) → BinaryField F → (key : Key) → TValues F (key .«t_values») → GoodPair F (key .pair)
     → {w v : List ℕ} → SameBraid w v → signedOver F key v ≡ signedOver F key w
 unfolding signedOver
-signed-alike F laws key values good s = ap (λ (q : Pair). q .matrix) (s .carried F laws (key .«t_values») values (key .pair) good)
+signed-alike F laws key values good s =
+    ap (λ (q : Pair). q .matrix) (s .carried F laws (key .«t_values») values (key .pair) good)
 
--- so it is under an accepted key, over its own field
-same-signed : (key : List ℕ) {w v : List ℕ} → SameBraid w v → keyAnswer key ≡ 0 → signed (keyOf key) v ≡ signed (keyOf key) w
+-- two words of the same braid reach the same matrix from Pub(S) under an accepted key, over the key's field
+same-signed : (key : List ℕ) {w v : List ℕ} → SameBraid w v → keyAnswer key ≡ 0
+    → signed (keyOf key) v ≡ signed (keyOf key) w
 same-signed key {w} {v} s k =
     let over : (u : List ℕ) → signed (keyOf key) u ≡ signedOver (operations (keyField key)) (keyOf key) u =
     λ u. ap (λ (f : Field). signedOver (operations f) (keyOf key) u) (key-field key) in
@@ -47,8 +50,9 @@ same-signed key {w} {v} s k =
     ∙ signed-alike (operations (keyField key)) (binary (keyField key)) (keyOf key) (key-values key k) (key-pair key) s
     ∙ sym (over w)
 
--- two accepted words
-pub same-braid-means : (word new : List ℕ) → wordAnswer word ≡ 0 → wordAnswer new ≡ 0 → SameBraid (codes word) (codes new) → SameMeaning word new
+-- two accepted words of the same braid have the same meaning
+pub same-braid-means : (word new : List ℕ) → wordAnswer word ≡ 0 → wordAnswer new ≡ 0
+    → SameBraid (codes word) (codes new) → SameMeaning word new
 same-braid-means word new a n s =
     record {
       old-accepted = a;
@@ -60,27 +64,28 @@ same-braid-means word new a n s =
       crossed = s .crossed;
     }
 
--- an accepted word, and the file that is written from codes
-pub written-means : (word v : List ℕ) → wordAnswer word ≡ 0 → SameBraid (codes word) v → length v ≤ 10000 → SameMeaning word (wordFile v)
+-- an accepted word and the file written from codes of the same braid have the same meaning
+pub written-means : (word v : List ℕ) → wordAnswer word ≡ 0 → SameBraid (codes word) v → length v ≤ 10000
+    → SameMeaning word (wordFile v)
 written-means word v a s few =
     let e = same-lettered s (accepted-word word a .lettered) in
     same-braid-means word (wordFile v) a (wordFile-accepted v few e) (rw (codes-wordFile v few e) s)
 
 -- ---- in other terms
 
--- for either field, in the terms of the multiplier's questions: any 64 elements, any list of 0 to 7 each once, any
--- eight T-values other than zero
-pub carried-alike : {word new : List ℕ} → SameMeaning word new → (f : Field) (ts m order : List ℕ)
+-- Over either field, in the terms of the multiplier's questions: any 64 elements, any list of 0 to 7 each once, any
+-- eight T-values other than zero.
+pub carried-alike : {word new : List ℕ} → SameMeaning word new → (f : Field) (ts m labels : List ℕ)
     → length ts ≡ 8 → elements f ts ≡ true → nonzero ts ≡ true
     → length m ≡ 64 → elements f m ≡ true
-    → length order ≡ 8 → isOrder order ≡ true
-    → wordOn (operations f) ts (codes new) (pairOf m order) ≡ wordOn (operations f) ts (codes word) (pairOf m order)
-carried-alike s f ts m order l e n lm em lo o =
-    s .carried (operations f) (binary f) ts (tested-values f ts l e n) (pairOf m order)
-    (tested-pair f (pairOf m order) lm lo em o)
+    → length labels ≡ 8 → isOrder labels ≡ true
+    → wordOn (operations f) ts (codes new) (pairOf m labels) ≡ wordOn (operations f) ts (codes word) (pairOf m labels)
+carried-alike s f ts m labels l e n lm em lo o =
+    s .carried (operations f) (binary f) ts (tested-values f ts l e n) (pairOf m labels)
+    (tested-pair f (pairOf m labels) lm lo em o)
 
--- the signed number of crossings of every two labels is the same in the new word as in the old one, from the starting
--- list
-pub crossings-alike : {word new : List ℕ} → SameMeaning word new → (a b : ℕ) → crossings a b (codes new) ≡ crossings a b (codes word)
+-- from the starting list, the signed number of crossings of every two labels is the same in both words
+pub crossings-alike : {word new : List ℕ} → SameMeaning word new → (a b : ℕ)
+    → crossings a b (codes new) ≡ crossings a b (codes word)
 unfolding crossings valuesFrom
 crossings-alike s a b = s .crossed inOrder refl a b

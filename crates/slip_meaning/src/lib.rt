@@ -1,1 +1,1 @@
-// What two word files of one meaning have in common: the claim of demand 3 with its laws, and no function.
+// Demand 3's claim between two files. This crate has no function.

@@ -28,9 +28,12 @@ drop-least n xs = go (decLe n (length xs))
         rw (min-eq-right l, drop-length) (sym (drop-of-length-le xs l))
 
 -- a buffer cut at both ends, as far as it goes
-module _ (at most start n : ℕ) (xs : List ℕ) (s : start ≡ min at (length xs)) (e : n ≡ min most (length (take (length xs - start) (drop start xs)))) where
+module _ (at most start n : ℕ) (xs : List ℕ) (s : start ≡ min at (length xs))
+    (e : n ≡ min most (length (take (length xs - start) (drop start xs)))) where
   rest : take (length xs - start) (drop start xs) ≡ drop at xs
-  rest = take-all (length xs - start) (drop start xs) (rw length-drop (omega arith)) ∙ ap (λ (k : ℕ). drop k xs) s ∙ drop-least at xs
+  rest =
+      take-all (length xs - start) (drop start xs) (rw length-drop (omega arith)) ∙ ap (λ (k : ℕ). drop k xs) s
+      ∙ drop-least at xs
 
   pub cut : take n (take (length xs - start) (drop start xs)) ≡ part at most xs
   cut = rw (e, rest) (take-least most (drop at xs))

@@ -1,7 +1,8 @@
 -- Laws of decimal text, of every number: it reads back as the number, has no zero in front, and is the only such text;
 -- how long it is; and the digits one by one as the code writes them.
 use Prim.Native.Nat.{ℕ, zero, suc, _+_, _-_, _*_, _/_, _%_, _^_, _≤_, _<_}
-use native.Mathlib.Nat.{zero-mul, mul-le-mul-right, pow-suc, pow-zero, pow-le-pow-right, div-eq-of-lt, div-add-mod', mod-lt}
+use native.Mathlib.Nat.{zero-mul, mul-le-mul-right, pow-suc, pow-zero, pow-le-pow-right, div-eq-of-lt, div-add-mod'}
+use native.Mathlib.Nat.{mod-lt}
 use native.Mathlib.Decide.{decLe}
 use native.Mathlib.Omega.{arith}
 use mathlib.Core.Path.{_≡_, refl, sym, ap, ap₂, _∙_}
@@ -119,7 +120,9 @@ shown-back (d ∷ ds) = let e : 48 + d - 48 ≡ d = omega arith in ap₂ (λ (x 
 -- the text reads back as the number
 pub decimal-reads : (n : ℕ) → value 10 (map (λ x. x - 48) (decimal n)) ≡ n
 unfolding decimal
-decimal-reads n = ap (value 10) (shown-back (digits 10 (places n) n)) ∙ value-digits-below 10 (places n) n (omega arith) (places-enough n)
+decimal-reads n =
+    ap (value 10) (shown-back (digits 10 (places n) n))
+    ∙ value-digits-below 10 (places n) n (omega arith) (places-enough n)
 
 -- a row of digits whose first is not 0 writes at least 10 to the power of the number of the others
 first-not-zero : (ds : List ℕ) → 1 ≤ length ds → 1 ≤ getD ds 0 0 → 10 ^ (length ds - 1) ≤ value 10 ds
@@ -165,7 +168,8 @@ needed-few n k needed = go (decLe k 1)
     go (no h) = omega (arith, needed (omega arith), below-power (k - 1))
 
 -- one more byte of a row of digits, from the last on
-pub spelled-more : (number v n i : ℕ) (xs : List ℕ) → i < length xs → drop (suc i) xs ≡ shown (digits 10 n number) → v ≡ number / 10 ^ n
+pub spelled-more : (number v n i : ℕ) (xs : List ℕ) → i < length xs → drop (suc i) xs ≡ shown (digits 10 n number)
+    → v ≡ number / 10 ^ n
     → drop i (set xs i (48 + v % 10)) ≡ shown (digits 10 (suc n) number)
 unfolding digits
 spelled-more number v n i xs h e ev =

@@ -1,5 +1,5 @@
--- Laws of how many bytes are enough to read: more are enough too; a part of the file, and what it picks; a function that
--- sees of long files the first bytes alone; answers, and what is given on them; several files.
+-- Laws of how many bytes are enough to read: more are enough too; a part of the file, and what it picks; a function
+-- that sees of long files the first bytes alone; answers, and what is given on them; several files.
 use Prim.Native.Nat.{ℕ, zero, suc, _+_, _≤_, _<_}
 use native.Mathlib.Decide.{decLe, ℕ-discrete}
 use native.Mathlib.Omega.{arith}
@@ -17,7 +17,8 @@ enough-more {ℓ} : {A : Type ℓ} (f : List ℕ → A) (n m : ℕ) → n ≤ m 
 enough-more f n m h e file = sym (e (take m file)) ∙ ap f (take-take n m file h) ∙ e file
 
 -- a function that a part of the file picks, of the file
-pub enough-picked {ℓ} : {A B : Type ℓ} (f : List ℕ → A) (g : A → List ℕ → B) (n : ℕ) → Enough n f → ((x : A) → Enough n (g x))
+pub enough-picked {ℓ} : {A B : Type ℓ} (f : List ℕ → A) (g : A → List ℕ → B) (n : ℕ) → Enough n f
+    → ((x : A) → Enough n (g x))
     → Enough n (λ file. g (f file) file)
 enough-picked f g n e each file = ap (λ x. g x (take n file)) (e file) ∙ each (f file) file
 
@@ -29,7 +30,8 @@ enough-part (suc at) size (suc n) h [] = refl
 enough-part (suc at) size (suc n) h (x ∷ file) = enough-part at size n (omega arith) file
 
 -- a function that sees of a file of over n bytes the first k alone: n + 1 bytes are enough, and so is more
-pub enough-long {ℓ} : {A : Type ℓ} (f g : List ℕ → A) (k n m : ℕ) → k ≤ n → n < m → ((file : List ℕ) → n < length file → f file ≡ g (take k file))
+pub enough-long {ℓ} : {A : Type ℓ} (f g : List ℕ → A) (k n m : ℕ) → k ≤ n → n < m
+    → ((file : List ℕ) → n < length file → f file ≡ g (take k file))
     → Enough m f
 enough-long f g k n m h l long = enough-more f (suc n) m l (λ file. go file (decLe (length file) (suc n)))
   where
@@ -37,7 +39,8 @@ enough-long f g k n m h l long = enough-more f (suc n) m l (λ file. go file (de
     go file (yes s) = ap f (take-all (suc n) file s)
     go file (no s) =
         let size : length (take (suc n) file) ≡ suc n = rw length-take (omega arith) in
-        long (take (suc n) file) (omega arith) ∙ ap g (take-take k (suc n) file (omega arith)) ∙ sym (long file (omega arith))
+        long (take (suc n) file) (omega arith) ∙ ap g (take-take k (suc n) file (omega arith))
+        ∙ sym (long file (omega arith))
 
 -- ---- answers
 
@@ -46,7 +49,8 @@ abbrev pub Whole : ℕ → (List ℕ → ℕ) → Type 0
 Whole n answer = (file : List ℕ) → answer (take n file) ≡ 0 → take n file ≡ file
 
 -- so it is where every file of over n bytes is refused
-pub whole-long : (answer : List ℕ → ℕ) (n m : ℕ) → n < m → ((file : List ℕ) → n < length file → answer file ≡ 0 → ⊥) → Whole m answer
+pub whole-long : (answer : List ℕ → ℕ) (n m : ℕ) → n < m → ((file : List ℕ) → n < length file → answer file ≡ 0 → ⊥)
+    → Whole m answer
 whole-long answer n m h long file a = go (decLe (length file) m)
   where
     go : Dec (length file ≤ m) → take m file ≡ file
@@ -56,14 +60,16 @@ whole-long answer n m h long file a = go (decLe (length file) m)
         absurd (long (take m file) (omega arith) a)
 
 -- what is given on answer 0 and on a refusal: alike where the answers are, and on 0 the first two
-pub granted-alike {ℓ} : {A : Type ℓ} {a b : ℕ} (x y z t : A) → a ≡ b → (a ≡ 0 → x ≡ y) → z ≡ t → granted a x z ≡ granted b y t
+pub granted-alike {ℓ} : {A : Type ℓ} {a b : ℕ} (x y z t : A) → a ≡ b → (a ≡ 0 → x ≡ y) → z ≡ t
+    → granted a x z ≡ granted b y t
 granted-alike {a = a} {b = b} x y z t e same rest = go (ℕ-discrete a 0)
   where
     go : Dec (a ≡ 0) → granted a x z ≡ granted b y t
     go (yes d) = granted-zero x z d ∙ same d ∙ sym (granted-zero y t (sym e ∙ d))
     go (no h) = granted-refused x z h ∙ rest ∙ sym (granted-refused y t (λ d. h (e ∙ d)))
 
-pub enough-granted {ℓ} : {A : Type ℓ} (answer : List ℕ → ℕ) (f g : List ℕ → A) (n : ℕ) → Enough n answer → Whole n answer → Enough n g
+pub enough-granted {ℓ} : {A : Type ℓ} (answer : List ℕ → ℕ) (f g : List ℕ → A) (n : ℕ) → Enough n answer
+    → Whole n answer → Enough n g
     → Enough n (λ file. granted (answer file) (f file) (g file))
 enough-granted answer f g n e whole rest file =
     granted-alike (f (take n file)) (f file) (g (take n file)) (g file) (e file) (λ z. ap f (whole file z)) (rest file)
@@ -71,10 +77,12 @@ enough-granted answer f g n e whole rest file =
 -- ---- several files
 
 -- two files, and three
-pub enough-of-two {ℓ} : {A : Type ℓ} (f : List ℕ → List ℕ → A) (m n : ℕ) → ((y : List ℕ) → Enough m (λ x. f x y)) → ((x : List ℕ) → Enough n (f x))
+pub enough-of-two {ℓ} : {A : Type ℓ} (f : List ℕ → List ℕ → A) (m n : ℕ) → ((y : List ℕ) → Enough m (λ x. f x y))
+    → ((x : List ℕ) → Enough n (f x))
     → EnoughOfTwo m n f
 enough-of-two f m n a b x y = a (take n y) x ∙ b x y
 
-pub enough-of-three {ℓ} : {A : Type ℓ} (f : List ℕ → List ℕ → List ℕ → A) (l m n : ℕ) → ((y z : List ℕ) → Enough l (λ x. f x y z))
+pub enough-of-three {ℓ} : {A : Type ℓ} (f : List ℕ → List ℕ → List ℕ → A) (l m n : ℕ)
+    → ((y z : List ℕ) → Enough l (λ x. f x y z))
     → ((x : List ℕ) → EnoughOfTwo m n (f x)) → EnoughOfThree l m n f
 enough-of-three f l m n a b x y z = a (take m y) (take n z) x ∙ b x y z

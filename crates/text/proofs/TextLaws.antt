@@ -34,11 +34,13 @@ added-byte before at x h =
       end-is = refl;
       buffer-is =
           set-split before at x h
-          ∙ ap (λ (l : List ℕ). take at before ++ (x ∷ l)) (sym (drop-drop 1 at before ∙ ap (λ (k : ℕ). drop k before) (add-one at)));
+          ∙ ap (λ (l : List ℕ). take at before ++ (x ∷ l))
+          (sym (drop-drop 1 at before ∙ ap (λ (k : ℕ). drop k before) (add-one at)));
     }
 
 -- one after another
-pub added-then : {xs ys before between after : List ℕ} {at middle end : ℕ} → at ≤ length before → Added xs before at between middle
+pub added-then : {xs ys before between after : List ℕ} {at middle end : ℕ} → at ≤ length before
+    → Added xs before at between middle
     → Added ys between middle after end → Added (xs ++ ys) before at after end
 unfolding overlaid
 added-then {xs} {ys} {before} {between} {after} {at} {middle} {end} h f g =
@@ -46,7 +48,8 @@ added-then {xs} {ys} {before} {between} {after} {at} {middle} {end} h f g =
       end-is = omega (arith, f .end-is, g .end-is, length-append xs ys);
       buffer-is =
           g .buffer-is
-          ∙ ap₂ (λ (p q : List ℕ). p ++ overlaid ys q) (ap (take middle) there ∙ take-at front (drop (length xs) rest) middle size)
+          ∙ ap₂ (λ (p q : List ℕ). p ++ overlaid ys q)
+          (ap (take middle) there ∙ take-at front (drop (length xs) rest) middle size)
           (ap (drop middle) there ∙ drop-at front (drop (length xs) rest) middle size)
           ∙ append-assoc (take at before) xs (overlaid ys (drop (length xs) rest))
           ∙ ap (λ (l : List ℕ). take at before ++ l) (sym (overlaid-append xs ys rest));
@@ -65,12 +68,15 @@ added-then {xs} {ys} {before} {between} {after} {at} {middle} {end} h f g =
     size = omega (arith, length-append (take at before) xs, length-take-le at before h, f .end-is)
 
 -- a number in decimal and a byte: its digits in a part of k bytes that was lent, and the byte behind it
-pub added-number : {part : List ℕ} {k m : ℕ} (before : List ℕ) (at n then : ℕ) → k ≡ places n → m ≡ k → at + k + 1 ≤ length before
+pub added-number : {part : List ℕ} {k m : ℕ} (before : List ℕ) (at n then : ℕ) → k ≡ places n → m ≡ k
+    → at + k + 1 ≤ length before
     → part ≡ shown (digits 10 (length (take m (drop at before))) n)
-    → Added (decimal n ++ (then ∷ [])) before at (set (take at before ++ (part ++ drop m (drop at before))) (at + k) then) (at + k + 1)
+    → Added (decimal n ++ (then ∷ [])) before at
+    (set (take at before ++ (part ++ drop m (drop at before))) (at + k) then) (at + k + 1)
 unfolding decimal
 added-number {part} {k} {m} before at n then e d h p =
-    rw d (added-then (omega arith) digits-added (added-byte (take at before ++ (part ++ drop k (drop at before))) (at + k) then within))
+    rw d (added-then (omega arith) digits-added
+    (added-byte (take at before ++ (part ++ drop k (drop at before))) (at + k) then within))
   where
     size : length (take m (drop at before)) ≡ places n
     size = ap (λ (j : ℕ). length (take j (drop at before))) d ∙ length-part at k before (omega arith) ∙ e
@@ -97,7 +103,8 @@ added-number {part} {k} {m} before at n then e d h p =
 -- ---- a buffer that starts with a text
 
 -- bytes added to it
-pub told-more : {size at end : ℕ} {text bytes before after : List ℕ} → TellsIn size text at before → Added bytes before at after end
+pub told-more : {size at end : ℕ} {text bytes before after : List ℕ} → TellsIn size text at before
+    → Added bytes before at after end
     → TellsIn size (text ++ bytes) end after
 unfolding overlaid
 told-more {size} {at} {end} {text} {bytes} {before} {after} t f =
@@ -105,7 +112,8 @@ told-more {size} {at} {end} {text} {bytes} {before} {after} t f =
       bytes-are = omega (arith, length-append text bytes, t .bytes-are, f .end-is);
       text-is =
           f .buffer-is
-          ∙ ap₂ (λ (p q : List ℕ). p ++ overlaid bytes q) (ap (take at) (t .text-is) ∙ take-at text (drop (length text) zeros) at (sym (t .bytes-are)))
+          ∙ ap₂ (λ (p q : List ℕ). p ++ overlaid bytes q)
+          (ap (take at) (t .text-is) ∙ take-at text (drop (length text) zeros) at (sym (t .bytes-are)))
           (ap (drop at) (t .text-is) ∙ drop-at text (drop (length text) zeros) at (sym (t .bytes-are)))
           ∙ sym (overlaid-append text bytes zeros);
     }
@@ -126,6 +134,8 @@ unfolding line
 line-word w v ws = append-assoc w (32 ∷ []) (line (v ∷ ws))
 
 -- a line word by word
-pub added-word : {before between after : List ℕ} {at middle end : ℕ} (w v : List ℕ) (ws : List (List ℕ)) → at ≤ length before
-    → Added (w ++ (32 ∷ [])) before at between middle → Added (line (v ∷ ws)) between middle after end → Added (line (w ∷ v ∷ ws)) before at after end
+pub added-word : {before between after : List ℕ} {at middle end : ℕ} (w v : List ℕ) (ws : List (List ℕ))
+    → at ≤ length before
+    → Added (w ++ (32 ∷ [])) before at between middle → Added (line (v ∷ ws)) between middle after end
+    → Added (line (w ∷ v ∷ ws)) before at after end
 added-word w v ws h f g = rw (← line-word w v ws) (added-then h f g)

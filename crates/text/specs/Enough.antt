@@ -15,4 +15,5 @@ EnoughOfTwo m n f = (first second : List ℕ) → f (take m first) (take n secon
 
 -- and of three
 abbrev pub EnoughOfThree {ℓ} : {A : Type ℓ} → ℕ → ℕ → ℕ → (List ℕ → List ℕ → List ℕ → A) → Type ℓ
-EnoughOfThree l m n f = (first second third : List ℕ) → f (take l first) (take m second) (take n third) ≡ f first second third
+EnoughOfThree l m n f =
+    (first second third : List ℕ) → f (take l first) (take m second) (take n third) ≡ f first second third

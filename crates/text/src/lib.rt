@@ -1,4 +1,4 @@
-// Text in buffers that are lent: numbers in decimal added to it; and the part of a buffer that was read.
+// Numbers in decimal, lines, texts that grow; how much of a file is enough to read.
 ghost use Prim.Native.Nat.{min};
 ghost use mathlib.Core.Path.{_≡_};
 ghost use Rattle.base.specs.Digits.{part as partOf};

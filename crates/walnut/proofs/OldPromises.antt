@@ -1,6 +1,7 @@
--- Old promises are instances: the operations that now name a field ask, over GF(32), what they did when there was no
--- other, with 32 and the polynomial spelled; the encoder alone, of a digest that has not 64 bytes. Of keys, verdicts,
--- cloaking and the desk: OldKeys in key, OldSlips in verify, old-input in desk_line.
+-- Document 01's promises are instances of the promises for both fields. Over GF(32), the operations that name a field
+-- ask document 01's questions, with 32 and the polynomial written out. The encoder alone asks document 01's questions
+-- about a digest that does not have 64 bytes. For keys see OldKeys in key, for verdicts OldSlips in
+-- slip_verdict, for cloaking OldCloaks in slip_cloaking, for the desk old-input in desk_line.
 use Prim.Native.Nat.{ℕ}
 use mathlib.Core.Path.{_≡_, refl, ap, _∙_}
 use mathlib.Core.Bool.{Bool, not, _&&_, _||_}
@@ -15,13 +16,13 @@ use Rattle.field.specs.Polynomial.{polynomials}
 use Rattle.field.specs.Fields.{operations}
 use Rattle.field.specs.Elements.{productQuestions, reciprocalQuestions}
 use Rattle.field.specs.declared.Field.the-variants.{Gf32}
-use Rattle.braid.specs.Letters.{isLetter}
-use Rattle.braid.specs.Strands.{isOrder}
-use Rattle.braid.specs.Words.{roomQuestion}
-use Rattle.action.specs.declared.Pair.{Pair}
-use Rattle.action.specs.Multiplier.{multiplierQuestions}
+use Rattle.word.specs.Letters.{isLetter}
+use Rattle.word.specs.Strands.{isOrder}
+use Rattle.word.specs.Words.{roomQuestion}
+use Rattle.pair.specs.declared.Pair.{Pair}
+use Rattle.pair_multiplier.specs.Multiplier.{multiplierQuestions}
 use Rattle.key.proofs.OldKeys.{or-false}
-use Rattle.digest.specs.Digest.{encoderQuestions}
+use Rattle.slip_digest.specs.Digest.{encoderQuestions}
 
 pub old-field : operations Gf32 ≡ polynomials 5 0b100101
 old-field = refl
@@ -41,7 +42,8 @@ pub old-multiplier : (p : Pair) (ts : List ℕ) (c : ℕ)
     ∷ []
 unfolding every
 old-multiplier p ts c =
-    ap (λ (b : Bool). (b else 17) ∷ (every (λ t. not (eqb t 0)) ts else 4) ∷ (isOrder (p .labels) else 6) ∷ (isLetter c else 12) ∷ [])
+    ap (λ (b : Bool). (b else 17) ∷ (every (λ t. not (eqb t 0)) ts else 4) ∷ (isOrder (p .labels) else 6)
+    ∷ (isLetter c else 12) ∷ [])
     (and-true (every (λ x. ltb x 32) ts && every (λ x. ltb x 32) (p .matrix)))
 
 pub old-encoder : (room : ℕ) (digest : List ℕ) → (length digest ≡ 64 → ⊥)

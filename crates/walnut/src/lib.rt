@@ -1,31 +1,30 @@
-// The exported functions: thin, one for each operation of include/walnut.h, with the contract of the function that they
-// pass on. The header states them in C. Slices pass as a pointer and a length, fixed arrays as a pointer, structs by
-// value in C's layout.
+// The exports. Each is thin and has the contract of the function that it calls. The header states the functions in C. A
+// slice passes as a pointer and a length, a fixed array as a pointer, a struct by value in C's layout.
 ghost use mathlib.Core.Path.{_≡_};
 ghost use Rattle.field.specs.Fields.{operations, fieldOf};
 ghost use Rattle.field.specs.Elements.{productQuestions, reciprocalQuestions, Gives};
-ghost use Rattle.braid.specs.Words.{codes, Read, WroteWord};
-ghost use Rattle.action.specs.Action.{start};
-ghost use Rattle.lent.specs.Lent.{Lends};
+ghost use Rattle.word.specs.Words.{codes, Read, WroteWord};
+ghost use Rattle.pair.specs.Action.{start};
+ghost use Rattle.pair_multiplier.specs.Lent.{Lends};
 ghost use Rattle.key.specs.Keys.{fileEntries, ReadsKey, WroteKey};
-ghost use Rattle.verify.specs.Verdict.{verdict};
-ghost use Rattle.verify.specs.Cloaking.{Cloaks};
-ghost use Rattle.moves.specs.Rewriter.{Rewrote};
+ghost use Rattle.slip_verdict.specs.Verdict.{verdict};
+ghost use Rattle.slip_cloaking.specs.Cloaking.{Cloaks};
+ghost use Rattle.move_rewriter.specs.Rewriter.{Rewrote};
 ghost use Rattle.walnut.specs.Exported.{keyFrom};
-ghost use Rattle.reduction.specs.Reducer.{WroteReduced};
-ghost use Rattle.digest.specs.Digest.{WroteEncoded};
-ghost use Rattle.crossing.specs.Crossings.{Crosses};
-use action::Pair;
-use braid::Word;
-use braid::Written;
-use cloaking::Cloak;
-use crossing::Crossing;
+ghost use Rattle.word_reduction.specs.Reducer.{WroteReduced};
+ghost use Rattle.slip_digest.specs.Digest.{WroteEncoded};
+ghost use Rattle.word_crossing.specs.Crossings.{Crosses};
 use field::Element;
+use pair::Pair;
+use slip_cloaking::Cloak;
+use word::Word;
+use word::Written;
+use word_crossing::Crossing;
 
-// What the key reader gives: its answer, then whether its field is the larger one, T-values, the pair Pub(S) and the
-// matrix of Pub(S'), false and all zeros on a refusal.
+// What the key reader gives: its answer, whether the key's field is the larger one, the T-values, the pair Pub(S) and
+// the matrix of Pub(S'). On a refusal `large` is false, and all numbers but the answer are zero.
 #[repr(C)]
-pub struct KeyRead {
+pub struct KeyForC {
     pub answer: u8,
     pub large: bool,
     pub t_values: [u8; 8],
@@ -35,7 +34,10 @@ pub struct KeyRead {
 
 #[no_mangle]
 pub extern "C" fn walnut_product(large: bool, a: u8, b: u8) -> Element
-    ensures { λ r. ⌜ Gives (productQuestions (fieldOf large) a b) (operations (fieldOf large) .mul a b) (r .answer) (r .value) ⌝ }
+    ensures { λ r.
+        ⌜
+        Gives (productQuestions (fieldOf large) a b) (operations (fieldOf large) .mul a b) (r .answer) (r .value)
+        ⌝ }
 {
     let f = field::field_of(large);
     field::product(a, b, f)
@@ -43,7 +45,10 @@ pub extern "C" fn walnut_product(large: bool, a: u8, b: u8) -> Element
 
 #[no_mangle]
 pub extern "C" fn walnut_reciprocal(large: bool, a: u8) -> Element
-    ensures { λ r. ⌜ Gives (reciprocalQuestions (fieldOf large) a) (operations (fieldOf large) .inv a) (r .answer) (r .value) ⌝ }
+    ensures { λ r.
+        ⌜
+        Gives (reciprocalQuestions (fieldOf large) a) (operations (fieldOf large) .inv a) (r .answer) (r .value)
+        ⌝ }
 {
     let f = field::field_of(large);
     field::reciprocal(a, f)
@@ -56,7 +61,7 @@ pub extern "C" fn walnut_start() -> Pair
     Pair::start()
 }
 
-// The caller lends its pair, and the letter changes it. On a refusal the pair is as it was.
+// The caller lends its pair, and one letter changes it. On a refusal the pair is unchanged.
 #[no_mangle]
 pub extern "C" fn walnut_multiply(
     pair: &mut Pair,
@@ -66,14 +71,17 @@ pub extern "C" fn walnut_multiply(
 ) -> u8
     ensures { λ r. ⌜ Lends (fieldOf large) (now (pair .entry)) (now («t_values» .entry)) letter r (now (pair .exit)) ⌝ }
 {
-    let stepped = lent::step(*pair, large, t_values, letter);
+    let stepped = pair_multiplier::step(*pair, large, t_values, letter);
     *pair = stepped.pair;
     stepped.answer
 }
 
 #[no_mangle]
-pub extern "C" fn walnut_read_key(file: &[u8]) -> KeyRead
-    ensures { λ r. ⌜ ReadsKey (now (file .entry)) (r .answer) (keyFrom (r .large) (r .«t_values») (r .pair) (r .second)) ⌝ }
+pub extern "C" fn walnut_read_key(file: &[u8]) -> KeyForC
+    ensures { λ r.
+        ⌜
+        ReadsKey (now (file .entry)) (r .answer) (keyFrom (r .large) (r .«t_values») (r .pair) (r .second))
+        ⌝ }
 {
     let read = key_reader::read_key(file);
     let held = read.key;
@@ -83,7 +91,7 @@ pub extern "C" fn walnut_read_key(file: &[u8]) -> KeyRead
     let t_values = held.t_values;
     let pair = held.pair;
     let second = held.second;
-    KeyRead {
+    KeyForC {
         answer,
         large,
         t_values,
@@ -92,7 +100,7 @@ pub extern "C" fn walnut_read_key(file: &[u8]) -> KeyRead
     }
 }
 
-// The entries as the key writer takes them.
+// The 57 entries of a matrix, in the order in which the key writer takes them.
 #[no_mangle]
 pub extern "C" fn walnut_file_entries(matrix: &[u8; 64], entries: &mut [u8; 57])
     ensures { λ _. ⌜ now (entries .exit) ≡ fileEntries (now (matrix .entry)) ⌝ }
@@ -109,7 +117,11 @@ pub extern "C" fn walnut_write_key(
     second: &[u8; 57],
     out: &mut [u8],
 ) -> u8
-    ensures { λ r. ⌜ WroteKey (fieldOf large) (now («t_values» .entry)) (now (labels .entry)) (now (first .entry)) (now (second .entry)) (now (out .entry)) (now (out .exit)) r ⌝ }
+    ensures { λ r.
+        ⌜
+        WroteKey (fieldOf large) (now («t_values» .entry)) (now (labels .entry)) (now (first .entry))
+        (now (second .entry)) (now (out .entry)) (now (out .exit)) r
+        ⌝ }
 {
     let f = field::field_of(large);
     key_writer::write_key(t_values, labels, first, second, out, f)
@@ -119,54 +131,57 @@ pub extern "C" fn walnut_write_key(
 pub extern "C" fn walnut_read_word(file: &[u8]) -> Word
     ensures { λ r. ⌜ Read (now (file .entry)) (r .answer) (r .letters) ⌝ }
 {
-    braid::read_word(file)
+    word::read_word(file)
 }
 
 #[no_mangle]
 pub extern "C" fn walnut_write_word(codes: &[u8], out: &mut [u8]) -> Written
     ensures { λ r. ⌜ WroteWord (now (codes .entry)) (now (out .entry)) (now (out .exit)) (r .answer) (r .bytes) ⌝ }
 {
-    writer::write_word(codes, out)
+    word_writer::write_word(codes, out)
 }
 
 #[no_mangle]
 pub extern "C" fn walnut_encode_digest(digest: &[u8], out: &mut [u8]) -> Written
     ensures { λ r. ⌜ WroteEncoded (now (digest .entry)) (now (out .entry)) (now (out .exit)) (r .answer) (r .bytes) ⌝ }
 {
-    digest::encode(digest, out)
+    slip_digest::encode(digest, out)
 }
 
 #[no_mangle]
 pub extern "C" fn walnut_free_reduce(word: &[u8], out: &mut [u8]) -> Written
     ensures { λ r. ⌜ WroteReduced (now (word .entry)) (now (out .entry)) (now (out .exit)) (r .answer) (r .bytes) ⌝ }
 {
-    reduction::free_reduce(word, out)
+    word_reduction::free_reduce(word, out)
 }
 
 #[no_mangle]
 pub extern "C" fn walnut_rewrite(word: &[u8], moves: &[u8], out: &mut [u8]) -> Written
-    ensures { λ r. ⌜ Rewrote (now (word .entry)) (now (moves .entry)) (now (out .entry)) (now (out .exit)) (r .answer) (r .bytes) ⌝ }
+    ensures { λ r.
+        ⌜
+        Rewrote (now (word .entry)) (now (moves .entry)) (now (out .entry)) (now (out .exit)) (r .answer) (r .bytes)
+        ⌝ }
 {
-    moves::rewrite(word, moves, out)
+    move_rewriter::rewrite(word, moves, out)
 }
 
 #[no_mangle]
 pub extern "C" fn walnut_verify(key: &[u8], digest: &[u8], word: &[u8]) -> u8
     ensures { λ r. ⌜ r ≡ verdict (now (key .entry)) (now (digest .entry)) (now (word .entry)) ⌝ }
 {
-    verify::verify(key, digest, word)
+    slip_verdict::verify(key, digest, word)
 }
 
 #[no_mangle]
 pub extern "C" fn walnut_cloaks(key: &[u8], labels: &[u8], word: &[u8]) -> Cloak
     ensures { λ r. ⌜ Cloaks (now (key .entry)) (now (labels .entry)) (now (word .entry)) (r .answer) (r .yes) ⌝ }
 {
-    cloaking::cloaks(key, labels, word)
+    slip_cloaking::cloaks(key, labels, word)
 }
 
 #[no_mangle]
 pub extern "C" fn walnut_crossings(word: &[u8], a: u8, b: u8) -> Crossing
     ensures { λ r. ⌜ Crosses (now (word .entry)) a b (r .answer) (r .crossings) ⌝ }
 {
-    crossing::crossings(word, a, b)
+    word_crossing::crossings(word, a, b)
 }

@@ -10,10 +10,11 @@ mod case;
 // the binding's declarations, which it keeps to itself
 #[path = "../../../bindings/rust/src/exported.rs"]
 mod exported;
-mod ffi;
 mod fixed;
+mod library;
 mod make;
-mod paper;
+mod operation;
+mod operations;
 mod plan;
 mod programs;
 mod show;
@@ -25,11 +26,11 @@ use std::path::PathBuf;
 use std::process::ExitCode;
 
 use reference::testkit::Random;
-use walnut::Pair;
 
-use case::{Case, Input, LIBRARY, REFERENCE};
+use case::Input;
 use make::Maker;
-use plan::{differs, Failure, Run};
+use operation::By;
+use plan::{Failure, Run};
 
 /// What the command line sets.
 struct Options {
@@ -58,8 +59,8 @@ fn options(mut arguments: impl Iterator<Item = String>) -> Result<Options, Strin
 
 /// Prints an input on which the library differs from the reference, made as small as can be.
 fn print_difference(input: Input) {
-    let input = shrink::smallest(input, &differs);
-    let (reference, library) = (input.outcome(&REFERENCE), input.outcome(&LIBRARY));
+    let input = shrink::smallest(input, &Input::differs);
+    let (reference, library) = (input.outcome(By::Reference), input.outcome(By::Library));
     println!("the library differs from the reference; the smallest input found:");
     print!("{}", show::input(&input));
     println!("  reference: {}", show::outcome(&input, &reference));
@@ -69,19 +70,11 @@ fn print_difference(input: Input) {
     }
 }
 
-/// Prints a case on which both agree, but not with the papers.
-fn print_unexpected(case: &Case) {
-    let found = case.input.outcome(&REFERENCE);
-    println!("library and reference agree, but the papers' order of questions gives another answer:");
-    print!("{}", show::input(&case.input));
-    println!("  found:    {}", show::outcome(&case.input, &found));
-    println!("  expected: answer {}", case.expected.unwrap_or_default());
-}
-
-/// Prints a key writing that does not give back the file that it was read from.
-fn print_not_back(input: &Input) {
-    println!("library and reference agree, but a key that was read is not written back as its own bytes:");
+/// Prints an input on which both agree, but not with the papers.
+fn print_unexpected(input: &Input, account: &str) {
+    println!("library and reference agree, but {account}:");
     print!("{}", show::input(input));
+    println!("  found: {}", show::outcome(input, &input.outcome(By::Reference)));
 }
 
 /// Runs the plan, and gives whether all is well.
@@ -90,8 +83,7 @@ fn run_plan(options: &Options) -> bool {
     if let Err(failure) = run.whole(options.cases) {
         match *failure {
             Failure::Differs(input) => print_difference(input),
-            Failure::Unexpected(case) => print_unexpected(&case),
-            Failure::NotBack(input) => print_not_back(&input),
+            Failure::Unexpected(input, account) => print_unexpected(&input, &account),
         }
         return false;
     }

@@ -17,7 +17,8 @@ use std::time::Duration;
 use reference::word::word_file;
 
 use crate::make::{files, Maker};
-use crate::paper::Operation;
+use crate::operation::Operation;
+use crate::operations::read_word::ReadWord;
 
 /// What is wrong, or nothing.
 type Checked<T = ()> = Result<T, String>;
@@ -65,7 +66,7 @@ const LETTERS: usize = 300;
 fn odd_words(maker: &mut Maker) -> Vec<Vec<u8>> {
     let random = &mut maker.random;
     let mut words = Vec::new();
-    let questions = Operation::ReadWord.questions();
+    let questions = ReadWord.facts().questions;
     for (place, first) in questions.iter().enumerate() {
         for second in &questions[place..] {
             for _ in 0..VARIANTS {

@@ -1,7 +1,7 @@
 //! Inputs and outcomes in print.
 
 use crate::case::{Input, Outcome, GUARD};
-use crate::paper::Operation;
+use crate::operation::{Output, Over};
 
 /// Bytes in hexadecimal; four and more equal ones in a row as one of them with their number.
 pub fn hex(bytes: &[u8]) -> String {
@@ -17,46 +17,39 @@ pub fn hex(bytes: &[u8]) -> String {
     }
 }
 
+/// Has the input's operation an output?
+fn has_output(input: &Input) -> bool {
+    !matches!(input.facts().output, Output::Nothing)
+}
+
 /// The operation, the field if one is named, and what it takes, one part to a line, with the number of its bytes in
 /// brackets.
 pub fn input(input: &Input) -> String {
-    let mut text = format!("walnut_{}\n", input.operation.name());
-    if input.operation.names_field() {
+    let facts = input.facts();
+    let mut text = format!("walnut_{}\n", facts.name);
+    if facts.over == Over::Named {
         text += &format!("  field of {}\n", input.named.size());
     }
-    for (part, bytes) in input.operation.parts().iter().zip(&input.parts) {
+    for (part, bytes) in facts.parts.iter().zip(&input.parts) {
         text += &format!("  {} [{}]: {}\n", part.name, bytes.len(), hex(bytes));
     }
-    if input.operation.has_output() {
+    if has_output(input) {
         text += &format!("  output [{}]\n", input.room);
     }
     text
 }
 
-/// What the number of an outcome is.
-fn number_name(operation: Operation) -> Option<&'static str> {
-    match operation {
-        Operation::Product | Operation::Reciprocal => Some("value"),
-        Operation::ReadWord => Some("letters"),
-        Operation::WriteWord | Operation::EncodeDigest | Operation::FreeReduce | Operation::Rewrite => {
-            Some("bytes")
-        }
-        Operation::Cloaks => Some("yes"),
-        Operation::ReadKey => Some("large"),
-        _ => None,
-    }
-}
-
-/// The answer and the number.
+/// The answer and the numbers beside it.
 pub fn outcome(input: &Input, outcome: &Outcome) -> String {
-    let number = number_name(input.operation).map(|name| format!(", {name} {}", outcome.number));
-    format!("answer {}{}", outcome.answer, number.unwrap_or_default())
+    let numbers = input.facts().numbers.iter().zip(&outcome.numbers);
+    let beside: String = numbers.map(|(name, number)| format!(", {name} {number}")).collect();
+    format!("answer {}{beside}", outcome.answer)
 }
 
 /// Where a byte of an outcome stands.
 pub fn place_name(input: &Input, place: usize) -> String {
     match place {
-        _ if !input.operation.has_output() => format!("returned or lent byte {place}"),
+        _ if !has_output(input) => format!("returned or lent byte {place}"),
         _ if place < GUARD => format!("byte {} before the output", GUARD - place),
         _ if place < GUARD + input.room => format!("output byte {}", place - GUARD),
         _ => format!("byte {} past the output", place - GUARD - input.room),

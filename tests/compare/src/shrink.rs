@@ -1,7 +1,6 @@
 //! Makes a failing input smaller while it still fails: cuts letters, moves and bytes, lowers numbers.
 
-mod items;
-mod joint;
+pub mod items;
 
 use std::time::{Duration, Instant};
 
@@ -9,7 +8,7 @@ use reference::testkit::move_list;
 use reference::Field;
 
 use crate::case::Input;
-use crate::paper::Form;
+use crate::operation::Form;
 use items::{filler, move_items, word_items, word_of, Item};
 
 /// The longest time that is spent on it.
@@ -28,6 +27,9 @@ pub fn smallest(input: Input, fails: &dyn Fn(&Input) -> bool) -> Input {
     }
 }
 
+/// How a part is made of its items.
+type File<'a, T> = &'a dyn Fn(&[T]) -> Vec<u8>;
+
 /// The input with another part.
 fn with_part(input: &Input, place: usize, part: Vec<u8>) -> Input {
     let mut other = input.clone();
@@ -36,53 +38,53 @@ fn with_part(input: &Input, place: usize, part: Vec<u8>) -> Input {
 }
 
 /// The test of an input, and the time when it is no longer made.
-struct Shrinker<'a> {
+pub struct Shrinker<'a> {
     fails: &'a dyn Fn(&Input) -> bool,
     end: Instant,
 }
 
 impl Shrinker<'_> {
     /// Is there still time?
-    fn has_time(&self) -> bool {
+    pub fn has_time(&self) -> bool {
         Instant::now() < self.end
     }
 
     /// Does it still fail, and is there still time?
-    fn fails(&self, input: &Input) -> bool {
+    pub fn fails(&self, input: &Input) -> bool {
         self.has_time() && (self.fails)(input)
     }
 
-    /// The field, the output and each part made smaller once; moves and digests before words, which take longest.
+    /// The field, the output and each part made smaller once, parts that shrink together before each by itself; moves
+    /// and digests before words, which take longest.
     fn pass(&self, input: Input) -> Input {
-        let places = 0..input.parts.len();
+        let (operation, parts) = (input.operation, input.facts().parts);
         let input = self.room(self.field(input));
-        let input = places.clone().fold(input, |input, place| self.plain(input, place));
-        let input = self.solved_again(input);
+        let input = (0..parts.len()).fold(input, |input, place| self.plain(input, place));
+        let input = operation.shrunk(self, input);
         let (words, others): (Vec<usize>, Vec<usize>) =
-            places.partition(|place| input.operation.parts()[*place].form == Form::Word);
+            (0..parts.len()).partition(|place| parts[*place].form == Form::Word);
         let input = others.into_iter().fold(input, |input, place| self.part(input, place));
         let input = words.iter().fold(input, |input, place| self.plain(input, *place));
-        let input = self.letters_and_places(input);
         words.into_iter().fold(input, |input, place| self.part(input, place))
+    }
+
+    /// The first of these that still fails; the input if none does.
+    fn first(&self, input: Input, mut smaller: impl Iterator<Item = Input>) -> Input {
+        smaller.find(|smaller| self.fails(smaller)).unwrap_or(input)
     }
 
     /// The smaller field in the place of the larger.
     fn field(&self, input: Input) -> Input {
-        let smaller = Input { named: Field::Gf32, ..input.clone() };
-        if smaller != input && self.fails(&smaller) {
-            smaller
-        } else {
-            input
-        }
+        let smaller = Some(Input { named: Field::Gf32, ..input.clone() }).filter(|_| input.large());
+        self.first(input, smaller.into_iter())
     }
 
     /// The output made smaller.
     fn room(&self, input: Input) -> Input {
-        let Some(least) = input.operation.least_room(input.named) else { return input };
-        let rooms =
-            [0, least.saturating_sub(1), least, least + 1].into_iter().filter(|room| *room < input.room);
-        let mut smaller = rooms.map(|room| Input { room, ..input.clone() });
-        smaller.find(|smaller| self.fails(smaller)).unwrap_or(input)
+        let Some(least) = input.facts().least_room(input.named) else { return input };
+        let rooms = [0, least.saturating_sub(1), least, least + 1].into_iter();
+        let smaller = rooms.filter(|room| *room < input.room).map(|room| Input { room, ..input.clone() });
+        self.first(input.clone(), smaller)
     }
 
     /// One part as plain as can be: all zeros, zeros but for the number at its head, or the numbers from 0 on.
@@ -91,15 +93,14 @@ impl Shrinker<'_> {
         let head = part.iter().enumerate().map(|(place, byte)| if place < 2 { *byte } else { 0 }).collect();
         let counted = (0..part.len()).map(|number| number as u8).collect();
         let plain = [vec![0; part.len()], head, counted].into_iter().filter(|plain| plain < part);
-        let mut smaller = plain.map(|plain| with_part(&input, place, plain));
-        smaller.find(|smaller| self.fails(smaller)).unwrap_or(input)
+        self.first(input.clone(), plain.map(|plain| with_part(&input, place, plain)))
     }
 
     /// One part, cut and lowered.
     fn part(&self, input: Input, place: usize) -> Input {
         let part = input.parts[place].clone();
         let plain = |bytes: &[u8]| bytes.to_vec();
-        match input.operation.parts()[place].form {
+        match input.facts().parts[place].form {
             Form::Fixed(_) => {
                 let fails = |bytes: &[u8]| self.fails(&with_part(&input, place, bytes.to_vec()));
                 with_part(&input, place, lower(part, &fails))
@@ -117,13 +118,7 @@ impl Shrinker<'_> {
     }
 
     /// One part, cut and lowered item by item.
-    fn items<T: Item>(
-        &self,
-        input: Input,
-        place: usize,
-        items: Vec<T>,
-        file: &dyn Fn(&[T]) -> Vec<u8>,
-    ) -> Input {
+    fn items<T: Item>(&self, input: Input, place: usize, items: Vec<T>, file: File<T>) -> Input {
         let fails = |items: &[T]| self.fails(&with_part(&input, place, file(items)));
         let items = lower(cut(items, &fails), &fails);
         with_part(&input, place, file(&items))
@@ -131,7 +126,7 @@ impl Shrinker<'_> {
 }
 
 /// The items without all those that can be cut: longer runs are tried first.
-fn cut<T: Item>(mut items: Vec<T>, fails: &dyn Fn(&[T]) -> bool) -> Vec<T> {
+pub fn cut<T: Item>(mut items: Vec<T>, fails: &dyn Fn(&[T]) -> bool) -> Vec<T> {
     let mut size = items.len();
     while size > 0 {
         let mut from = 0;
@@ -182,14 +177,21 @@ fn lower_one<T: Item>(mut items: Vec<T>, place: usize, fails: &dyn Fn(&[T]) -> b
 #[cfg(test)]
 mod tests {
     use super::*;
-    use crate::paper::Operation;
+    use crate::operation::Op;
+    use crate::operations::read_word::ReadWord;
+    use crate::operations::rewrite::Rewrite;
+    use crate::operations::ALL;
 
-    fn input(operation: Operation, parts: Vec<Vec<u8>>, room: usize) -> Input {
+    fn input(operation: Op, parts: Vec<Vec<u8>>, room: usize) -> Input {
         Input { operation, named: Field::Gf256, parts, room, fill: 0 }
     }
 
+    fn named(name: &str) -> Op {
+        ALL.into_iter().find(|operation| operation.facts().name == name).expect("it is listed")
+    }
+
     fn rewriting(word: Vec<u8>, moves: Vec<u8>) -> Input {
-        input(Operation::Rewrite, vec![word, moves], 5_100)
+        input(&Rewrite, vec![word, moves], 5_100)
     }
 
     /// Letters, moves and the output shrink to what the failure needs.
@@ -223,10 +225,10 @@ mod tests {
     /// Damaged files shrink byte by byte, fixed parts keep their length.
     #[test]
     fn bytes_and_fixed_parts() {
-        let bytes = input(Operation::ReadWord, vec![vec![9, 9, 9, 7, 9]], 0);
+        let bytes = input(&ReadWord, vec![vec![9, 9, 9, 7, 9]], 0);
         assert_eq!(smallest(bytes, &|input| input.parts[0].contains(&7)).parts, [[7]]);
         let parts = vec![vec![9; 64], vec![7, 6, 5, 4, 3, 2, 1, 0], vec![3; 8], vec![14]];
-        let pair = input(Operation::Multiply, parts, 0);
+        let pair = input(named("multiply"), parts, 0);
         let labels = vec![0, 1, 2, 3, 4, 5, 6, 7];
         let fails = |input: &Input| reference::questions::is_each_label_once(&input.parts[1]);
         let smallest = smallest(pair, &fails);
@@ -237,7 +239,7 @@ mod tests {
     /// The larger field stays where the failure needs it.
     #[test]
     fn larger_field_stays() {
-        let product = input(Operation::Product, vec![vec![200, 90]], 0);
+        let product = input(named("product"), vec![vec![200, 90]], 0);
         let fails = |input: &Input| input.named == Field::Gf256 && input.parts[0][0] >= 128;
         let smallest = smallest(product, &fails);
         assert_eq!((smallest.named, smallest.parts), (Field::Gf256, vec![vec![128, 0]]));

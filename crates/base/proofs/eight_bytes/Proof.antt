@@ -1,4 +1,4 @@
--- `base::eight_bytes` meets its contract: eight digits to base 256, taken one by one.
+-- `base::eight_bytes` meets its contract: the bytes are eight digits to base 256.
 use Prim.Native.Nat.{ℕ, zero, suc, _+_, _≤_, _<_}
 use mathlib.Core.Path.{_≡_, sym, ap, _∙_}
 use mathlib.Core.List.{List, [], _∷_}
@@ -14,7 +14,7 @@ use borrow.Author.Needs.{needs}
 use Rattle.base.proofs.eight_bytes.Statement.{statement}
 use Rattle.base.proofs.eight_bytes.Tie as tie
 
--- eight bytes from a place on
+-- eight bytes from place `at` on
 module _ (bytes : List ℕ) (at : ℕ) (h : at + 8 ≤ length bytes) where
   abbrev byte : ℕ → ℕ
   byte k = getD bytes (at + k) 0
@@ -30,10 +30,11 @@ module _ (bytes : List ℕ) (at : ℕ) (h : at + 8 ≤ length bytes) where
   one-by-one : eight ≡ part at 8 bytes
   unfolding valuesFrom
   one-by-one =
-      ap (λ (i : ℕ). getD bytes i 0 ∷ byte 1 ∷ byte 2 ∷ byte 3 ∷ byte 4 ∷ byte 5 ∷ byte 6 ∷ byte 7 ∷ []) (sym (add-zero at))
+      ap (λ (i : ℕ). getD bytes i 0 ∷ byte 1 ∷ byte 2 ∷ byte 3 ∷ byte 4 ∷ byte 5 ∷ byte 6 ∷ byte 7 ∷ [])
+      (sym (add-zero at))
       ∙ sym part-values
 
--- any eight bytes
+-- eight bytes are below 256
 eight-below : (a b c d e f g h : ℕ) → a < 256 → b < 256 → c < 256 → d < 256 → e < 256 → f < 256 → g < 256 → h < 256
     → Below 256 (a ∷ b ∷ c ∷ d ∷ e ∷ f ∷ g ∷ h ∷ [])
 eight-below a b c d e f g h la lb lc ld le lf lg lh zero = la
@@ -60,8 +61,11 @@ number-requires c κs =
     let k4 = k (at + 4) in
     let k5 = k (at + 5) in
     let k6 = k (at + 6) in
-    let k7 = k (at + 7) in
-    (eight-below _ _ _ _ _ _ _ _ (omega arith) (omega arith) (omega arith) (omega arith) (omega arith) (omega arith) (omega arith) (omega arith), omega arith)
+    let k7 = k (at + 7) in (
+      eight-below _ _ _ _ _ _ _ _ (omega arith) (omega arith) (omega arith) (omega arith) (omega arith) (omega arith)
+          (omega arith) (omega arith),
+      omega arith,
+    )
 
 returns : tie.Need-returns
 returns c =

@@ -1,4 +1,4 @@
--- `base::equal` meets its contract. The loop's invariant: the two rows agree at every place passed.
+-- `base::equal` meets its contract. The loop's invariant: the two rows agree at the places before i.
 use Prim.Native.Nat.{ℕ, _-_, _≤_, _<_}
 use mathlib.Core.Path.{_≡_, sym, ap}
 use native.Mathlib.Omega.{arith}

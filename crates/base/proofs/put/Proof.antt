@@ -1,5 +1,5 @@
--- `base::put` meets its contract. The loop's invariant: the first i bytes of the output are the input's, the others are
--- as they were.
+-- `base::put` meets its contract. The loop's invariant: the first i bytes of the output are those of the input, the
+-- others are unchanged.
 use Prim.Native.Nat.{ℕ, zero, suc, _-_, _≤_, min}
 use mathlib.Core.Path.{_≡_, refl, ap, _∙_}
 use mathlib.Core.List.{List, [], _∷_, _++_}
@@ -18,13 +18,16 @@ front zero l = rw zero-min
 front (suc m) [] = rw min-zero
 front (suc m) (x ∷ l) = rw suc-min-suc (ap (λ (t : List ℕ). x ∷ t) (front m l))
 
-whole : (from out : List ℕ) (n : ℕ) → n ≡ min (length out) (length from) → take n from ++ drop n out ≡ overlaid (take (length out) from) out
+whole : (from out : List ℕ) (n : ℕ) → n ≡ min (length out) (length from)
+    → take n from ++ drop n out ≡ overlaid (take (length out) from) out
 unfolding overlaid
 whole from out n e =
-    rw (e, length-take (length out) from) (ap (λ (t : List ℕ). t ++ drop (min (length out) (length from)) out) (front (length out) from))
+    rw (e, length-take (length out) from)
+    (ap (λ (t : List ℕ). t ++ drop (min (length out) (length from)) out) (front (length out) from))
 
 abbrev Inv-loop : tie.InvT-loop
-Inv-loop out₀ from n i₀ out i = (n ≡ min (length out₀) (length from)) × (i ≤ n) × (length out ≡ length out₀) × (out ≡ take i from ++ drop i out₀)
+Inv-loop out₀ from n i₀ out i =
+    (n ≡ min (length out₀) (length from)) × (i ≤ n) × (length out ≡ length out₀) × (out ≡ take i from ++ drop i out₀)
 
 abbrev μ-loop : tie.MeasureT-loop
 μ-loop out₀ from n i₀ out i = n - i

@@ -11,12 +11,14 @@ use borrow.Author.Needs.{needs}
 use Rattle.base.proofs.two_bytes.Statement.{statement}
 use Rattle.base.proofs.two_bytes.Tie as tie
 
--- two bytes from a place on
-value-at : (bytes : List ℕ) (at : ℕ) → at + 2 ≤ length bytes → value 256 (part at 2 bytes) ≡ getD bytes at 0 * 256 + getD bytes (at + 1) 0
+-- two bytes from place `at` on
+value-at : (bytes : List ℕ) (at : ℕ) → at + 2 ≤ length bytes
+    → value 256 (part at 2 bytes) ≡ getD bytes at 0 * 256 + getD bytes (at + 1) 0
 value-at bytes at h =
     let z : at + 0 ≡ at = omega arith in
     value-first-two 256 (drop at bytes) (omega (arith, length-drop at bytes))
-    ∙ ap₂ (λ (x y : ℕ). x * 256 + y) (getD-drop at bytes 0 0 ∙ ap (λ (i : ℕ). getD bytes i 0) z) (getD-drop at bytes 1 0)
+    ∙ ap₂ (λ (x y : ℕ). x * 256 + y) (getD-drop at bytes 0 0 ∙ ap (λ (i : ℕ). getD bytes i 0) z)
+    (getD-drop at bytes 1 0)
 
 cast-result : tie.Need-cast-result
 cast-result c = omega (arith, c .shared-slice-known .given (c .before .args .at))
@@ -42,4 +44,5 @@ returns c =
 pub two-bytes-spec : {M : Type 1} → statement M
 two-bytes-spec =
     tie.close
-    (tie.spec (λ c. search needs) cast-result mul-result (λ c. search needs) (λ c. search needs) cast-result-2 add-result-2 returns)
+    (tie.spec (λ c. search needs) cast-result mul-result (λ c. search needs) (λ c. search needs) cast-result-2
+    add-result-2 returns)

@@ -9,4 +9,6 @@ tell-text-requires : tie.Need-tell-text-requires
 tell-text-requires c κs = counts _ _ (told-within (c .word-text .ensures .0))
 
 pub crossings-file-spec : {M : Type 1} → statement M
-crossings-file-spec = tie.close (tie.spec (λ c. search needs) (λ c κs. search needs) (λ c κs. search needs) tell-text-requires (λ c. search needs))
+crossings-file-spec =
+    tie.close (tie.spec (λ c. search needs) (λ c κs. search needs) (λ c κs. search needs) tell-text-requires
+    (λ c. search needs))

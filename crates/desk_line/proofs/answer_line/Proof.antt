@@ -6,7 +6,8 @@ use Rattle.desk_line.proofs.answer_line.Statement.{statement}
 use Rattle.desk_line.proofs.answer_line.Tie as tie
 
 decimal-requires : tie.Need-decimal-requires
-decimal-requires c κs = line-fits (c .wide .result) (omega (arith, c .wide .ensures, c .before .before .fits .answer .fits))
+decimal-requires c κs =
+    line-fits (c .wide .result) (omega (arith, c .wide .ensures, c .before .before .fits .answer .fits))
 
 returns : tie.Need-returns
 returns c = answer-told (c .before .before .wide .ensures) (c .before .decimal .ensures)

@@ -9,9 +9,12 @@ returns : tie.Need-returns
 returns c =
     let s = c .before .before .before in
     let a = s .before .before .args in
-    c .verify .ensures ∙ cut-parts (a .k) (a .d) (a .input .now) (s .part .ensures) (c .before .before .part2 .ensures) (c .before .part3 .ensures)
+    c .verify .ensures
+    ∙ cut-parts (a .k) (a .d) (a .input .now) (s .part .ensures) (c .before .before .part2 .ensures)
+    (c .before .part3 .ensures)
 
 pub cut-spec : {M : Type 1} → statement M
 cut-spec =
     tie.close
-    (tie.spec (λ c κs. search needs) (λ c κs. search needs) (λ c. search needs) (λ c κs. search needs) (λ c κs. search needs) returns)
+    (tie.spec (λ c κs. search needs) (λ c κs. search needs) (λ c. search needs) (λ c κs. search needs)
+    (λ c κs. search needs) returns)

@@ -14,19 +14,23 @@ module _ (c : tie.After-all-read) where
   abbrev start : tie.Start
   start = c .before .before .before .before .before .before .before
 
-  enough : EnoughOfFiles (length (start .args .key .now)) (length (start .args .digest .now)) (length (start .args .word .now))
+  enough : EnoughOfFiles (length (start .args .key .now)) (length (start .args .digest .now))
+      (length (start .args .word .now))
   enough =
       let w = c .before .before in
       let d = w .before .before in
       let k = d .before .before in
-      enough-of-files (length (start .args .key .now)) (length (start .args .digest .now)) (length (start .args .word .now))
-      (omega (arith, k .part-arg .given .0)) (omega (arith, d .part-arg2 .given .0)) (omega (arith, w .part-arg3 .given .0))
+      enough-of-files (length (start .args .key .now)) (length (start .args .digest .now))
+      (length (start .args .word .now))
+      (omega (arith, k .part-arg .given .0)) (omega (arith, d .part-arg2 .given .0))
+      (omega (arith, w .part-arg3 .given .0))
 
 returns : tie.Need-returns
 returns c =
     let r = c .before .before in
     let a = start r .args in (
-      files-not-read (a .k) (a .d) (a .w) (a .key .now) (a .digest .now) (a .word .now) (r .all-read .ensures) (not-true _ (c .before .if1 .taken))
+      files-not-read (a .k) (a .d) (a .w) (a .key .now) (a .digest .now) (a .word .now) (r .all-read .ensures)
+          (not-true _ (c .before .if1 .taken))
           (c .none .ensures .0) (c .none .ensures .1),
       enough r,
     )
@@ -37,8 +41,10 @@ returns-2 c =
     let w = r .before .before in
     let d = w .before .before in
     let a = start r .args in (
-      files-read (a .k) (a .d) (a .w) (a .key .now) (a .digest .now) (a .word .now) (r .all-read .ensures) (not-false _ (c .before .before .if1 .left))
-          (d .before .part .ensures) (w .before .part2 .ensures) (r .before .part3 .ensures) (c .before .verify .ensures) (c .answer-line .ensures),
+      files-read (a .k) (a .d) (a .w) (a .key .now) (a .digest .now) (a .word .now) (r .all-read .ensures)
+          (not-false _ (c .before .before .if1 .left))
+          (d .before .part .ensures) (w .before .part2 .ensures) (r .before .part3 .ensures)
+          (c .before .verify .ensures) (c .answer-line .ensures),
       enough r,
     )
 

@@ -16,19 +16,24 @@ enough c = enough-of-input (length (c .before .before .args .input .now)) (omega
 returns : tie.Need-returns
 returns c =
     let p = c .before .before .before in
-    let a = p .before .before .args in
-    (input-not-read (a .got) (a .input .now) (not-true _ (c .before .if1 .taken)) (c .none .ensures .0) (c .none .ensures .1), enough p)
+    let a = p .before .before .args in (
+      input-not-read (a .got) (a .input .now) (not-true _ (c .before .if1 .taken)) (c .none .ensures .0)
+          (c .none .ensures .1),
+      enough p,
+    )
 
 returns-2 : tie.Need-returns-2
 returns-2 c =
     let j = c .before in
     let p = j .before .before .before in
     let a = p .before .before .args in (
-      input-read (a .got) (a .input .now) (not-false _ (j .before .if1 .left)) (p .part .ensures) (j .judged .ensures) (c .answer-line .ensures),
+      input-read (a .got) (a .input .now) (not-false _ (j .before .if1 .left)) (p .part .ensures) (j .judged .ensures)
+          (c .answer-line .ensures),
       enough p,
     )
 
 pub input-line-spec : {M : Type 1} → statement M
 input-line-spec =
     tie.close
-    (tie.spec (λ c κs. search needs) (λ c κs. search needs) returns (λ c κs. search needs) (λ c κs. search needs) returns-2)
+    (tie.spec (λ c κs. search needs) (λ c κs. search needs) returns (λ c κs. search needs)
+    (λ c κs. search needs) returns-2)

@@ -8,7 +8,9 @@ use Rattle.desk_line.proofs.says_256.Statement.{statement}
 use Rattle.desk_line.proofs.says_256.Tie as tie
 
 returns : tie.Need-returns
-returns c = sym (short-names (c .before .before .args .input .now) (c .if1 .taken) (λ k. c .before .shared-slice-known .given k .fits))
+returns c =
+    sym (short-names (c .before .before .args .input .now) (c .if1 .taken)
+    (λ k. c .before .shared-slice-known .given k .fits))
 
 returns-2 : tie.Need-returns-2
 returns-2 c = ap (λ (n : ℕ). eqb n 256) (c .two-bytes .ensures .0)

@@ -17,15 +17,18 @@ enough : (c : tie.After-part) → EnoughToReduce (length (c .before .before .arg
 enough c = enough-to-reduce (length (c .before .before .args .word .now)) (omega (arith, c .before .part-arg .given .0))
 
 returns : tie.Need-returns
-returns c = (unread _ _ (not-true _ (c .before .if1 .taken)) (bare-of (c .unread .ensures)), enough (c .before .before .before))
+returns c =
+    (unread _ _ (not-true _ (c .before .if1 .taken)) (bare-of (c .unread .ensures)), enough (c .before .before .before))
 
 returns-2 : tie.Need-returns-2
 returns-2 c =
     let p = c .before .before .before in (
-      subst₂ (λ (b : Bool) (l : List ℕ). Reduces b l (c .reduced .result)) (sym (not-false _ (c .before .if1 .left))) (p .part .ensures)
+      subst₂ (λ (b : Bool) (l : List ℕ). Reduces b l (c .reduced .result)) (sym (not-false _ (c .before .if1 .left)))
+          (p .part .ensures)
           (c .reduced .ensures),
       enough p,
     )
 
 pub reduce-spec : {M : Type 1} → statement M
-reduce-spec = tie.close (tie.spec (λ c κs. search needs) (λ c κs. search needs) returns (λ c κs. search needs) returns-2)
+reduce-spec =
+    tie.close (tie.spec (λ c κs. search needs) (λ c κs. search needs) returns (λ c κs. search needs) returns-2)

@@ -2,7 +2,7 @@
 use mathlib.Core.Path.{refl}
 use borrow.Author.Needs.{needs}
 use Rattle.base.proofs.QuestionLaws.{passes}
-use Rattle.braid.specs.Words.{wordAnswer}
+use Rattle.word.specs.Words.{wordAnswer}
 use Rattle.desk_words.proofs.MakingLaws.{wrote-makes}
 use Rattle.desk_words.proofs.reduced.Statement.{statement}
 use Rattle.desk_words.proofs.reduced.Tie as tie

@@ -24,14 +24,17 @@ module _ (c : tie.After-both) where
 
 returns : tie.Need-returns
 returns c =
-    let r = c .before .before in
-    (rewrites-unread (sym (r .both .ensures) ∙ not-true _ (c .before .if1 .taken)) (bare-of (c .unread .ensures)), enough r)
+    let r = c .before .before in (
+      rewrites-unread (sym (r .both .ensures) ∙ not-true _ (c .before .if1 .taken)) (bare-of (c .unread .ensures)),
+      enough r,
+    )
 
 returns-2 : tie.Need-returns-2
 returns-2 c =
     let r = c .before .before in
     let m = r .before in (
-      rewrites-as (sym (r .both .ensures) ∙ not-false _ (c .before .if1 .left)) (m .before .before .part .ensures) (m .part2 .ensures) (c .rewritten .ensures),
+      rewrites-as (sym (r .both .ensures) ∙ not-false _ (c .before .if1 .left)) (m .before .before .part .ensures)
+          (m .part2 .ensures) (c .rewritten .ensures),
       enough r,
     )
 

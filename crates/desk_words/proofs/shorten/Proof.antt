@@ -16,27 +16,34 @@ module _ (c : tie.After-all-read) where
   abbrev start : tie.Start
   start = c .before .before .before .before .before .before .before
 
-  enough : EnoughToShorten (length (start .args .key .now)) (length (start .args .digest .now)) (length (start .args .word .now))
+  enough : EnoughToShorten (length (start .args .key .now)) (length (start .args .digest .now))
+      (length (start .args .word .now))
   enough =
       let w = c .before .before in
       let d = w .before .before in
       let k = d .before .before in
-      enough-to-shorten (length (start .args .key .now)) (length (start .args .digest .now)) (length (start .args .word .now))
-      (enough-of-files (length (start .args .key .now)) (length (start .args .digest .now)) (length (start .args .word .now))
-      (omega (arith, k .part-arg .given .0)) (omega (arith, d .part-arg2 .given .0)) (omega (arith, w .part-arg3 .given .0)))
+      enough-to-shorten (length (start .args .key .now)) (length (start .args .digest .now))
+      (length (start .args .word .now))
+      (enough-of-files (length (start .args .key .now)) (length (start .args .digest .now))
+      (length (start .args .word .now))
+      (omega (arith, k .part-arg .given .0)) (omega (arith, d .part-arg2 .given .0))
+      (omega (arith, w .part-arg3 .given .0)))
       (omega (arith, w .part-arg3 .given .0))
 
 returns : tie.Need-returns
 returns c =
-    let r = c .before .before in
-    (shortens-unread (sym (r .all-read .ensures) ∙ not-true _ (c .before .if1 .taken)) (bare-of (c .unread .ensures)), enough r)
+    let r = c .before .before in (
+      shortens-unread (sym (r .all-read .ensures) ∙ not-true _ (c .before .if1 .taken)) (bare-of (c .unread .ensures)),
+      enough r,
+    )
 
 returns-2 : tie.Need-returns-2
 returns-2 c =
     let r = c .before .before in
     let w = r .before .before in
     let d = w .before .before in (
-      shortens-as (sym (r .all-read .ensures) ∙ not-false _ (c .before .if1 .left)) (d .before .part .ensures) (w .before .part2 .ensures)
+      shortens-as (sym (r .all-read .ensures) ∙ not-false _ (c .before .if1 .left)) (d .before .part .ensures)
+          (w .before .part2 .ensures)
           (r .before .part3 .ensures) (c .shortened .ensures),
       enough r,
     )

@@ -7,7 +7,7 @@ use mathlib.Core.List.{List}
 use borrow.Author.Needs.{needs}
 use lib.ListN.{take}
 use lib.Seq.{length-take-le}
-use Rattle.verify.specs.Verdict.{verdict}
+use Rattle.slip_verdict.specs.Verdict.{verdict}
 use Rattle.desk_words.specs.Making.{MakesNew, shortFile}
 use Rattle.desk_words.proofs.MakingLaws.{bare-of, refused, makes-as, made-file, bytes-within}
 use Rattle.desk_words.proofs.Shortening.{opened-word, short-opens}

@@ -1,4 +1,4 @@
--- `examples::cases` is safe and ends: a line starts at most one past the end.
+-- `examples::cases` is safe and ends: a line starts at most one place past the end.
 use Prim.Native.Nat.{_≤_, _+_, _-_}
 use lib.ListN.{length}
 use borrow.Author.Needs.{needs}

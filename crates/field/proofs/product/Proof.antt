@@ -1,4 +1,4 @@
--- `field::product` meets its contract: the product of the field that the match finds.
+-- `field::product` meets its contract: it multiplies in the field that the match finds.
 use borrow.Author.Needs.{needs}
 use Rattle.field.proofs.product.Statement.{statement}
 use Rattle.field.proofs.product.Tie as tie

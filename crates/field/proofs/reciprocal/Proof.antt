@@ -1,4 +1,4 @@
--- `field::reciprocal` meets its contract: by the table of the field that the match finds.
+-- `field::reciprocal` meets its contract: it uses the table of the field that the match finds.
 use borrow.Author.Needs.{needs}
 use Rattle.field.proofs.reciprocal.Statement.{statement}
 use Rattle.field.proofs.reciprocal.Tie as tie

@@ -1,5 +1,5 @@
--- `field::reciprocal_by` meets its contract: the two questions, the first by the table's length, and then the
--- reciprocal.
+-- `field::reciprocal_by` meets its contract: it asks question 17 by the table's length, then question 4, and then gives
+-- the reciprocal.
 use Prim.Native.Nat.{ℕ, _<_, _≤_, _^_}
 use mathlib.Core.Path.{_≡_, ap, _∙_}
 use mathlib.Core.Bool.{true, false, not}
@@ -12,7 +12,7 @@ use Rattle.base.specs.Questions.{_else_}
 use Rattle.base.proofs.QuestionLaws.{passes, fails, passed-answers}
 use Rattle.field.specs.Fields.{bits, modulus}
 use Rattle.field.specs.Elements.{isElement, reciprocalQuestions}
-use Rattle.field.specs.Reciprocals.{reciprocals}
+use Rattle.field.specs.steps.Reciprocals.{reciprocals}
 use Rattle.field.specs.declared.Field.{Field}
 use Rattle.field.proofs.Fields.{degree}
 use Rattle.field.proofs.GivesLaws.{given, refused}
@@ -20,7 +20,7 @@ use Rattle.field.proofs.TableLaws.{inverse-at, reciprocals-size, recipr
 use Rattle.field.proofs.reciprocal_by.Statement.{statement}
 use Rattle.field.proofs.reciprocal_by.Tie as tie
 
--- a number is an element where it is not past the table's end
+-- a number is an element exactly if it is at most the table's length
 past : (f : Field) (table : List ℕ) (a : ℕ) → table ≡ reciprocals (bits f) (modulus f) → length table < a
     → isElement f a ≡ false
 past f table a e h = let size = reciprocals-size (bits f) (modulus f) table e in le-ltb a (2 ^ bits f) (omega arith)

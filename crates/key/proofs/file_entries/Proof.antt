@@ -11,7 +11,8 @@ use Rattle.key.proofs.file_entries.Statement.{statement}
 use Rattle.key.proofs.file_entries.Tie as tie
 
 abbrev Inv-loop : tie.InvT-loop
-Inv-loop matrix entries₀ k₀ entries k = (k ≤ 56) × (length entries ≡ 57) × ((j : ℕ) → j < k → getD entries j 0 ≡ fileEntry matrix j)
+Inv-loop matrix entries₀ k₀ entries k =
+    (k ≤ 56) × (length entries ≡ 57) × ((j : ℕ) → j < k → getD entries j 0 ≡ fileEntry matrix j)
 
 abbrev μ-loop : tie.MeasureT-loop
 μ-loop matrix entries₀ k₀ entries k = 56 - k
@@ -27,7 +28,8 @@ loop-again c =
     let column : l .k % 8 % 8 ≡ l .k % 8 = omega arith in (
       omega arith,
       length-set (l .entries) (l .k) _ ∙ l .inv .1,
-      one-more (fileEntry m) (l .entries) (l .k) _ (omega arith) (l .inv .2) (c .entry .ensures ∙ ap₂ (entry m) row column),
+      one-more (fileEntry m) (l .entries) (l .k) _ (omega arith) (l .inv .2)
+          (c .entry .ensures ∙ ap₂ (entry m) row column),
     )
 
 returns : tie.Need-returns Inv-loop μ-loop

@@ -1,5 +1,5 @@
--- `key::whole_matrix` meets its contract. The loop's invariant: the first k entries are in their places, and zeros
--- after them.
+-- `key::whole_matrix` meets its contract. The loop's invariant: the first k entries are in their places, and all other
+-- entries are zero.
 use Prim.Native.Nat.{ℕ, _-_, _≤_}
 use mathlib.Core.Path.{_≡_, subst}
 use native.Mathlib.Omega.{arith}

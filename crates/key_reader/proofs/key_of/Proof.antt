@@ -1,8 +1,8 @@
--- `key_reader::key_of` meets its contract: each part is read.
+-- `key_reader::key_of` meets its contract: it reads each part.
 use Prim.Native.Nat.{ℕ}
 use mathlib.Core.Path.{ap, ap₂, _∙_}
 use mathlib.Core.List.{List}
-use Rattle.action.specs.Action.{pairOf}
+use Rattle.pair.specs.Action.{pairOf}
 use Rattle.key.specs.Keys.{entries, wholeMatrix}
 use Rattle.key.proofs.FileLaws.{part-taken}
 use borrow.Author.Needs.{needs}
@@ -20,7 +20,8 @@ returns c =
     let b = s .args .bits in
     let file = s .args .file .now in
     let whole : List ℕ → List ℕ = λ xs. wholeMatrix (entries b xs) in
-    let first = m .matrix .ensures ∙ ap whole (part-taken b 3 file (e .first-place .ensures) (l .list-place .ensures)) in
+    let first =
+    m .matrix .ensures ∙ ap whole (part-taken b 3 file (e .first-place .ensures) (l .labels-place .ensures)) in
     let second = c .matrix2 .ensures ∙ ap whole (part-taken b 5 file (p .second-place .ensures) (s .pre .1)) in
     λ j. record {
       field = s .args .f;

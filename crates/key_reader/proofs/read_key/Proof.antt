@@ -1,4 +1,4 @@
--- `key_reader::read_key` meets its contract: over the field that goes with the length, or refused.
+-- `key_reader::read_key` meets its contract: it reads over the field that goes with the length, or refuses the file.
 use mathlib.Core.Path.{_≡_, sym, ap₂}
 use mathlib.Core.Bool.{Bool, _||_}
 use mathlib.Core.List.{List}
@@ -21,20 +21,24 @@ read-over-requires c κs =
 
 read-over-requires-2 : tie.Need-read-over-requires-2
 read-over-requires-2 c κs =
-    let file = c .before .before .before .args .file .now in (sym (field-of-length Gf256 file (c .if2 .taken)), c .if2 .taken)
+    let file = c .before .before .before .args .file .now in
+    (sym (field-of-length Gf256 file (c .if2 .taken)), c .if2 .taken)
 
--- neither length
+-- a file of neither length is refused with 1
 refused : (file : List ℕ) → (length file ≡ 83 → ⊥) → (length file ≡ 128 → ⊥) → keyAnswer file ≡ 1
 unfolding keyAnswer
 refused file p q =
-    fails 1 (drop 1 (keyQuestions file)) (ap₂ (λ (s t : Bool). s || t) (ne-eqb (length file) 83 p) (ne-eqb (length file) 128 q))
+    fails 1 (drop 1 (keyQuestions file))
+    (ap₂ (λ (s t : Bool). s || t) (ne-eqb (length file) 83 p) (ne-eqb (length file) 128 q))
 
 returns-3 : tie.Need-returns-3
 returns-3 c =
     let file = c .before .before .before .before .args .file .now in
-    reads-refused file 1 (refused file (c .before .before .if1 .left) (c .before .if2 .left)) (λ z. omega arith) (c .refused .ensures)
+    reads-refused file 1 (refused file (c .before .before .if1 .left) (c .before .if2 .left)) (λ z. omega arith)
+    (c .refused .ensures)
 
 pub read-key-spec : {M : Type 1} → statement M
 read-key-spec =
     tie.close
-    (tie.spec read-over-requires (λ c. search needs) read-over-requires-2 (λ c. search needs) (λ c κs. search needs) returns-3)
+    (tie.spec read-over-requires (λ c. search needs) read-over-requires-2 (λ c. search needs)
+    (λ c κs. search needs) returns-3)

@@ -1,4 +1,4 @@
--- `letters::lines` is safe and ends: the place grows up to one past the most letters.
+-- `letters::lines` is safe and ends: the place grows, at most to one more than the most letters.
 use Prim.Native.Nat.{_≤_, _-_}
 use borrow.Author.Needs.{needs}
 use Rattle.letters.proofs.lines.Statement.{statement}

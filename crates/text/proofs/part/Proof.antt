@@ -7,12 +7,14 @@ use Rattle.text.proofs.part.Tie as tie
 slice-aggregate-result : tie.Need-slice-aggregate-result
 slice-aggregate-result c =
     let s = c .before .before .before .before .before in
-    cut-length (s .args .at) (s .args .most) _ _ (s .args .bytes .now) (c .before .before .before .least .ensures) (c .before .least2 .ensures)
+    cut-length (s .args .at) (s .args .most) _ _ (s .args .bytes .now) (c .before .before .before .least .ensures)
+    (c .before .least2 .ensures)
 
 returns : tie.Need-returns
 returns c =
     let s = c .before .before .before .before .before in
-    cut (s .args .at) (s .args .most) _ _ (s .args .bytes .now) (c .before .before .before .least .ensures) (c .before .least2 .ensures)
+    cut (s .args .at) (s .args .most) _ _ (s .args .bytes .now) (c .before .before .before .least .ensures)
+    (c .before .least2 .ensures)
 
 pub part-spec : {M : Type 1} → statement M
 part-spec =

@@ -1,4 +1,4 @@
--- `walnut::walnut_product` meets its contract: it is that of the product over the field that is named.
+-- `walnut::walnut_product` meets its contract: that of the product over the named field.
 use mathlib.Core.Path.{sym}
 use borrow.Author.Needs.{needs}
 use Rattle.walnut.proofs.walnut_product.Statement.{statement}

@@ -1,4 +1,4 @@
--- `walnut::walnut_reciprocal` meets its contract: it is that of the reciprocal over the field that is named.
+-- `walnut::walnut_reciprocal` meets its contract: that of the reciprocal over the named field.
 use mathlib.Core.Path.{sym}
 use borrow.Author.Needs.{needs}
 use Rattle.walnut.proofs.walnut_reciprocal.Statement.{statement}

@@ -1,4 +1,4 @@
--- `walnut::walnut_verify` meets its contract: it is that of the verdict.
+-- `walnut::walnut_verify` meets its contract: that of the verdict.
 use borrow.Author.Needs.{needs}
 use Rattle.walnut.proofs.walnut_verify.Statement.{statement}
 use Rattle.walnut.proofs.walnut_verify.Tie as tie

@@ -1,4 +1,4 @@
--- `walnut::walnut_write_key` meets its contract: it is that of the key writer over the field that is named.
+-- `walnut::walnut_write_key` meets its contract: that of the key writer over the named field.
 use mathlib.Core.Path.{sym}
 use borrow.Author.Needs.{needs}
 use Rattle.walnut.proofs.walnut_write_key.Statement.{statement}

@@ -1,12 +1,11 @@
-//! Files and fixed arrays with chosen faults. Faults of other parts are passed over, so that one list of
-//! faults serves all parts of an input.
+//! Files and fixed arrays with chosen faults, as far as several operations take them. Faults of other parts are passed
+//! over, so that one list of faults serves all parts of an input.
 
 use reference::bits;
 use reference::key::layout;
-use reference::pair::Labels;
 use reference::testkit::Random;
 use reference::word::{word_file, MOST_LETTERS};
-use reference::{file_entries, read_key, Field, Matrix};
+use reference::{file_entries, Field, Matrix};
 
 /// Where N and q stand in a key file, in bits.
 const N: usize = 0;
@@ -16,19 +15,19 @@ const Q: usize = 8;
 const SINGULAR: [&[usize]; 3] = [&[0], &[1], &[0, 1]];
 
 /// A number that is no element of the smaller field.
-fn too_high(random: &mut Random) -> u8 {
+pub fn too_high(random: &mut Random) -> u8 {
     let any = random.within(32, 255) as u8;
     random.pick(&[32, 33, 64, 255, any])
 }
 
 /// A byte that is no letter's code.
-fn bad_code(random: &mut Random) -> u8 {
+pub fn bad_code(random: &mut Random) -> u8 {
     let any = random.within(16, 255) as u8;
     random.pick(&[7, 15, 16, any])
 }
 
 /// A place and another one among the eight.
-fn two_places(random: &mut Random) -> (usize, usize) {
+pub fn two_places(random: &mut Random) -> (usize, usize) {
     let places = random.shuffled([0, 1, 2, 3, 4, 5, 6, 7]);
     (places[0], places[1])
 }
@@ -50,27 +49,8 @@ pub fn change_length(random: &mut Random, file: &mut Vec<u8>, keep: usize) {
     }
 }
 
-/// Two factors. Fault: 17.
-pub fn elements(random: &mut Random, field: Field, faults: &[u8]) -> Vec<u8> {
-    let mut elements = random.elements::<2>(field);
-    if faults.contains(&17) {
-        elements[random.below(2)] = too_high(random);
-    }
-    elements.to_vec()
-}
-
-/// What the reciprocal takes. Faults: 17 or 4, not both.
-pub fn element(random: &mut Random, field: Field, faults: &[u8]) -> Option<Vec<u8>> {
-    match (faults.contains(&17), faults.contains(&4)) {
-        (true, true) => None,
-        (true, false) => Some(vec![too_high(random)]),
-        (false, true) => Some(vec![0]),
-        (false, false) => Some(vec![random.element_from(field, 1)]),
-    }
-}
-
 /// A list as the multiplier and the key writer take it. Fault: 6.
-fn list(random: &mut Random, faults: &[u8]) -> Vec<u8> {
+pub fn list(random: &mut Random, faults: &[u8]) -> Vec<u8> {
     let mut labels = random.labels();
     if faults.contains(&6) {
         let (from, to) = two_places(random);
@@ -80,7 +60,7 @@ fn list(random: &mut Random, faults: &[u8]) -> Vec<u8> {
 }
 
 /// Puts a zero at place 2 or 3 of the T-values, a number too high at one of the last four.
-fn spoil_t_values(random: &mut Random, t_values: &mut [u8; 8], zero: bool, high: bool) {
+pub fn spoil_t_values(random: &mut Random, t_values: &mut [u8; 8], zero: bool, high: bool) {
     if zero {
         t_values[random.within(2, 3)] = 0;
     }
@@ -89,33 +69,8 @@ fn spoil_t_values(random: &mut Random, t_values: &mut [u8; 8], zero: bool, high:
     }
 }
 
-/// Two labels. Fault: 27, by a label over 7 or by one twice.
-pub fn two_labels(random: &mut Random, faults: &[u8]) -> Vec<u8> {
-    let (first, second) = two_places(random);
-    let mut labels = [first as u8, second as u8];
-    if faults.contains(&27) {
-        let place = random.below(2);
-        let any = random.within(8, 255) as u8;
-        labels[place] = random.pick(&[labels[1 - place], 8, any]);
-    }
-    labels.to_vec()
-}
-
-/// Matrix, labels, T-values and letter. Faults: 17, 4, 6, 12.
-pub fn multiplier_parts(random: &mut Random, field: Field, faults: &[u8]) -> Vec<Vec<u8>> {
-    let mut matrix = random.elements::<64>(field);
-    let (high, in_matrix) = (faults.contains(&17), random.one_in(2));
-    if high && in_matrix {
-        matrix[random.below(64)] = too_high(random);
-    }
-    let mut t_values = random.t_values(field);
-    spoil_t_values(random, &mut t_values, faults.contains(&4), high && !in_matrix);
-    let letter = if faults.contains(&12) { bad_code(random) } else { random.letter() };
-    vec![matrix.to_vec(), list(random, faults), t_values.to_vec(), vec![letter]]
-}
-
 /// The matrices of a key, of which both have an inverse. Fault: 26.
-fn matrices(random: &mut Random, field: Field, faults: &[u8]) -> [Matrix; 2] {
+pub fn matrices(random: &mut Random, field: Field, faults: &[u8]) -> [Matrix; 2] {
     let mut matrices = [0; 2].map(|_| random.invertible_key_matrix(field));
     if faults.contains(&26) {
         for place in random.pick(&SINGULAR) {
@@ -123,23 +78,6 @@ fn matrices(random: &mut Random, field: Field, faults: &[u8]) -> [Matrix; 2] {
         }
     }
     matrices
-}
-
-/// T-values, labels and the entries of both matrices. Faults: 17, 4, 5, 6, 26.
-pub fn key_parts(random: &mut Random, field: Field, faults: &[u8]) -> Vec<Vec<u8>> {
-    let mut matrices = matrices(random, field, faults).map(|matrix| file_entries(&matrix));
-    let (high, in_matrix) = (faults.contains(&17), random.one_in(2));
-    if high && in_matrix {
-        let place = random.pick(&[0, 55, 56]);
-        matrices[random.below(2)][place] = too_high(random);
-    }
-    let mut t_values = random.key_t_values(field);
-    spoil_t_values(random, &mut t_values, faults.contains(&4), high && !in_matrix);
-    if faults.contains(&5) {
-        t_values[random.below(2)] = random.element_from(field, 2);
-    }
-    let [first, second] = matrices.map(|entries| entries.to_vec());
-    vec![t_values.to_vec(), list(random, faults), first, second]
 }
 
 /// A key file with another matrix, with an inverse or without one, in its first place or its second, counted from 0.
@@ -235,19 +173,6 @@ fn spoil_key(random: &mut Random, bits: &mut [bool], field: Field, fault: u8) {
     }
 }
 
-/// Turns one bit of the second matrix of a key file without faults round, such that it keeps an inverse.
-pub fn flip_second_matrix(random: &mut Random, field: Field, file: &mut [u8]) {
-    let second = &layout(field).second;
-    loop {
-        let bit = random.within(second.start, second.end - 1);
-        file[bit / 8] ^= 0x80 >> (bit % 8);
-        if read_key(file).answer == 0 {
-            return;
-        }
-        file[bit / 8] ^= 0x80 >> (bit % 8);
-    }
-}
-
 /// A digest that goes with a key. Fault: 8, by few bytes or by the length of the other field's digests.
 pub fn digest(random: &mut Random, field: Field, digest: &[u8], faults: &[u8]) -> Vec<u8> {
     let mut file = digest.to_vec();
@@ -257,44 +182,6 @@ pub fn digest(random: &mut Random, field: Field, digest: &[u8], faults: &[u8]) -
         false => {}
     }
     file
-}
-
-/// A digest for the encoder alone. Fault: 8, a length that no digest has.
-pub fn digest_alone(random: &mut Random, digest: &[u8], faults: &[u8]) -> Vec<u8> {
-    let mut file = digest.to_vec();
-    if faults.contains(&8) {
-        change_length(random, &mut file, 0);
-    }
-    file
-}
-
-/// A list as cloaking takes it. Fault: 25.
-pub fn labels(random: &mut Random, labels: &Labels, faults: &[u8]) -> Vec<u8> {
-    let mut file = labels.to_vec();
-    if !faults.contains(&25) {
-        return file;
-    }
-    let (from, to) = two_places(random);
-    match random.below(3) {
-        0 => change_length(random, &mut file, 0),
-        1 => file[to] = file[from],
-        _ => file[to] = random.within(8, 255) as u8,
-    }
-    file
-}
-
-/// Codes, one to a byte. Faults: 10, 12.
-pub fn codes(random: &mut Random, mut codes: Vec<u8>, faults: &[u8]) -> Vec<u8> {
-    if faults.contains(&10) {
-        let letters = random.pick(&[10_001, 10_002, 20_000]);
-        codes.resize(letters, random.letter());
-    }
-    if faults.contains(&12) {
-        codes.resize(codes.len().max(1), 0);
-        let place = random.below(codes.len() as u64);
-        codes[place] = bad_code(random);
-    }
-    codes
 }
 
 /// The letters of a word that is to have these faults: one that is no letter for 12, an odd number for 13, too

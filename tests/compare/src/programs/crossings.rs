@@ -1,8 +1,8 @@
-//! The programs `crossings`, of a word on standard input, and `crossings_file`, of a word in a file: what they write is
-//! the line of each two labels with the number that the reference finds, or the line of the reference's answer.
+//! The program `crossings`, of a word on standard input and of a word in a file: what it writes is the line of each two
+//! labels with the number that the reference finds, or the line of the reference's answer.
 
 use std::ffi::OsStr;
-use std::path::{Path, PathBuf};
+use std::path::Path;
 
 use reference::crossing::windings;
 use reference::word::{letters, word_answer, word_file};
@@ -25,25 +25,22 @@ fn expected(input: &[u8]) -> String {
     }
 }
 
-/// The two programs.
-struct Programs {
-    input: PathBuf,
-    file: PathBuf,
-}
-
-/// Runs both programs on a word file, which comes in pieces; to the second one its standard input is a file by name.
-fn compare(programs: &Programs, counts: &mut Counts, pieces: &[&[u8]]) -> Checked {
+/// Runs the program on a word file, which comes in pieces: without arguments, and then with its standard input as a
+/// file by name.
+fn compare(program: &Path, counts: &mut Counts, pieces: &[&[u8]]) -> Checked {
     let file = pieces.concat();
     let expected = expected(&file);
     let named: [&OsStr; 1] = ["/dev/stdin".as_ref()];
-    for (program, arguments) in [(&programs.input, &named[..0]), (&programs.file, &named[..])] {
+    for arguments in [&named[..0], &named[..]] {
         let output = ran(program, arguments, pieces)?;
         let found = String::from_utf8_lossy(&output.stdout);
         if found != expected || !output.stderr.is_empty() {
             let lines = found.lines().map(Some).chain([None]).zip(expected.lines().map(Some).chain([None]));
             let line = lines.into_iter().find(|(found, expected)| found != expected);
             let (name, hex) = (program.display(), show::hex(&file));
-            return Err(format!("{name}, on {hex}: line written and line expected: {line:?}\n"));
+            return Err(format!(
+                "{name} {arguments:?}, on {hex}: line written and line expected: {line:?}\n"
+            ));
         }
     }
     counts.count(word_answer(&file));
@@ -51,10 +48,10 @@ fn compare(programs: &Programs, counts: &mut Counts, pieces: &[&[u8]]) -> Checke
 }
 
 /// Words of one letter repeated, so that a number has each number of digits, with either sign.
-fn repeated(programs: &Programs, counts: &mut Counts) -> Checked {
+fn repeated(program: &Path, counts: &mut Counts) -> Checked {
     for code in [0, 6, 8, 14] {
         for letters in [9, 10, 99, 100, 999, 1_000, 9_999, 10_000] {
-            compare(programs, counts, &[&word_file(&vec![code; letters])])?;
+            compare(program, counts, &[&word_file(&vec![code; letters])])?;
         }
     }
     Ok(())
@@ -63,19 +60,19 @@ fn repeated(programs: &Programs, counts: &mut Counts) -> Checked {
 /// Words of each length up to 40, of some hundred letters and as long as can be, longer inputs, refused ones, with
 /// faults in pairs, and damaged ones.
 pub fn check(folder: &Path, maker: &mut Maker) -> Checked<String> {
-    let programs = &Programs { input: folder.join("crossings"), file: folder.join("crossings_file") };
+    let program = &folder.join("crossings");
     let counts = &mut Counts::default();
-    repeated(programs, counts)?;
+    repeated(program, counts)?;
     for letters in (0..=40).chain([255, 256, 9_999, 10_000]) {
         let file = word_file(&maker.random.word(letters));
-        compare(programs, counts, &[&file])?;
-        compare(programs, counts, &[&file[..1], &file[1..]])?;
+        compare(program, counts, &[&file])?;
+        compare(program, counts, &[&file[..1], &file[1..]])?;
         for more in [1, 2, 70_000] {
-            compare(programs, counts, &[&file, &vec![0; more]])?;
+            compare(program, counts, &[&file, &vec![0; more]])?;
         }
     }
     for file in odd_words(maker) {
-        compare(programs, counts, &[&file])?;
+        compare(program, counts, &[&file])?;
     }
     counts.summary("crossings", &[0, 9, 10, 11, 12, 13])
 }

@@ -1,5 +1,4 @@
-//! The desk program in both forms, on standard input and on three files: the line that it writes has the reference's
-//! answer.
+//! The program `desk`, on standard input and on three files: the line that it writes has the reference's answer.
 
 use std::ffi::OsStr;
 use std::fs;
@@ -12,9 +11,10 @@ use reference::word::word_file;
 use reference::{desk, verify, Field};
 
 use crate::case::field_of_key;
-use crate::fixed::{hex, larger, slips};
+use crate::fixed::{keys, sevens};
 use crate::make::{files, Maker, Size};
-use crate::paper::Operation;
+use crate::operation::Operation;
+use crate::operations::verify::Verify;
 use crate::programs::{ran, Checked, Counts};
 use crate::show;
 
@@ -55,7 +55,7 @@ impl BySize {
     /// A line for each field; an account if one of the answers that a verdict can have there was not reached.
     fn summaries(&self, name: &str) -> Checked<Vec<String>> {
         let summary = |(field, counts): (Field, &Counts)| {
-            let answers = [vec![0], Operation::Verify.questions_over(field)].concat();
+            let answers = [vec![0], Verify.facts().questions_over(field)].concat();
             counts.summary(&format!("{name} ({})", field.size()), &answers)
         };
         Field::BOTH.into_iter().zip(&self.0).map(summary).collect()
@@ -94,14 +94,14 @@ impl Desk<'_> {
         }
         let answer = verify(parts[0], parts[1], parts[2]);
         let output = self.on_paths(&paths)?;
-        held("desk_files", &parts, &output, answer)?;
+        held("desk on three files", &parts, &output, answer)?;
         self.by_files.count(field_of_key(parts[0]), answer);
         Ok(())
     }
 
     fn on_paths(&self, paths: &[PathBuf]) -> Checked<Output> {
         let arguments: Vec<&OsStr> = paths.iter().map(|path| path.as_os_str()).collect();
-        ran(&self.programs.join("desk_files"), &arguments, &[])
+        ran(&self.programs.join("desk"), &arguments, &[])
     }
 
     /// The slip in both forms.
@@ -116,13 +116,15 @@ impl Desk<'_> {
         let output = self.on_paths(paths)?;
         if !output.stdout.is_empty() || output.stderr.is_empty() {
             let found = String::from_utf8_lossy(&output.stdout);
-            return Err(format!("desk_files: wrote {found:?} although a file of {paths:?} cannot be read\n"));
+            return Err(format!(
+                "desk on three files: wrote {found:?} although a file of {paths:?} cannot be read\n"
+            ));
         }
         self.without_answer += 1;
         Ok(())
     }
 
-    /// Each of the three files left out, given no name, or a folder.
+    /// Each of the three files left out, or a folder; and other numbers of names.
     fn missing(&mut self) -> Checked {
         let there = ["the key", "the digest", "the signature"].map(|name| self.file(name));
         for left_out in 1..8 {
@@ -131,23 +133,24 @@ impl Desk<'_> {
                 self.unanswered(&[0, 1, 2].map(|place| path(place).clone()))?;
             }
         }
-        for given in 0..3 {
+        for given in 1..3 {
             self.unanswered(&there[..given])?;
         }
+        self.unanswered(&[&there[..], &there[..1]].concat())?;
         Ok(())
     }
 
     /// Document 01's own slips, and the same over the larger field. The reference gives the answers that are stated.
     fn of_the_paper(&mut self) -> Checked {
-        let small = |word| Slip { key: slips::plain_key(), digest: vec![0; 32], word };
-        let large = |word| Slip { key: larger::plain_key(), digest: vec![0; 64], word };
+        let small = |word| Slip { key: keys::plain(Field::Gf32), digest: vec![0; 32], word };
+        let large = |word| Slip { key: keys::plain(Field::Gf256), digest: vec![0; 64], word };
         let empty = Slip { key: vec![], digest: vec![], word: vec![] };
         for (slip, stated) in [
-            (small(larger::sevens(128)), 0),
-            (small(hex("00 00")), 14),
-            (large(larger::sevens(256)), 0),
-            (large(larger::sevens(128)), 14),
-            (large(hex("00 00")), 14),
+            (small(sevens(128)), 0),
+            (small(vec![0, 0]), 14),
+            (large(sevens(256)), 0),
+            (large(sevens(128)), 14),
+            (large(vec![0, 0]), 14),
             (empty, 1),
         ] {
             let answer = verify(&slip.key, &slip.digest, &slip.word);
@@ -245,7 +248,7 @@ impl Desk<'_> {
 
     /// Slips with faults in pairs, with none, and damaged ones.
     fn faulty(&mut self, maker: &mut Maker, field: Field) -> Checked {
-        let questions = Operation::Verify.questions_over(field);
+        let questions = Verify.facts().questions_over(field);
         for (place, first) in questions.iter().enumerate() {
             for second in &questions[place..] {
                 for _ in 0..VARIANTS {
@@ -263,9 +266,9 @@ impl Desk<'_> {
 
     /// A slip with these faults, damaged besides or not.
     fn made(&mut self, maker: &mut Maker, field: Field, faults: &[u8], damaged: bool) -> Checked {
-        let case = maker.with_faults(Operation::Verify, field, faults, Size::Short);
+        let case = maker.with_faults(&Verify, field, faults, Size::Short);
         let case = case.expect("these faults stand together");
-        let mut parts = case.input.parts;
+        let mut parts = case.0.parts;
         if damaged {
             let place = maker.random.below(3);
             files::damage(&mut maker.random, &mut parts[place], false);
@@ -288,7 +291,11 @@ pub fn check(programs: &Path, maker: &mut Maker) -> Checked<Vec<String>> {
         desk.accepted(maker, field)?;
         desk.faulty(maker, field)?;
     }
-    let mut lines = [desk.by_input.summaries("desk")?, desk.by_files.summaries("desk_files")?].concat();
-    lines.push(format!("desk_files: without an answer, as a file cannot be read: {}", desk.without_answer));
+    let mut lines =
+        [desk.by_input.summaries("desk")?, desk.by_files.summaries("desk on three files")?].concat();
+    lines.push(format!(
+        "desk on three files: without an answer, as a file cannot be read: {}",
+        desk.without_answer
+    ));
     Ok(lines)
 }

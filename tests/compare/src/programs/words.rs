@@ -1,4 +1,4 @@
-//! The programs that write a new word, on files: shorten, rewrite and reduce. The lines that they write, and the new
+//! The program `new_word`, on files, by its verbs: shorten, rewrite and reduce. The lines that it writes, and the new
 //! file, are those of the reference; on a refusal the file that was there is as it was.
 
 use std::ffi::OsStr;
@@ -10,7 +10,10 @@ use reference::word::{letters, MOST_BYTES};
 use reference::{free_reduce, rewrite, verify, Field, Written};
 
 use crate::make::{files, Maker, Size};
-use crate::paper::Operation;
+use crate::operation::Op;
+use crate::operations::free_reduce::FreeReduce;
+use crate::operations::rewrite::Rewrite;
+use crate::operations::verify::Verify;
 use crate::programs::{ran, Checked, Counts};
 use crate::show;
 
@@ -22,28 +25,28 @@ const DAMAGED: usize = 40;
 /// What stands at the new word's place before.
 const BEFORE: &[u8] = b"what was there";
 
-/// A program: the operation whose inputs it takes, over which fields, which of them is the word, and what the reference
+/// A verb: the operation whose inputs it takes, over which fields, which of them is the word, and what the reference
 /// makes of them.
-struct Program {
+struct Verb {
     name: &'static str,
-    operation: Operation,
+    operation: Op,
     fields: &'static [Field],
     word: usize,
     made: fn(&[Vec<u8>], &mut [u8]) -> Written,
 }
 
-const PROGRAMS: [Program; 3] = [
-    Program { name: "shorten", operation: Operation::Verify, fields: &Field::BOTH, word: 2, made: shortened },
-    Program {
+const VERBS: [Verb; 3] = [
+    Verb { name: "shorten", operation: &Verify, fields: &Field::BOTH, word: 2, made: shortened },
+    Verb {
         name: "rewrite",
-        operation: Operation::Rewrite,
+        operation: &Rewrite,
         fields: &[Field::Gf32],
         word: 0,
         made: |parts, out| rewrite(&parts[0], &parts[1], out),
     },
-    Program {
+    Verb {
         name: "reduce",
-        operation: Operation::FreeReduce,
+        operation: &FreeReduce,
         fields: &[Field::Gf32],
         word: 0,
         made: |parts, out| free_reduce(&parts[0], out),
@@ -64,28 +67,28 @@ fn shortened(parts: &[Vec<u8>], out: &mut [u8]) -> Written {
     }
 }
 
-/// Where the programs are, and the folder of the files that they are given.
-struct Place<'a> {
-    programs: &'a Path,
+/// The program, and the folder of the files that it is given.
+struct Place {
+    program: PathBuf,
     folder: PathBuf,
 }
 
-impl Drop for Place<'_> {
+impl Drop for Place {
     fn drop(&mut self) {
         // A folder that stays in the place for temporary ones does no harm.
         let _ = fs::remove_dir_all(&self.folder);
     }
 }
 
-impl Place<'_> {
+impl Place {
     fn put(&self, name: &str, bytes: &[u8]) -> Checked<PathBuf> {
         let path = self.folder.join(name);
         fs::write(&path, bytes).map_err(|error| format!("{}: {error}\n", path.display()))?;
         Ok(path)
     }
 
-    /// Runs a program on these parts, and counts the answer.
-    fn compare(&self, program: &Program, counts: &mut Counts, parts: &[Vec<u8>]) -> Checked {
+    /// Runs the program by a verb on these parts, and counts the answer.
+    fn compare(&self, verb: &Verb, counts: &mut Counts, parts: &[Vec<u8>]) -> Checked {
         let mut paths = vec![self.folder.join(".beside")];
         for (name, part) in ["first file", "-second", "third"].iter().zip(parts) {
             paths.push(self.put(name, part)?);
@@ -93,18 +96,19 @@ impl Place<'_> {
         let new = self.put("the new word", BEFORE)?;
         let before = changed(&new)?;
         paths.push(new.clone());
-        let arguments: Vec<&OsStr> = paths.iter().map(|path| path.as_os_str()).collect();
-        let output = ran(&self.programs.join(program.name), &arguments, &[])?;
+        let mut arguments: Vec<&OsStr> = vec![verb.name.as_ref()];
+        arguments.extend(paths.iter().map(|path| path.as_os_str()));
+        let output = ran(&self.program, &arguments, &[])?;
 
         let mut out = vec![0; MOST_BYTES];
-        let written = (program.made)(parts, &mut out);
-        let expected = lines(&written, &parts[program.word], &out[..written.bytes]);
+        let written = (verb.made)(parts, &mut out);
+        let expected = lines(&written, &parts[verb.word], &out[..written.bytes]);
         let found = String::from_utf8_lossy(&output.stdout);
         let file = fs::read(&new).map_err(|error| format!("{}: {error}\n", new.display()))?;
         let untouched = file == BEFORE && changed(&new)? == before;
         let well = if written.answer == 0 { file == out[..written.bytes] } else { untouched };
         if found != expected || !output.stderr.is_empty() || !well || paths[0].exists() {
-            let (name, file) = (program.name, show::hex(&file));
+            let (name, file) = (verb.name, show::hex(&file));
             let parts: String =
                 parts.iter().map(|part| format!("  [{}]: {}\n", part.len(), show::hex(part))).collect();
             return Err(format!(
@@ -134,37 +138,37 @@ fn lines(written: &Written, old: &[u8], new: &[u8]) -> String {
 }
 
 /// Inputs over a field without faults, with each fault, damaged, and longer than files may be.
-fn all(place: &Place, program: &Program, field: Field, maker: &mut Maker) -> Checked<String> {
+fn all(place: &Place, verb: &Verb, field: Field, maker: &mut Maker) -> Checked<String> {
     let counts = &mut Counts::default();
-    let asked = program.operation.questions_over(field);
+    let asked = verb.operation.facts().questions_over(field);
     let questions: Vec<u8> = asked.into_iter().filter(|number| *number != 15).collect();
     let mut plan: Vec<(Vec<u8>, Size)> = vec![(vec![], Size::Long); 3];
     plan.extend((0..WITHOUT).map(|turn| (vec![], if turn % 2 == 0 { Size::Short } else { Size::Middle })));
     plan.extend(questions.iter().flat_map(|number| vec![(vec![*number], Size::Short); WITH_FAULT]));
     for (faults, size) in plan {
         let case =
-            maker.with_faults(program.operation, field, &faults, size).expect("one fault can stand alone");
-        place.compare(program, counts, &case.input.parts)?;
+            maker.with_faults(verb.operation, field, &faults, size).expect("one fault can stand alone");
+        place.compare(verb, counts, &case.0.parts)?;
     }
     for turn in 0..DAMAGED {
-        let case = maker.with_faults(program.operation, field, &[], Size::Short).expect("none can stand");
-        let mut parts = case.input.parts;
+        let case = maker.with_faults(verb.operation, field, &[], Size::Short).expect("none can stand");
+        let mut parts = case.0.parts;
         let at = turn % parts.len();
         files::damage(&mut maker.random, &mut parts[at], false);
-        place.compare(program, counts, &parts)?;
+        place.compare(verb, counts, &parts)?;
         parts[at].extend(vec![0; 70_000]);
-        place.compare(program, counts, &parts)?;
+        place.compare(verb, counts, &parts)?;
     }
     let answers: Vec<u8> = [0].into_iter().chain(questions).collect();
-    let over = if program.fields.len() > 1 { format!(" ({})", field.size()) } else { String::new() };
-    counts.summary(&format!("{}{over}", program.name), &answers)
+    let over = if verb.fields.len() > 1 { format!(" ({})", field.size()) } else { String::new() };
+    counts.summary(&format!("{}{over}", verb.name), &answers)
 }
 
-/// Runs the three programs: a line for each, and for each field where there are two.
+/// Runs the three verbs: a line for each, and for each field where there are two.
 pub fn check(programs: &Path, maker: &mut Maker) -> Checked<Vec<String>> {
     let folder = env::temp_dir().join(format!("walnut words {}", process::id()));
     fs::create_dir_all(&folder).map_err(|error| format!("{}: {error}\n", folder.display()))?;
-    let place = Place { programs, folder };
-    let over = PROGRAMS.iter().flat_map(|program| program.fields.iter().map(move |field| (program, *field)));
-    over.map(|(program, field)| all(&place, program, field, maker)).collect()
+    let place = Place { program: programs.join("new_word"), folder };
+    let over = VERBS.iter().flat_map(|verb| verb.fields.iter().map(move |field| (verb, *field)));
+    over.map(|(verb, field)| all(&place, verb, field, maker)).collect()
 }

@@ -16,9 +16,10 @@ Inv-loop src base v₀ i₀ v i = (i ≤ length src) × (v ≡ value base (take 
 abbrev μ-loop : tie.MeasureT-loop
 μ-loop src base v₀ i₀ v i = length src - i
 
--- one digit more still fits
+-- one more digit still fits
 fits : (c : tie.In-loop Inv-loop μ-loop)
-    → c .before .loop .v * c .before .before .before .args .base + getD (c .before .before .before .args .src .now) (c .before .loop .i) 0 < 2 ^ 64
+    → c .before .loop .v * c .before .before .before .args .base
+    + getD (c .before .before .before .args .src .now) (c .before .loop .i) 0 < 2 ^ 64
 fits c =
     let s = c .before .before .before in
     let a = s .args in
@@ -41,7 +42,8 @@ loop-again c =
     let a = c .before .before .before .before .before .args in
     let l = c .before .before .before .loop in (
       omega arith,
-      ap (λ (x : ℕ). l .v * a .base + x) (c .wide .ensures) ∙ ap (λ (v : ℕ). v * a .base + getD (a .src .now) (l .i) 0) (l .inv .1)
+      ap (λ (x : ℕ). l .v * a .base + x) (c .wide .ensures)
+          ∙ ap (λ (v : ℕ). v * a .base + getD (a .src .now) (l .i) 0) (l .inv .1)
           ∙ sym (value-more (a .base) (a .src .now) (l .i) (omega arith)),
     )
 
@@ -50,7 +52,8 @@ returns c =
     let a = c .before .before .before .args in
     let l = c .before .loop in
     let e : l .i ≡ length (a .src .now) = omega arith in
-    l .inv .1 ∙ ap (λ (n : ℕ). value (a .base) (take n (a .src .now))) e ∙ ap (value (a .base)) (take-length (a .src .now))
+    l .inv .1 ∙ ap (λ (n : ℕ). value (a .base) (take n (a .src .now))) e
+    ∙ ap (value (a .base)) (take-length (a .src .now))
 
 pub number-spec : {M : Type 1} → statement M
 number-spec =

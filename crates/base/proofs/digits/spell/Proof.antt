@@ -1,5 +1,5 @@
--- `base::digits::spell` meets its contract. The loop's invariant: from place i on stand the last digits of the number,
--- and v is what is left of it.
+-- `base::digits::spell` meets its contract. The loop's invariant: the last digits of the number stand from place i on,
+-- and v is the rest of the number.
 use Prim.Native.Nat.{ℕ, suc, _+_, _-_, _/_, _^_}
 use mathlib.Core.Path.{_≡_, refl, ap, _∙_, subst}
 use native.Mathlib.Omega.{arith}
@@ -14,7 +14,8 @@ use Rattle.base.proofs.digits.spell.Tie as tie
 
 abbrev Inv-loop : tie.InvT-loop
 Inv-loop dst₀ base number v₀ i₀ dst v i =
-    (n : ℕ) × (n + i ≡ length dst₀) × (length dst ≡ length dst₀) × (drop i dst ≡ digits base n number) × (v ≡ number / base ^ n)
+    (n : ℕ) × (n + i ≡ length dst₀) × (length dst ≡ length dst₀) × (drop i dst ≡ digits base n number)
+    × (v ≡ number / base ^ n)
 
 abbrev μ-loop : tie.MeasureT-loop
 μ-loop dst₀ base number v₀ i₀ dst v i = i
@@ -38,7 +39,8 @@ loop-again c =
       suc n,
       omega arith,
       simp length-set (l .inv .2),
-      spelled-more (a .base) (a .number) (l .v) n i (l .dst) (omega arith) (subst (λ (j : ℕ). drop j (l .dst) ≡ digits (a .base) n (a .number)) e (l .inv .3)) (l .inv .4),
+      spelled-more (a .base) (a .number) (l .v) n i (l .dst) (omega arith)
+          (subst (λ (j : ℕ). drop j (l .dst) ≡ digits (a .base) n (a .number)) e (l .inv .3)) (l .inv .4),
       spelled-rest (a .base) (a .number) (l .v) n (l .inv .4),
     )
 

@@ -1,4 +1,4 @@
--- `base::rows::filler_is_zero` meets its contract: the filler is in the last byte.
+-- `base::rows::filler_is_zero` meets its contract: the filler stands in the last byte.
 use Prim.Native.Nat.{ℕ, _+_, _-_, _%_, _<_}
 use mathlib.Core.Path.{_≡_, sym, ap, _∙_, subst}
 use native.Mathlib.Omega.{arith}
@@ -17,10 +17,14 @@ returns c =
     sym (ap (λ (v : ℕ). eqb v 0) (filler-none (a .bits) (a .n) (a .bytes .now) (c .if1 .taken)))
 
 cast-last : tie.Need-cast-last
-cast-last c = let bytes = c .before .before .before .args .bytes .now in omega (arith, c .shared-slice-known2 .given (length bytes - 1))
+cast-last c =
+    let bytes = c .before .before .before .args .bytes .now in
+    omega (arith, c .shared-slice-known2 .given (length bytes - 1))
 
 rem-result : tie.Need-rem-result
-rem-result c = let a = c .before .before .before .before .args in subst (λ (u : ℕ). 0 < u) (sym (c .fillers .ensures)) (pow-pos (fillerBits (a .bits) (a .n)))
+rem-result c =
+    let a = c .before .before .before .before .args in
+    subst (λ (u : ℕ). 0 < u) (sym (c .filler-values .ensures)) (pow-pos (fillerBits (a .bits) (a .n)))
 
 returns-2 : tie.Need-returns-2
 returns-2 c =
@@ -28,7 +32,7 @@ returns-2 c =
     let bytes = a .bytes .now in
     let k : ℕ = length bytes - 1 in
     let l : length bytes ≡ k + 1 = omega arith in
-    ap (λ (u : ℕ). eqb (getD bytes k 0 % u) 0) (c .fillers .ensures)
+    ap (λ (u : ℕ). eqb (getD bytes k 0 % u) 0) (c .filler-values .ensures)
     ∙ sym (ap (λ (v : ℕ). eqb v 0) (filler-last (a .bits) (a .n) k bytes l))
 
 pub filler-is-zero-spec : {M : Type 1} → statement M

@@ -1,9 +1,9 @@
--- `base::rows::pack` meets its contract: groups of eight numbers, and the last row.
+-- `base::rows::pack` meets its contract: groups of eight numbers, and then the last numbers.
 use Prim.Native.Nat.{_/_}
 use mathlib.Core.Path.{refl, _∙_}
 use borrow.Author.Needs.{needs}
 use lib.ListN.{length}
-use Rattle.base.specs.Packing.{regrouped}
+use Rattle.base.specs.steps.Regrouping.{regrouped}
 use Rattle.base.proofs.RowLaws.{packs, packed-groups}
 use Rattle.base.proofs.rows.pack.Statement.{statement}
 use Rattle.base.proofs.rows.pack.Tie as tie
@@ -13,7 +13,8 @@ regroup-requires c κs =
     let p = c .before .before in
     let s = p .before .before .before in
     let a = s .args in
-    rw (p .power .ensures, c .before .fillers .ensures, s .pre .2) (packs (a .bits) (length (a .row .now)) (s .pre .0) (a .row .now) (s .pre .1) refl)
+    rw (p .power .ensures, c .before .filler-values .ensures, s .pre .2)
+    (packs (a .bits) (length (a .row .now)) (s .pre .0) (a .row .now) (s .pre .1) refl)
 
 returns : tie.Need-returns
 returns c =
@@ -24,8 +25,10 @@ returns c =
     let a = s .args in
     let n = length (a .row .now) in
     r .regroup .ensures
-    ∙ (λ i. regrouped (a .row .now) 8 (p .power .ensures i) (s .pre .2 i) (a .bits) 256 (n / 8) (f .fillers .ensures i) 1)
+    ∙ (λ i. regrouped (a .row .now) 8 (p .power .ensures i) (s .pre .2 i) (a .bits) 256 (n / 8)
+    (f .filler-values .ensures i) 1)
     ∙ packed-groups (a .bits) n (a .row .now) (s .pre .1) refl
 
 pub pack-spec : {M : Type 1} → statement M
-pack-spec = tie.close (tie.spec (λ c κs. search needs) (λ c κs. search needs) regroup-requires (λ c. search needs) returns)
+pack-spec =
+    tie.close (tie.spec (λ c κs. search needs) (λ c κs. search needs) regroup-requires (λ c. search needs) returns)

@@ -18,7 +18,9 @@ returns c =
     let e : a .at + r .row-bytes .result - a .at ≡ r .row-bytes .result = omega arith in
     record {
       ends = ap (λ (k : ℕ). a .at + k) n;
-      lies = ap₂ (λ (xs : List ℕ) (k : ℕ). take (a .at) (a .out .now) ++ (xs ++ drop k (drop (a .at) (a .out .now)))) (p .pack .ensures) (e ∙ n);
+      lies =
+          ap₂ (λ (xs : List ℕ) (k : ℕ). take (a .at) (a .out .now) ++ (xs ++ drop k (drop (a .at) (a .out .now))))
+          (p .pack .ensures) (e ∙ n);
     }
 
 pub pack-at-spec : {M : Type 1} → statement M

@@ -1,4 +1,4 @@
--- `examples::input::fill` is safe and ends: what is left to fill falls.
+-- `examples::input::fill` is safe and ends: the number left to write falls.
 use mathlib.Core.Path.{_≡_}
 use lib.ListN.{length}
 use borrow.Author.Needs.{needs}

@@ -1,4 +1,4 @@
--- `examples::pairs::laid_out` is safe and ends: it passes 64 entries.
+-- `examples::pairs::laid_out` is safe and ends: it goes through 64 entries.
 use Prim.Native.Nat.{_≤_, _-_}
 use borrow.Author.Needs.{needs}
 use Rattle.examples.proofs.pairs.laid_out.Statement.{statement}

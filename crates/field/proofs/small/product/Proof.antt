@@ -1,4 +1,4 @@
--- `field::small::product` meets its contract: the table at the two factors' five low bits.
+-- `field::small::product` meets its contract: it reads the table at the five low bits of each factor.
 use Prim.Native.Nat.{ℕ, _+_, _*_, _%_}
 use mathlib.Core.Path.{sym, ap, _∙_}
 use mathlib.Core.List.{List}

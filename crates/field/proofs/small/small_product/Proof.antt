@@ -1,4 +1,4 @@
--- `field::small::small_product` meets its contract: a question for each operand, and then the product.
+-- `field::small::small_product` meets its contract: it asks question 17 of each operand, then gives the product.
 use mathlib.Core.Path.{_∙_}
 use mathlib.Core.List.{[], _∷_}
 use borrow.Author.Needs.{needs}

@@ -1,5 +1,5 @@
--- `field::small::small_reciprocals` meets its contract: each of the 31 entries is an element whose product with its own
--- is 1. antt computes the products.
+-- `field::small::small_reciprocals` meets its contract: for each a from 1 to 31, entry a - 1 is an element whose
+-- product with a is 1. antt computes the products.
 use mathlib.Core.Path.{refl}
 use Rattle.base.specs.Lists.{every, valuesFrom}
 use Rattle.field.specs.Polynomial.{timesX, horner, times}

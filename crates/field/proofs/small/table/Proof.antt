@@ -1,5 +1,5 @@
 -- `field::small::table` meets its contract: every entry of the table follows the polynomial's rule. antt computes the
--- rule at all 1,024 places and compares.
+-- rule at all 1,024 entries and compares.
 use mathlib.Core.Path.{refl}
 use Rattle.base.specs.Lists.{valuesFrom}
 use Rattle.field.specs.Polynomial.{timesX, horner, times}

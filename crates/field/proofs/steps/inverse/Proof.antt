@@ -1,4 +1,5 @@
--- `field::steps::inverse` meets its contract: the table's entry before the number's remainder, or 0.
+-- `field::steps::inverse` meets its contract: it gives entry r - 1 of the table, where r is the number's remainder, or
+-- 0 if r is 0.
 use Prim.Native.Nat.{_+_}
 use native.Mathlib.Nat.{mod-lt}
 use native.Mathlib.Omega.{arith}

@@ -1,4 +1,4 @@
--- `field::steps::low` meets its contract: a mask of the low bits.
+-- `field::steps::low` meets its contract: the mask keeps the low bits.
 use Prim.Native.Nat.{ℕ, _-_, _*_, _%_, _^_, _≤_}
 use mathlib.Core.Path.{_≡_, ap, _∙_}
 use native.Mathlib.Nat.{one-mul, mod-eq-of-lt}

@@ -1,5 +1,4 @@
--- `field::steps::times` meets its contract. The loop's invariant: the total and what is left of b times t make the
--- product.
+-- `field::steps::times` meets its contract. The loop's invariant: the total plus t times the rest of b is the product.
 use Prim.Native.Nat.{ℕ, suc, _+_, _-_, _*_, _/_, _%_, _^_, _<_, _≤_}
 use mathlib.Core.Path.{_≡_, sym, ap, ap₂, _∙_}
 use native.Mathlib.Nat.{mod-lt}

@@ -1,4 +1,5 @@
--- `field::steps::times_x` meets its contract: one exclusive or with the polynomial where the degree is reached.
+-- `field::steps::times_x` meets its contract: it is one exclusive or with the polynomial if the degree is reached, and
+-- with 0 otherwise.
 use Prim.Native.Nat.{suc, _*_, _/_, _^_, _≤_}
 use mathlib.Core.Path.{sym}
 use native.Mathlib.Omega.{arith}

@@ -9,7 +9,10 @@ use Rattle.key.proofs.KeyRead.refused.Tie as tie
 
 returns : tie.Need-returns
 unfolding zeroKey
-returns c = (refl, λ j. record { field = Gf32; «t_values» = replicate 8 0; pair = c .zeros .ensures j; second = replicate 64 0 })
+returns c = (
+  refl,
+  λ j. record { field = Gf32; «t_values» = replicate 8 0; pair = c .zeros .ensures j; second = replicate 64 0 },
+)
 
 pub refused-spec : {M : Type 1} → statement M
 refused-spec = tie.close (tie.spec (λ c κs. search needs) returns)

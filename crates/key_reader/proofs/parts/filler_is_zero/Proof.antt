@@ -4,7 +4,7 @@ use mathlib.Core.Path.{ap, ap₂, _∙_}
 use mathlib.Core.Bool.{Bool, _&&_}
 use mathlib.Core.List.{List}
 use lib.Dec.{eqb}
-use Rattle.key.specs.Keys.{filler}
+use Rattle.key.specs.Keys.{matrixFiller}
 use Rattle.key.proofs.FileLaws.{part-taken}
 use borrow.Author.Needs.{needs}
 use Rattle.key_reader.proofs.parts.filler_is_zero.Statement.{statement}
@@ -20,8 +20,11 @@ returns c =
     let b = s .args .bits in
     let file = s .args .file .now in
     ap₂ (λ (x y : Bool). x && y)
-    (f .filler-is-zero .ensures ∙ ap (λ (xs : List ℕ). eqb (filler b xs) 0) (part-taken b 3 file (e .first-place .ensures) (l .list-place .ensures)))
-    (c .filler-is-zero2 .ensures ∙ ap (λ (xs : List ℕ). eqb (filler b xs) 0) (part-taken b 5 file (p .second-place .ensures) (s .pre .1)))
+    (f .filler-is-zero .ensures
+    ∙ ap (λ (xs : List ℕ). eqb (matrixFiller b xs) 0)
+    (part-taken b 3 file (e .first-place .ensures) (l .labels-place .ensures)))
+    (c .filler-is-zero2 .ensures
+    ∙ ap (λ (xs : List ℕ). eqb (matrixFiller b xs) 0) (part-taken b 5 file (p .second-place .ensures) (s .pre .1)))
 
 pub filler-is-zero-spec : {M : Type 1} → statement M
 filler-is-zero-spec =

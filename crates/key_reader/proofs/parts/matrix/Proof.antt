@@ -9,4 +9,5 @@ returns : tie.Need-returns
 returns c = c .whole-matrix .ensures ∙ ap wholeMatrix (c .before .before .before .unpack .ensures)
 
 pub matrix-spec : {M : Type 1} → statement M
-matrix-spec = tie.close (tie.spec (λ c. search needs) (λ c κs. search needs) (λ c. search needs) (λ c κs. search needs) returns)
+matrix-spec =
+    tie.close (tie.spec (λ c. search needs) (λ c κs. search needs) (λ c. search needs) (λ c κs. search needs) returns)

@@ -12,9 +12,11 @@ unfolding tValues
 returns c =
     let e = c .before .before in
     let a = e .before .before .args in
-    c .eight .ensures ∙ ap (unpackedRow (a .bits) 8) (part-taken (a .bits) 2 (a .file .now) refl (e .first-place .ensures))
+    c .eight .ensures
+    ∙ ap (unpackedRow (a .bits) 8) (part-taken (a .bits) 2 (a .file .now) refl (e .first-place .ensures))
 
 pub t-values-spec : {M : Type 1} → statement M
 t-values-spec =
     tie.close
-    (tie.spec (λ c κs. search needs) (λ c. search needs) (λ c. search needs) (λ c. search needs) (λ c κs. search needs) returns)
+    (tie.spec (λ c κs. search needs) (λ c. search needs) (λ c. search needs) (λ c. search needs)
+    (λ c κs. search needs) returns)

@@ -1,11 +1,11 @@
--- `matrix::product::column_logarithms` meets its contract. The loop's invariant: the first k logarithms are taken.
+-- `matrix::product::column_logarithms` meets its contract. The loop's invariant: the first k logarithms are stored.
 use Prim.Native.Nat.{ℕ, _-_, _≤_}
 use mathlib.Core.Path.{_≡_, refl, ap, _∙_}
 use native.Mathlib.Omega.{arith}
 use borrow.Author.Needs.{needs}
 use lib.ListN.{length, getD, length-set}
-use Rattle.logarithms.specs.Logarithms.{LogarithmsOf}
-use Rattle.logarithms.proofs.PowerLaws.{same-number, logarithms-next}
+use Rattle.field_logarithms.specs.steps.Logarithms.{LogarithmsOf}
+use Rattle.field_logarithms.proofs.PowerLaws.{same-number, logarithms-next}
 use Rattle.matrix.specs.Layout.{entry}
 use Rattle.matrix.proofs.product.column_logarithms.Statement.{statement}
 use Rattle.matrix.proofs.product.column_logarithms.Tie as tie

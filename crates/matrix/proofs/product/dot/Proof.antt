@@ -1,4 +1,4 @@
--- `matrix::product::dot` meets its contract. The loop's invariant: the sum of the first k products.
+-- `matrix::product::dot` meets its contract. The loop's invariant: the total is the sum of the first k products.
 use Prim.Native.Nat.{ℕ, _+_, _-_, _≤_}
 use mathlib.Core.Path.{_≡_, refl, sym, ap, ap₂, _∙_}
 use mathlib.Core.List.{List}
@@ -11,7 +11,7 @@ use Rattle.matrix.proofs.SumLaws.{sum-next}
 use Rattle.matrix.proofs.product.dot.Statement.{statement}
 use Rattle.matrix.proofs.product.dot.Tie as tie
 
--- the products of a row and a column
+-- the products of a row's entries and a column's entries, by their logarithms
 abbrev terms : List ℕ → List ℕ → List ℕ → ℕ → ℕ → ℕ
 terms table a b row = λ k. getD table (256 + (entry a row k + getD b k 0)) 0
 

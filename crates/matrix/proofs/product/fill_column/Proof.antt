@@ -3,7 +3,7 @@ use Prim.Native.Nat.{_-_, _≤_}
 use mathlib.Core.Path.{_≡_}
 use native.Mathlib.Omega.{arith}
 use Rattle.field.specs.Fields.{operations}
-use Rattle.matrix.specs.Multiplying.{rowByLogarithms, ColumnFilled}
+use Rattle.matrix.specs.steps.Multiplying.{rowByLogarithms, ColumnFilled}
 use Rattle.matrix.proofs.MultiplyLaws.{filled-start, filled-next}
 use Rattle.matrix.proofs.product.fill_column.Statement.{statement}
 use Rattle.matrix.proofs.product.fill_column.Tie as tie

@@ -1,11 +1,11 @@
--- `matrix::product::logarithms_of` meets its contract. The loop's invariant: the first i logarithms are taken.
+-- `matrix::product::logarithms_of` meets its contract. The loop's invariant: the first i logarithms are stored.
 use Prim.Native.Nat.{_-_, _≤_}
 use mathlib.Core.Path.{_≡_, refl, _∙_}
 use native.Mathlib.Omega.{arith}
 use borrow.Author.Needs.{needs}
 use lib.ListN.{length, getD, length-set}
-use Rattle.logarithms.specs.Logarithms.{LogarithmsOf}
-use Rattle.logarithms.proofs.PowerLaws.{logarithms-next}
+use Rattle.field_logarithms.specs.steps.Logarithms.{LogarithmsOf}
+use Rattle.field_logarithms.proofs.PowerLaws.{logarithms-next}
 use Rattle.matrix.proofs.product.logarithms_of.Statement.{statement}
 use Rattle.matrix.proofs.product.logarithms_of.Tie as tie
 

@@ -1,4 +1,4 @@
--- `matrix::product::matrix_product` meets its contract: the product by the table of the field that the match finds.
+-- `matrix::product::matrix_product` meets its contract: it multiplies by the table of the field that the match finds.
 use borrow.Author.Needs.{needs}
 use Rattle.matrix.proofs.product.matrix_product.Statement.{statement}
 use Rattle.matrix.proofs.product.matrix_product.Tie as tie

@@ -19,7 +19,8 @@ returns c =
     let d = c .before .before in
     let p = d .before .before in
     let a = p .before .before .args in
-    added-number {m = a .at + p .places .result - a .at} (a .text .now) (a .at) (a .n) (a .then) (p .places .ensures) (omega arith) (omega (arith, size p)) (d .spell .ensures)
+    added-number {m = a .at + p .places .result - a .at} (a .text .now) (a .at) (a .n) (a .then) (p .places .ensures)
+    (omega arith) (omega (arith, size p)) (d .spell .ensures)
 
 pub decimal-spec : {M : Type 1} → statement M
 decimal-spec =

@@ -12,10 +12,14 @@ use Rattle.text.proofs.number.signed.Tie as tie
 
 -- the text, from 0 on and below
 from-zero : (c : tie.Then1) → signedText (c .before .before .before .args .n) ≡ decimal (c .before .size .result)
-from-zero c = let s = c .before .before .before in text-from-zero (s .args .n) (s .fits .n) (c .before .size .result) (c .before .size .ensures) (c .if1 .taken)
+from-zero c =
+    let s = c .before .before .before in
+    text-from-zero (s .args .n) (s .fits .n) (c .before .size .result) (c .before .size .ensures) (c .if1 .taken)
 
 below-zero : (c : tie.Else1) → signedText (c .before .before .before .args .n) ≡ 45 ∷ decimal (c .before .size .result)
-below-zero c = let s = c .before .before .before in text-below-zero (s .args .n) (s .fits .n) (c .before .size .result) (c .before .size .ensures) (c .if1 .left)
+below-zero c =
+    let s = c .before .before .before in
+    text-below-zero (s .args .n) (s .fits .n) (c .before .size .result) (c .before .size .ensures) (c .if1 .left)
 
 decimal-requires : tie.Need-decimal-requires
 decimal-requires c κs = omega (arith, ap length (from-zero (c .before)))

@@ -15,7 +15,8 @@ use Rattle.text.proofs.number.spell.Tie as tie
 
 abbrev Inv-loop : tie.InvT-loop
 Inv-loop part₀ number rest₀ i₀ part rest i =
-    (n : ℕ) × (n + i ≡ length part₀) × (length part ≡ length part₀) × (drop i part ≡ shown (digits 10 n number)) × (rest ≡ number / 10 ^ n)
+    (n : ℕ) × (n + i ≡ length part₀) × (length part ≡ length part₀) × (drop i part ≡ shown (digits 10 n number))
+    × (rest ≡ number / 10 ^ n)
 
 abbrev μ-loop : tie.MeasureT-loop
 μ-loop part₀ number rest₀ i₀ part rest i = i
@@ -34,7 +35,8 @@ loop-again c =
       suc n,
       omega arith,
       simp length-set (l .inv .2),
-      spelled-more (a .n) (l .rest) n i (l .part) (omega arith) (subst (λ (j : ℕ). drop j (l .part) ≡ shown (digits 10 n (a .n))) e (l .inv .3)) (l .inv .4),
+      spelled-more (a .n) (l .rest) n i (l .part) (omega arith)
+          (subst (λ (j : ℕ). drop j (l .part) ≡ shown (digits 10 n (a .n))) e (l .inv .3)) (l .inv .4),
       spelled-rest 10 (a .n) (l .rest) n (l .inv .4),
     )
 

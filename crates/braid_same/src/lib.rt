@@ -1,0 +1,1 @@
+// Words that are the same braid. This crate has no function.

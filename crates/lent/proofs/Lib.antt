@@ -1,3 +1,0 @@
-pub mod LentLaws
-pub mod ChangeOfLayout
-pub mod WrongPrograms

@@ -1,2 +1,0 @@
--- The definitions that the contracts of `lent` cite.
-pub mod Lent

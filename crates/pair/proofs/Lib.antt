@@ -1,0 +1,12 @@
+pub mod RowLaws
+pub mod RowBraid
+pub mod ShareLaws
+pub mod BraidRelations
+pub mod WordLaws
+pub mod GoodLaws
+pub mod CarryLaws
+pub mod ColumnLaws
+pub mod NamedLabels
+pub mod LinearLaws
+pub mod InvertibleWords
+pub mod ChangeOfLayout

@@ -1,0 +1,5 @@
+pub mod MultiplierLaws
+pub mod LentLaws
+pub mod ChangeOfLayout
+pub mod WrongPrograms
+pub mod WrongLenders

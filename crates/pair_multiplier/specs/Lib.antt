@@ -1,0 +1,2 @@
+pub mod Multiplier
+pub mod Lent

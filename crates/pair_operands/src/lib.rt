@@ -1,0 +1,79 @@
+// Tests of T-values, entries and labels.
+ghost use mathlib.Core.Path.{_≡_};
+ghost use lib.Dec.{eqb, ltb};
+ghost use Rattle.base.specs.Lists.{every, count, values};
+ghost use Rattle.word.specs.Strands.{isOrder};
+ghost use Rattle.pair_operands.specs.Operands.{nonzero};
+ghost use Rattle.pair_operands.specs.steps.Fitting.{fit};
+
+fn all_below(xs: &[u8], limit: u8) -> bool
+    ensures { λ r. ⌜ r ≡ every (λ x. ltb x limit) (now (xs .entry)) ⌝ }
+{
+    let mut i = 0;
+    while i < xs.len() {
+        let x = xs[i];
+        if limit <= x {
+            return false;
+        }
+        i += 1;
+    }
+    true
+}
+
+// Does every number fit `bits` bits? Every byte fits eight bits or more.
+pub fn all_fit(xs: &[u8], bits: usize) -> bool
+    ensures { λ r. ⌜ r ≡ fit bits (now (xs .entry)) ⌝ }
+{
+    if 8 <= bits {
+        return true;
+    }
+    let limit: u8 = 1 << bits;
+    all_below(xs, limit)
+}
+
+fn count(a: u8, xs: &[u8]) -> usize
+    ensures { λ r. ⌜ r ≡ count a (now (xs .entry)) ⌝ }
+{
+    let mut n = 0;
+    let mut i = 0;
+    while i < xs.len() {
+        let x = xs[i];
+        if x == a {
+            n += 1;
+        }
+        i += 1;
+    }
+    n
+}
+
+pub fn all_nonzero(xs: &[u8]) -> bool
+    ensures { λ r. ⌜ r ≡ nonzero (now (xs .entry)) ⌝ }
+{
+    count(0, xs) == 0
+}
+
+// Does each of the numbers 0 to 7 occur exactly once?
+fn once_each(xs: &[u8]) -> bool
+    ensures { λ r. ⌜ r ≡ every (λ a. eqb (count a (now (xs .entry))) 1) (values (λ a. a) 8) ⌝ }
+{
+    let mut a: u8 = 0;
+    while a < 8 {
+        let n = count(a, xs);
+        if n != 1 {
+            return false;
+        }
+        a += 1;
+    }
+    true
+}
+
+// Is the list 0 to 7, each once?
+pub fn is_order(labels: &[u8]) -> bool
+    ensures { λ r. ⌜ r ≡ isOrder (now (labels .entry)) ⌝ }
+{
+    let below = all_below(labels, 8);
+    if !below {
+        return false;
+    }
+    once_each(labels)
+}

@@ -1,4 +1,0 @@
-// The desk program on empty input.
-fn main() {
-    desk_io::desk();
-}

@@ -1,1 +1,0 @@
-// Words that are the same braid: a relation on words with its laws, and no function.

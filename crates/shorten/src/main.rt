@@ -1,5 +1,0 @@
-// Shortens slips. Its run: under the plain key a slip that opens, with a letter and its inverse put into its word, one
-// that does not, and one without a digest.
-fn main() {
-    desk_new::shorten();
-}

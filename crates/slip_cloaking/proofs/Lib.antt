@@ -1,0 +1,4 @@
+pub mod CloakLaws
+pub mod CloakIff
+pub mod ChangeOfLayout
+pub mod OldCloaks

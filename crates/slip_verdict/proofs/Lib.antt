@@ -1,0 +1,5 @@
+pub mod SlipLaws
+pub mod VerdictIff
+pub mod VerdictLaws
+pub mod WrongVerdicts
+pub mod OldSlips

@@ -1,8 +1,0 @@
-pub mod CloakLaws
-pub mod CloakIff
-pub mod ChangeOfLayout
-pub mod SlipLaws
-pub mod VerdictIff
-pub mod VerdictLaws
-pub mod WrongVerdicts
-pub mod OldSlips

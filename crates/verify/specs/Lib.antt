@@ -1,2 +1,0 @@
-pub mod Cloaking
-pub mod Verdict

@@ -1,0 +1,2 @@
+pub mod Reducer
+pub mod steps

@@ -1,0 +1,19 @@
+-- What the stack of free reduction has room for.
+use Prim.Native.Nat.{ℕ, _+_, _≤_}
+use mathlib.Core.Path.{_≡_}
+use mathlib.Core.Bool.{true}
+use mathlib.Core.List.{List}
+use lib.ListN.{length, take}
+use Rattle.base.specs.Lists.{every}
+use Rattle.word.specs.Letters.{isLetter}
+use Rattle.word.specs.Words.{codes}
+use Rattle.word.specs.Reduction.{Irreducible}
+
+-- The condition for pushing codes onto a stack. Only private contracts cite it. The stack has room for the codes behind
+-- its first n codes. These n codes are letters, of which no two neighbours cancel. The codes to push are letters
+abbrev pub MayCome : ℕ → List ℕ → List ℕ → Type 0
+MayCome n stack codes =
+    (n + length codes ≤ length stack)
+    × Irreducible (take n stack)
+    × (every isLetter (take n stack) ≡ true)
+    × (every isLetter codes ≡ true)

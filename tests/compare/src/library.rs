@@ -1,0 +1,56 @@
+//! Matrices and pairs of the library. It has its matrices by columns and the reference by rows: each matrix changes its
+//! layout here, and nowhere else.
+
+use reference::matrix::at;
+use reference::{Matrix, Pair};
+
+use crate::exported;
+
+/// Each row and column, counted from 1.
+fn places() -> impl Iterator<Item = (usize, usize)> {
+    (1..=8).flat_map(|row| (1..=8).map(move |column| (row, column)))
+}
+
+/// A matrix of the library's, by rows.
+pub fn by_rows(columns: &[u8; 64]) -> Matrix {
+    let mut rows = [0; 64];
+    places().for_each(|(row, column)| rows[at(row, column)] = columns[walnut::place(row, column)]);
+    rows
+}
+
+/// A matrix for the library, by columns.
+pub fn by_columns(rows: &Matrix) -> [u8; 64] {
+    let mut columns = [0; 64];
+    places().for_each(|(row, column)| columns[walnut::place(row, column)] = rows[at(row, column)]);
+    columns
+}
+
+/// A pair of the library's.
+pub fn pair_of(pair: exported::Pair) -> Pair {
+    Pair { matrix: by_rows(&pair.matrix), labels: pair.labels }
+}
+
+/// A pair for the library.
+pub fn lent(pair: &Pair) -> exported::Pair {
+    exported::Pair { matrix: by_columns(&pair.matrix), labels: pair.labels }
+}
+
+/// A matrix and a list as one run of bytes.
+pub fn pair_bytes(pair: &Pair) -> Vec<u8> {
+    [&pair.matrix[..], &pair.labels].concat()
+}
+
+#[cfg(test)]
+mod tests {
+    /// Columns 2, 3 and 4 after b3 from the start, as they lie in the library's memory: row 3 has 2, 2, 1 there
+    /// (document 01's slip), and the rest is the identity's.
+    #[test]
+    fn columns_lie_together() {
+        let mut pair = walnut::Pair::start();
+        assert!(pair.multiply(walnut::Field::Gf32, &[1, 1, 2, 3, 4, 5, 6, 7], 2).is_ok());
+        assert_eq!(pair.matrix[..8], [1, 0, 0, 0, 0, 0, 0, 0]);
+        assert_eq!(pair.matrix[8..16], [0, 1, 2, 0, 0, 0, 0, 0]);
+        assert_eq!(pair.matrix[16..24], [0, 0, 2, 0, 0, 0, 0, 0]);
+        assert_eq!(pair.matrix[24..32], [0, 0, 1, 1, 0, 0, 0, 0]);
+    }
+}

@@ -1,0 +1,95 @@
+//! The list of operations, a file each.
+
+pub mod cloaks;
+pub mod crossings;
+pub mod encode_digest;
+pub mod file_entries;
+pub mod free_reduce;
+pub mod multiply;
+pub mod product;
+pub mod read_key;
+pub mod read_word;
+pub mod reciprocal;
+pub mod rewrite;
+pub mod start;
+pub mod verify;
+pub mod write_key;
+pub mod write_word;
+
+use reference::Field;
+
+use crate::operation::Op;
+
+/// All of them, in the order of `walnut.h`.
+pub const ALL: [Op; 15] = [
+    &product::Product,
+    &reciprocal::Reciprocal,
+    &start::Start,
+    &multiply::Multiply,
+    &read_key::ReadKey,
+    &file_entries::FileEntries,
+    &write_key::WriteKey,
+    &read_word::ReadWord,
+    &write_word::WriteWord,
+    &encode_digest::EncodeDigest,
+    &free_reduce::FreeReduce,
+    &rewrite::Rewrite,
+    &verify::Verify,
+    &cloaks::Cloaks,
+    &crossings::Crossings,
+];
+
+/// Each operation with each of its fields.
+pub fn over_fields() -> impl Iterator<Item = (Op, Field)> {
+    ALL.into_iter()
+        .flat_map(|operation| operation.facts().fields().iter().map(move |field| (operation, *field)))
+}
+
+#[cfg(test)]
+mod tests {
+    use super::*;
+    use crate::operation::Operation;
+
+    /// Each function that `walnut.h` declares is there, in its order.
+    #[test]
+    fn every_export_is_listed() {
+        let declared = include_str!("../../../bindings/rust/src/exported.rs");
+        let declared = declared.split("pub fn walnut_").skip(1).map(|text| text.split('(').next());
+        let listed = ALL.map(|operation| Some(operation.facts().name));
+        assert_eq!(declared.collect::<Vec<_>>(), listed);
+    }
+
+    /// The papers have the numbers 0 to 27 so far, and each is some operation's.
+    #[test]
+    fn every_number_is_given() {
+        let given = |number: u8| ALL.iter().any(|operation| operation.facts().questions.contains(&number));
+        assert!((1..=27).all(given));
+        assert!(!given(0) && !given(28));
+    }
+
+    /// 7 and 17 cannot be given over the larger field, and all others can.
+    #[test]
+    fn questions_of_the_larger_field() {
+        for facts in ALL.map(|operation| operation.facts()) {
+            let (small, large) = (facts.questions_over(Field::Gf32), facts.questions_over(Field::Gf256));
+            assert_eq!(small, facts.questions);
+            let lost: Vec<u8> = small.into_iter().filter(|number| !large.contains(number)).collect();
+            assert!(lost.iter().all(|number| [7, 17].contains(number)));
+        }
+        assert_eq!(product::Product.facts().questions_over(Field::Gf256), []);
+        assert_eq!(write_key::WriteKey.facts().questions_over(Field::Gf256), [16, 4, 5, 6, 26]);
+    }
+
+    #[test]
+    fn first_fault_decides() {
+        let (rewrite, cloaks, verify) =
+            (rewrite::Rewrite.facts(), cloaks::Cloaks.facts(), verify::Verify.facts());
+        assert_eq!([&[9, 15][..], &[24, 18, 13]].map(|faults| rewrite.answer_to(faults)), [15, 13]);
+        assert_eq!([[9, 25], [25, 7], [25, 26]].map(|faults| cloaks.answer_to(&faults)), [25, 7, 26]);
+        assert_eq!([&[8, 26][..], &[]].map(|faults| verify.answer_to(faults)), [26, 0]);
+        assert_eq!(read_key::ReadKey.facts().answer_to(&[26, 7]), 7);
+        assert_eq!(write_key::WriteKey.facts().answer_to(&[26, 6]), 6);
+        assert_eq!(multiply::Multiply.facts().answer_to(&[12, 4, 17]), 17);
+        assert_eq!(crossings::Crossings.facts().answer_to(&[27, 13]), 13);
+    }
+}

@@ -1,0 +1,166 @@
+//! The verdict.
+
+use reference::key::layout;
+use reference::pair::TValues;
+use reference::testkit::{accepted_slip, Random, Slip};
+use reference::word::word_file;
+use reference::{letters, read_key, start, verify, Pair};
+
+use crate::operation::prelude::*;
+use crate::shrink::cut;
+
+pub struct Verify;
+
+impl Operation for Verify {
+    fn facts(&self) -> Facts {
+        let questions = &[1, 2, 3, 4, 5, 6, 7, 26, 8, 9, 10, 11, 12, 13, 14];
+        let facts = Facts::of("verify", questions, &[parts::KEY, parts::DIGEST, parts::WORD]);
+        Facts { over: Over::Key, share: 4, ..facts }
+    }
+
+    /// Without faults a slip that is accepted, and with 14 alone one whose second matrix has a wrong bit, so that the
+    /// matrices differ.
+    fn make(&self, maker: &mut Maker, field: Field, faults: &[u8], size: Size) -> Option<Parts> {
+        let codes = maker.codes(size);
+        let mut slip = if faults.is_empty() || faults == [14] || maker.random.one_in(20) {
+            maker.slip(field, &codes)
+        } else {
+            let (key, digest) = (maker.random.invertible_key(field), maker.digest(field));
+            Slip { key, digest, word: word_file(&codes) }
+        };
+        let random = &mut maker.random;
+        if faults.contains(&14) {
+            flip_second_matrix(random, field, &mut slip.key);
+        }
+        Some(vec![
+            files::key(random, field, &slip.key, faults),
+            files::digest(random, field, &slip.digest, faults),
+            files::word(random, &codes, faults),
+        ])
+    }
+
+    fn call(&self, by: By, input: &Input) -> Outcome {
+        let [key, digest, word] = input.slices();
+        let (file, n) = (key.as_ptr(), key.len());
+        Outcome::of(match by {
+            By::Library => unsafe {
+                // SAFETY: see `Operation::call`.
+                walnut_verify(file, n, digest.as_ptr(), digest.len(), word.as_ptr(), word.len())
+            },
+            By::Reference => verify(key, digest, word),
+        })
+    }
+
+    /// Under the large plain key 64 zero bytes are b7, 256 times. b7's two T-values have the product 6 × 7 = 18, so 2 k
+    /// letters have 18^k at row 7, column 7: 128 letters, as for the digest's first half alone, or none, would need the
+    /// order of 18 to divide 64 or 128, but it divides 255, and 18 is not 1. Under permutation matrices the empty word
+    /// is no signature: letters b7 change row 7 alone, and the two matrices differ in row 1.
+    fn fixed(&self) -> Vec<Fixed> {
+        let [small, large] = Field::BOTH.map(keys::plain);
+        let judge = |name: &str, key: &[u8], digest: &[u8], word: &[u8]| {
+            Fixed::of(&Verify, name, &[key, digest, word])
+        };
+        let mut cases = vec![
+            judge("b7, 128 times, for 32 zero bytes", &small, &[0; 32], &sevens(128)),
+            judge("the empty word", &small, &[0; 32], &[0, 0]).refused(14),
+            judge("no bytes", &[], &[], &[]).refused(1),
+            judge("b7, 256 times, for 64 zero bytes", &large, &[0; 64], &sevens(256)),
+            judge("b7, 128 times, for 64 zero bytes", &large, &[0; 64], &sevens(128)).refused(14),
+            judge("the empty word for 64 zero bytes", &large, &[0; 64], &[0, 0]).refused(14),
+            judge("the large key with 32 bytes", &large, &[0; 32], &sevens(128)).refused(8),
+            judge("the small key with 64 bytes", &small, &[0; 64], &sevens(256)).refused(8),
+            judge("the large key with 32 bytes and no word", &large, &[0; 32], &[]).refused(8),
+            judge("the large key and no word", &large, &[0; 64], &[]).refused(9),
+            judge("permutation matrices", &keys::permutations().file, &[0; 32], &[0, 0]).refused(14),
+        ];
+        for (name, key, answer) in keys::refused() {
+            cases.push(judge(&name, &key, &[0; 64], &[0, 0]).refused(answer));
+            cases.push(judge(&name, &key, &[], &[]).refused(answer));
+        }
+        cases
+    }
+
+    /// Digests of each length, with a key: the one that goes with it alone is accepted.
+    fn small(&self, run: &mut Run) -> Checked {
+        for field in Field::BOTH {
+            let codes = run.maker.random.tangled_word(5);
+            let Slip { key, digest, word } = run.maker.slip(field, &codes);
+            for length in 0..=130 {
+                let mut other = digest.clone();
+                other.resize(length, 0);
+                let expected = if length == field.digest_bytes() { 0 } else { 8 };
+                run.parts(&Verify, vec![key.clone(), other, word.clone()], Some(expected))?;
+            }
+        }
+        Ok(())
+    }
+
+    /// An accepted slip is solved again for a plainer key, a digest of zeros and fewer letters.
+    fn shrunk(&self, shrinker: &Shrinker, input: Input) -> Input {
+        let Some(mut source) = Source::of(&input) else { return input };
+        let plainer: [fn(&Source) -> Source; 3] = [
+            |source| Source { digest: vec![0; source.digest.len()], ..source.clone() },
+            |source| Source { pair: start(), ..source.clone() },
+            |source| Source { t_values: T_VALUES, ..source.clone() },
+        ];
+        for change in plainer {
+            let (changed, before) = (change(&source), source.solved(&input));
+            let solved = changed.solved(&input);
+            if weight(&solved) < weight(&before) && shrinker.fails(&solved) {
+                source = changed;
+            }
+        }
+        let shorter = |codes: &[u8]| Source { codes: codes.to_vec(), ..source.clone() }.solved(&input);
+        let codes =
+            cut(source.codes.clone(), &|codes| shrinker.has_time() && shrinker.fails(&shorter(codes)));
+        Some(shorter(&codes)).filter(|solved| weight(solved) < weight(&input)).unwrap_or(input)
+    }
+}
+
+/// Turns one bit of the second matrix of a key file without faults round, such that it keeps an inverse.
+fn flip_second_matrix(random: &mut Random, field: Field, file: &mut [u8]) {
+    let second = &layout(field).second;
+    loop {
+        let bit = random.within(second.start, second.end - 1);
+        file[bit / 8] ^= 0x80 >> (bit % 8);
+        if read_key(file).answer == 0 {
+            return;
+        }
+        file[bit / 8] ^= 0x80 >> (bit % 8);
+    }
+}
+
+/// What a slip is solved from.
+#[derive(Clone)]
+struct Source {
+    field: Field,
+    t_values: TValues,
+    pair: Pair,
+    digest: Vec<u8>,
+    codes: Vec<u8>,
+}
+
+impl Source {
+    /// The source of an input that is accepted; none otherwise.
+    fn of(input: &Input) -> Option<Source> {
+        let [file, digest, word] = input.slices();
+        if verify(file, digest, word) != 0 {
+            return None;
+        }
+        let key = read_key(file);
+        let (digest, codes) = (digest.to_vec(), letters(word));
+        Some(Source { field: key.field, t_values: key.t_values, pair: key.pair, digest, codes })
+    }
+
+    /// The accepted slip in the place of the input's.
+    fn solved(&self, input: &Input) -> Input {
+        let slip = accepted_slip(self.field, &self.t_values, &self.pair, &self.digest, &self.codes);
+        Input { parts: vec![slip.key, slip.digest, slip.word], ..input.clone() }
+    }
+}
+
+/// The number of bytes, then their sum.
+fn weight(input: &Input) -> (usize, usize) {
+    let bytes = || input.parts.iter().flatten();
+    (bytes().count(), bytes().map(|byte| usize::from(*byte)).sum())
+}
