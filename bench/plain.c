@@ -1,4 +1,4 @@
-/* The key reader, the verdict, cloaking, the lent multiplier, the rewriter, free reduction and crossings in plain C, as
+/* The key reader, the verdict whole and by halves, cloaking, the lent multiplier, the rewriter, free reduction and crossings in plain C, as
    one would write them by hand: for the library's times to stand beside. */
 #include <stdbool.h>
 #include <stddef.h>
@@ -24,6 +24,13 @@ typedef struct {
     uint8_t t_values[8], second[64];
     pair first;
 } key;
+
+/* What the first half of a verdict gives and the second takes. */
+typedef struct {
+    const field *over;
+    uint8_t t_values[8], target[64];
+    pair first;
+} half;
 
 static uint8_t small_products[1024], small_reciprocals[32], large_products[65536], large_reciprocals[256];
 static const field small = {5, 0x25, 83, 32, small_products, small_reciprocals};
@@ -327,6 +334,61 @@ uint8_t plain_verify(const uint8_t *file, size_t kn, const uint8_t *digest, size
     digest_matrix(k.over, k.t_values, digest, &reached);
     matrix_product(k.over, reached.matrix, k.second, wanted);
     return memcmp(k.first.matrix, wanted, 64) ? 14 : 0;
+}
+
+static half held_half;
+
+/* The answer; the half is left in what is held. */
+uint8_t plain_first_half(const uint8_t *file, size_t kn, const uint8_t *digest, size_t dn)
+{
+    key k;
+    pair reached;
+    half *h = &held_half;
+    uint8_t answer = read_key(file, kn, &k);
+    if (answer)
+        return answer;
+    if (dn != k.over->digest_bytes)
+        return 8;
+    h->over = k.over;
+    h->first = k.first;
+    memcpy(h->t_values, k.t_values, 8);
+    digest_matrix(k.over, k.t_values, digest, &reached);
+    matrix_product(k.over, reached.matrix, k.second, h->target);
+    return 0;
+}
+
+static bool are_elements(const field *f, const uint8_t *numbers, size_t n)
+{
+    for (size_t i = 0; i < n; i++)
+        if (numbers[i] >> f->bits)
+            return false;
+    return true;
+}
+
+/* A half's own questions, as if a caller had made it. */
+static uint8_t half_answer(const half *h)
+{
+    if (!are_elements(h->over, h->t_values, 8) || !are_elements(h->over, h->first.matrix, 64) || !are_elements(h->over, h->target, 64))
+        return 17;
+    if (memchr(h->t_values, 0, 8))
+        return 4;
+    if (!is_order(h->first.labels))
+        return 6;
+    return is_invertible(h->over, h->first.matrix) && is_invertible(h->over, h->target) ? 0 : 26;
+}
+
+/* The answer to a word under the half that is held. */
+uint8_t plain_second_half(const uint8_t *word, size_t wn)
+{
+    half h = held_half;
+    size_t letters;
+    uint8_t answer = half_answer(&h);
+    if (answer)
+        return answer;
+    if ((answer = read_word(word, wn, &letters)))
+        return answer;
+    word_on(&h.first, h.over, h.t_values, word + 2, letters);
+    return memcmp(h.first.matrix, h.target, 64) ? 14 : 0;
 }
 
 /* 256 + the answer on a refusal, else 1 for yes and 0 for no. The word goes over rows of bytes, or over columns of 64 bits. */

@@ -146,7 +146,7 @@ static inline const char *walnut_text(uint8_t answer)
     case 23: return "the letters at the move's place do not match this kind of move";
     case 24: return "an insertion would leave more than 10,000 letters";
     case 25: return "the list to cloak for is not 8 bytes, 0 to 7 each once";
-    case 26: return "a matrix of the key has no inverse";
+    case 26: return "a matrix of the key, or of a half, has no inverse";
     case 27: return "a label is over 7, or both labels are equal";
     /* answers.txt: end */
     default: return "an answer that this header does not know";
@@ -202,6 +202,18 @@ typedef struct {
     uint8_t second[64];
 } walnut_key;
 
+/* The first half of a verdict: the field, the T-values, the pair Pub(S), and `target`, the matrix that a signature must
+   reach. */
+typedef struct {
+    bool large;
+    uint8_t t_values[8];
+    walnut_pair pair;
+    uint8_t target[64];
+} walnut_half;
+
+/* A half. On a refusal its field is the one with 32 elements, and all its numbers are 0. */
+typedef struct { uint8_t answer; walnut_half half; } walnut_halved;
+
 /* Multiplies two elements of the field that `large` names. Answers: 17, 0. Changes nothing. */
 WALNUT_MUST_USE walnut_element walnut_product(bool large, uint8_t a, uint8_t b);
 
@@ -251,6 +263,15 @@ WALNUT_MUST_USE walnut_written walnut_rewrite(const uint8_t *word, size_t n, con
    nothing. */
 WALNUT_MUST_USE uint8_t walnut_verify(const uint8_t *key, size_t kn, const uint8_t *digest, size_t dn,
                                       const uint8_t *word, size_t wn);
+
+/* The verdict in two halves, for several copies of a slip: the digest is encoded once. The first half takes key and
+   digest. Answers: 1 to 7, 26, 8, 0. Changes nothing. */
+WALNUT_MUST_USE walnut_halved walnut_first_half(const uint8_t *key, size_t kn, const uint8_t *digest, size_t dn);
+
+/* The second half takes what walnut_first_half gave, or a half of the caller's own, and a word. For a half that
+   walnut_first_half gave with 0, the answer is that of walnut_verify. Answers: 17, 4, 6, 26 for the half, then 9 to 14,
+   or 0 for yes. Changes nothing. */
+WALNUT_MUST_USE uint8_t walnut_second_half(walnut_half half, const uint8_t *word, size_t n);
 
 /* Does the word cloak for the list? It does if, multiplied into the identity matrix with that list under the key's
    T-values, it gives the same matrix and list back. Answers: 1 to 7, 26, 25, 9, 10, 11, 12, 13, 0. Changes nothing. */

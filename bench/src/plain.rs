@@ -1,5 +1,5 @@
-//! The key reader, the verdict, cloaking, the lent multiplier, the rewriter, free reduction and crossings in plain
-//! Rust, as one would write them by hand: for the library's times to stand beside.
+//! The key reader, the verdict whole and by halves, cloaking, the lent multiplier, the rewriter, free reduction and
+//! crossings in plain Rust, as one would write them by hand: for the library's times to stand beside.
 
 use std::hint::black_box;
 
@@ -279,6 +279,66 @@ pub fn verify(key: &[u8], digest: &[u8], word: &[u8]) -> Result<(), u8> {
     match key.len() {
         83 => verify_over(&SMALL, key, digest, word),
         128 => verify_over(&LARGE, key, digest, word),
+        _ => Err(1),
+    }
+}
+
+/// What the first half of a verdict gives and the second takes.
+struct Half {
+    t_values: Eight,
+    pair: Pair,
+    target: Matrix,
+}
+
+fn first_half<const SIZE: usize>(table: &Table<SIZE>, key: &[u8], digest: &[u8]) -> Result<Half, u8> {
+    let Key { t_values, pair, second } = read_key(table, key)?;
+    if digest.len() != if SIZE == 32 { 32 } else { 64 } {
+        return Err(8);
+    }
+    let braid = halves(digest).flat_map(half_byte_braid);
+    let encoded = Pair::with_labels(ORDER).carried(table, &t_values, braid);
+    Ok(Half { t_values, pair, target: matrix_product(table, &encoded.matrix, &second) })
+}
+
+fn second_half<const SIZE: usize>(table: &Table<SIZE>, half: &Half, word: &[u8]) -> Result<(), u8> {
+    let Half { t_values, pair, target } = half;
+    let entries = pair.matrix.as_flattened().iter().chain(target.as_flattened());
+    if t_values.iter().chain(entries).any(|number| usize::from(*number) >= SIZE) {
+        return Err(17);
+    }
+    if t_values.contains(&0) {
+        return Err(4);
+    }
+    if !is_order(&pair.labels) {
+        return Err(6);
+    }
+    if !is_invertible(table, pair.matrix) || !is_invertible(table, *target) {
+        return Err(26);
+    }
+    let letters = read_word(word)?;
+    if pair.clone().carried(table, t_values, letters).matrix == *target {
+        Ok(())
+    } else {
+        Err(14)
+    }
+}
+
+fn by_halves_over<const SIZE: usize>(
+    table: &Table<SIZE>,
+    key: &[u8],
+    digest: &[u8],
+    words: &[Vec<u8>],
+) -> Result<u32, u8> {
+    let half = first_half(table, key, digest)?;
+    let second = |word: &Vec<u8>| second_half(table, black_box(&half), word).err().map_or(0, u32::from);
+    Ok(words.iter().map(second).sum())
+}
+
+/// The sum of the second half's answers to the words.
+pub fn by_halves(key: &[u8], digest: &[u8], words: &[Vec<u8>]) -> Result<u32, u8> {
+    match key.len() {
+        83 => by_halves_over(&SMALL, key, digest, words),
+        128 => by_halves_over(&LARGE, key, digest, words),
         _ => Err(1),
     }
 }

@@ -11,6 +11,8 @@ extern "C" {
         word: *const u8,
         wn: usize,
     ) -> u8;
+    fn plain_first_half(key: *const u8, kn: usize, digest: *const u8, dn: usize) -> u8;
+    fn plain_second_half(word: *const u8, wn: usize) -> u8;
     fn plain_cloaks(
         key: *const u8,
         kn: usize,
@@ -34,7 +36,7 @@ extern "C" {
 }
 
 // The pointers come from slices that live through the call, each with its own length; the tables are filled
-// before anything reads them, on one thread.
+// before anything reads them, on one thread, and so is the half that is held.
 
 pub fn tables() {
     // SAFETY: see above.
@@ -50,6 +52,17 @@ pub fn verify(key: &[u8], digest: &[u8], word: &[u8]) -> u8 {
     let (file, bytes) = (key.as_ptr(), key.len());
     // SAFETY: see above.
     unsafe { plain_verify(file, bytes, digest.as_ptr(), digest.len(), word.as_ptr(), word.len()) }
+}
+
+/// The refusal of the first half, or the sum of the second's answers to the words.
+pub fn by_halves(key: &[u8], digest: &[u8], words: &[Vec<u8>]) -> u32 {
+    // SAFETY: see above.
+    let second = |word: &Vec<u8>| u32::from(unsafe { plain_second_half(word.as_ptr(), word.len()) });
+    // SAFETY: see above.
+    match unsafe { plain_first_half(key.as_ptr(), key.len(), digest.as_ptr(), digest.len()) } {
+        0 => words.iter().map(second).sum(),
+        answer => answer.into(),
+    }
 }
 
 pub fn cloaks(key: &[u8], labels: &[u8], word: &[u8], by_columns: bool) -> u32 {

@@ -2,6 +2,7 @@
 
 use std::hint::black_box;
 
+use reference::letter::codes_of;
 use reference::pair::carried;
 use reference::rewrite::Move;
 use reference::start;
@@ -31,6 +32,10 @@ const MOVES: usize = 4_096;
 /// The keys that are read in one piece of work.
 const KEYS: usize = 100;
 
+/// The copies of a slip that are judged in one piece of work, and the moves that each was rewritten by.
+const COPIES: usize = 100;
+const COPY_MOVES: usize = 100;
+
 /// Who does the work.
 #[derive(Clone, Copy, PartialEq, Eq)]
 pub enum Who {
@@ -44,6 +49,12 @@ pub const ALL: [Who; 3] = [Who::Library, Who::Rust, Who::C];
 /// One piece of work, with its inputs.
 pub enum Work {
     Verdict(Slip),
+    /// One digest and many words, whose verdicts are whole or by halves.
+    Copies {
+        slip: Slip,
+        words: Vec<Vec<u8>>,
+        halved: bool,
+    },
     Cloaking {
         key: Vec<u8>,
         word: Vec<u8>,
@@ -101,6 +112,32 @@ fn key_answer(file: &[u8], who: Who) -> u32 {
     }
 }
 
+/// The verdict on a slip with this word in the place of its own.
+fn verdict(who: Who, slip: &Slip, word: &[u8]) -> u32 {
+    let Slip { key, digest, .. } = slip;
+    match who {
+        Who::Library => number(walnut::verify(key, digest, word).map_err(Refusal::number)),
+        Who::Rust => number(plain::verify(key, digest, word)),
+        Who::C => u32::from(plain_c::verify(key, digest, word)),
+    }
+}
+
+/// The sum of the verdicts on a slip with each of these words, by halves: one first half serves all.
+fn by_halves(who: Who, slip: &Slip, words: &[Vec<u8>]) -> u32 {
+    let Slip { key, digest, .. } = slip;
+    match who {
+        Who::Library => match walnut::first_half(key, digest) {
+            Ok(half) => {
+                let second = |word: &Vec<u8>| walnut::second_half(black_box(&half), word);
+                words.iter().map(|word| number(second(word).map_err(Refusal::number))).sum()
+            }
+            Err(refusal) => refusal.number().into(),
+        },
+        Who::Rust => plain::by_halves(key, digest, words).unwrap_or_else(u32::from),
+        Who::C => plain_c::by_halves(key, digest, words),
+    }
+}
+
 /// A pair's matrix, row by row, and then its labels.
 fn by_rows(pair: &walnut::Pair) -> [u8; 72] {
     std::array::from_fn(|at| match at {
@@ -130,14 +167,10 @@ impl Work {
     /// Does the work once into an output of 5,002 bytes: its number, and how many bytes it wrote.
     pub fn run(&self, who: Who, out: &mut [u8]) -> (u32, usize) {
         match (self, who) {
-            (Work::Verdict(slip), Who::Library) => {
-                (number(walnut::verify(&slip.key, &slip.digest, &slip.word).map_err(Refusal::number)), 0)
-            }
-            (Work::Verdict(slip), Who::Rust) => {
-                (number(plain::verify(&slip.key, &slip.digest, &slip.word)), 0)
-            }
-            (Work::Verdict(slip), Who::C) => {
-                (u32::from(plain_c::verify(&slip.key, &slip.digest, &slip.word)), 0)
+            (Work::Verdict(slip), who) => (verdict(who, slip, &slip.word), 0),
+            (Work::Copies { slip, words, halved: true }, who) => (by_halves(who, slip, words), 0),
+            (Work::Copies { slip, words, .. }, who) => {
+                (words.iter().map(|word| verdict(who, slip, word)).sum(), 0)
             }
             (Work::Cloaking { key, word, .. }, Who::Library) => {
                 (cloaking_number(walnut::cloaks(key, &ORDER, word).map_err(Refusal::number)), 0)
@@ -208,6 +241,14 @@ fn slip(random: &mut Random, field: Field, letters: usize) -> Work {
     Work::Verdict(accepted(random, field, &codes))
 }
 
+/// An accepted slip of a typical word, and copies of the word that were rewritten by moves of all kinds.
+fn copies(random: &mut Random, halved: bool) -> Work {
+    let codes = random.tangled_word(typical(Field::Gf32));
+    let slip = accepted(random, Field::Gf32, &codes);
+    let copy = |_| word_file(&codes_of(&random.walk(&codes, COPY_MOVES).word));
+    Work::Copies { slip, words: (0..COPIES).map(copy).collect(), halved }
+}
+
 /// A word of 10,000 letters that cloaks: 5,000 letters, and the way back. The C goes over rows of bytes, or over
 /// columns of 64 bits as the library does.
 fn cloaking(random: &mut Random, field: Field, by_columns: bool) -> Work {
@@ -265,7 +306,7 @@ fn reduction(random: &mut Random, letters: usize) -> Work {
 }
 
 /// How many cases there are.
-pub const CASES: usize = 17;
+pub const CASES: usize = 19;
 
 /// The case of a number, the same in every run.
 pub fn case(number: usize) -> Case {
@@ -290,7 +331,9 @@ pub fn case(number: usize) -> Case {
         13 => ("a key of zeros refused", KEYS, zero_keys(random)),
         14 => ("256: a key read", KEYS, keys(random, large)),
         15 => ("lent multiplier, a letter", typical(small), multiplying(random, typical(small))),
-        _ => ("28 crossings, 10,000 letters", 1, Work::Crossings { word: word_file(&random.word(LONGEST)) }),
+        16 => ("28 crossings, 10,000 letters", 1, Work::Crossings { word: word_file(&random.word(LONGEST)) }),
+        17 => ("100 copies, by halves", 1, copies(random, true)),
+        _ => ("100 copies, whole", 1, copies(random, false)),
     };
     Case { name, parts, work }
 }

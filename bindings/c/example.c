@@ -1,4 +1,5 @@
-/* Worked slips: fields, words, pairs, keys, moves, crossings, cloaking and the verdict, at both strengths. */
+/* Worked slips: fields, words, pairs, keys, moves, crossings, cloaking and the verdict, whole and in halves, at both
+   strengths. */
 #include <stdio.h>
 #include <string.h>
 
@@ -100,6 +101,10 @@ static int larger_field(void)
     memset(signature + 2, 0x66, 128);
     printf("plain key, 64 zero bytes, 01 00 and 128 bytes of 66: answer %u\n",
            walnut_verify(key, sizeof key, digest, sizeof digest, signature, sizeof signature));
+    walnut_halved made = walnut_first_half(key, sizeof key, digest, sizeof digest);
+    if (made.answer != 0)
+        return 1;
+    printf("the same by halves: answer %u\n", walnut_second_half(made.half, signature, sizeof signature));
     printf("plain key, 64 zero bytes, 00 00: answer %u\n",
            walnut_verify(key, sizeof key, digest, sizeof digest, none, sizeof none));
     printf("plain key, 32 zero bytes: answer %u\n",
@@ -207,6 +212,28 @@ static void verdicts(const uint8_t key[WALNUT_KEY_BYTES])
            walnut_verify(key, WALNUT_KEY_BYTES, digest, sizeof digest, none, sizeof none));
 }
 
+/* Several copies of a slip: the digest is encoded once, by the first half. */
+static int copies(const uint8_t key[WALNUT_KEY_BYTES])
+{
+    const uint8_t digest[WALNUT_DIGEST_BYTES] = {0}, none[2] = {0x00, 0x00}, insert[5] = {0, 1, 0, 0, 16};
+    walnut_halved made = walnut_first_half(key, WALNUT_KEY_BYTES, digest, sizeof digest);
+    uint8_t signature[66] = {0x00, 0x80};
+    memset(signature + 2, 0x66, 64);
+    walnut_written written =
+        walnut_rewrite(signature, sizeof signature, insert, sizeof insert, out, sizeof out);
+    if (made.answer != 0 || written.answer != 0)
+        return 1;
+    printf("plain key, zero digest, three copies by halves:\n");
+    printf("00 80 and 64 bytes of 66: answer %u\n", walnut_second_half(made.half, signature, sizeof signature));
+    printf("the same with kind 16 at place 0: answer %u\n", walnut_second_half(made.half, out, written.bytes));
+    printf("00 00: answer %u\n", walnut_second_half(made.half, none, sizeof none));
+    memset(made.half.target, 0, sizeof made.half.target);
+    printf("a half with a target of zeros: answer %u\n",
+           walnut_second_half(made.half, signature, sizeof signature));
+    printf("a half of 31 zero bytes: answer %u\n", walnut_first_half(key, WALNUT_KEY_BYTES, digest, 31).answer);
+    return 0;
+}
+
 int main(void)
 {
     uint8_t key[WALNUT_KEY_BYTES];
@@ -215,5 +242,5 @@ int main(void)
         return 1;
     crossings();
     verdicts(key);
-    return larger_field();
+    return copies(key) != 0 ? 1 : larger_field();
 }

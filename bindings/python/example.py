@@ -1,4 +1,5 @@
-"""Worked slips: fields, words, pairs, keys, moves, crossings, cloaking and the verdict, at both strengths."""
+"""Worked slips: fields, words, pairs, keys, moves, crossings, cloaking and the verdict, whole and in halves, at both
+strengths."""
 
 import walnut
 from walnut import GF32, GF256
@@ -89,6 +90,17 @@ signature = bytes.fromhex("00 80") + bytes([0x66]) * 64
 print("plain key, zero digest, 00 80 and 64 bytes of 66: answer", answer_of(walnut.verify, key, bytes(32), signature))
 print("plain key, zero digest, 00 00: answer", walnut.verdict(key, bytes(32), bytes(2)))
 
+# several copies of a slip: the digest is encoded once, by the first half
+half = walnut.first_half(key, bytes(32))
+rewritten = walnut.rewrite(signature, [(0, walnut.insert("b1"))])
+print("plain key, zero digest, three copies by halves:")
+print("00 80 and 64 bytes of 66: answer", answer_of(walnut.second_half, half, signature))
+print("the same with kind 16 at place 0: answer", answer_of(walnut.second_half, half, rewritten))
+print("00 00: answer", answer_of(walnut.second_half, half, bytes(2)))
+blank = walnut.Half(half.field, half.t_values, half.pair, bytes(64))
+print("a half with a target of zeros: answer", answer_of(walnut.second_half, blank, signature))
+print("a half of 31 zero bytes: answer", answer_of(walnut.first_half, key, bytes(31)))
+
 # the same over the field with 256 elements
 print("over 256 elements 128 x 2 =", walnut.product(GF256, 128, 2))
 print("16 x 2 =", walnut.product(GF256, 16, 2))
@@ -109,5 +121,7 @@ print("128 bytes with q = 32: answer", answer_of(walnut.read_key, key[:1] + byte
 
 signature = bytes.fromhex("01 00") + bytes([0x66]) * 128
 print("plain key, 64 zero bytes, 01 00 and 128 bytes of 66: answer", walnut.verdict(key, bytes(64), signature))
+half = walnut.first_half(key, bytes(64))
+print("the same by halves: answer", answer_of(walnut.second_half, half, signature))
 print("plain key, 64 zero bytes, 00 00: answer", answer_of(walnut.verify, key, bytes(64), bytes(2)))
 print("plain key, 32 zero bytes: answer", walnut.verdict(key, bytes(32), signature))

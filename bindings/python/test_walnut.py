@@ -10,7 +10,7 @@ import sys
 import unittest
 
 import walnut
-from walnut import GF32, GF256, Answer, Key, Pair, Refusal
+from walnut import GF32, GF256, Answer, Half, Key, Pair, Refusal
 
 T_VALUES = [1, 1, 2, 3, 4, 5, 6, 7]
 SEVEN = "b1 b2^-1 b3 b4 b5^-1 b6 b7^-1"
@@ -49,6 +49,23 @@ class Verdicts(Case):
             for number, slip in files + [(9, (key, digest, b"")), (1, (b"", b"", b""))]:
                 self.refused(number, walnut.verify, *slip)
                 self.assertEqual(walnut.verdict(*slip), number)
+
+    def test_halves_judge_copies_as_the_verdict_does(self):
+        for field in (GF32, GF256):
+            key, digest = plain_key(field), bytes(field.digest_bytes)
+            half, start = walnut.first_half(key, digest), Pair.start()
+            self.assertEqual((half.field, list(half.t_values), half.pair), (field, T_VALUES, start))
+            word = (4 * len(digest)).to_bytes(2, "big") + b"\x66" * (2 * len(digest))
+            self.assertIsNone(walnut.second_half(half, word))
+            for copied in (bytes(2), b"\0", bytes([0, 1, 0x70]), SEVEN_FILE):
+                self.refused(walnut.verdict(key, digest, copied), walnut.second_half, half, copied)
+            self.assertIsNone(walnut.second_half(Half(field, T_VALUES, start, start.matrix), bytes(2)))
+            self.refused(26, walnut.second_half, Half(field, T_VALUES, start, bytes(64)), b"")
+            self.refused(4, walnut.second_half, Half(field, bytes(8), start, bytes(64)), b"")
+            self.refused(1, walnut.first_half, key[1:], digest)
+            self.refused(8, walnut.first_half, key, digest[1:])
+        self.raised(ValueError, "target: 64 numbers are needed, not 63", Half, GF32, T_VALUES, Pair.start(), bytes(63))
+        self.raised(TypeError, "half: a Half is needed, not bytes", walnut.second_half, bytes(64), bytes(2))
 
     def test_any_kind_of_bytes(self):
         key, digest, word = plain_key(GF32), bytes(32), b"\x00\x80" + b"\x66" * 64
@@ -212,7 +229,7 @@ class Inputs(Case):
 class Values(Case):
     def test_reprs_read_back(self):
         key = walnut.read_key(plain_key(GF256))
-        for value in (Pair.start(), key, GF32, Refusal(14)):
+        for value in (Pair.start(), key, walnut.first_half(plain_key(GF32), bytes(32)), GF32, Refusal(14)):
             again = eval(repr(value), {"walnut": walnut})
             self.assertEqual(repr(again), repr(value))
         self.assertEqual(eval(repr(key), {"walnut": walnut}), key)
@@ -220,7 +237,8 @@ class Values(Case):
         self.assertIsInstance(key, Key)
 
     def test_values_pickle(self):
-        for value in (Pair.start(), walnut.read_key(plain_key(GF32)), GF256):
+        half = walnut.first_half(plain_key(GF256), bytes(64))
+        for value in (Pair.start(), walnut.read_key(plain_key(GF32)), half, GF256):
             self.assertEqual(pickle.loads(pickle.dumps(value)), value)
 
     def test_a_library_that_is_not_there(self):

@@ -91,6 +91,19 @@ class _Key(Structure):
     ]
 
 
+class _Half(Structure):
+    """The first half of a verdict: the field, the T-values, the pair Pub(S), and `target`, the matrix that a signature
+    must reach."""
+
+    _fields_ = [("large", c_bool), ("t_values", c_uint8 * 8), ("pair", _Pair), ("target", c_uint8 * 64)]
+
+
+class _Halved(Structure):
+    """A half. On a refusal its field is the one with 32 elements, and all its numbers are 0."""
+
+    _fields_ = [("answer", c_uint8), ("half", _Half)]
+
+
 # of each exported function: what it gives, then what it takes
 _FUNCTIONS: Any = {
     "walnut_product": (_Element, c_bool, c_uint8, c_uint8),
@@ -106,6 +119,8 @@ _FUNCTIONS: Any = {
     "walnut_free_reduce": (_Written, c_char_p, c_size_t, POINTER(c_uint8), c_size_t),
     "walnut_rewrite": (_Written, c_char_p, c_size_t, c_char_p, c_size_t, POINTER(c_uint8), c_size_t),
     "walnut_verify": (c_uint8, c_char_p, c_size_t, c_char_p, c_size_t, c_char_p, c_size_t),
+    "walnut_first_half": (_Halved, c_char_p, c_size_t, c_char_p, c_size_t),
+    "walnut_second_half": (c_uint8, _Half, c_char_p, c_size_t),
     "walnut_cloaks": (_Cloak, c_char_p, c_size_t, c_char_p, c_size_t, c_char_p, c_size_t),
     "walnut_crossings": (_Crossing, c_char_p, c_size_t, c_uint8, c_uint8),
 }
@@ -201,7 +216,7 @@ TEXTS = {
     23: "the letters at the move's place do not match this kind of move",
     24: "an insertion would leave more than 10,000 letters",
     25: "the list to cloak for is not 8 bytes, 0 to 7 each once",
-    26: "a matrix of the key has no inverse",
+    26: "a matrix of the key, or of a half, has no inverse",
     27: "a label is over 7, or both labels are equal",
     # answers.txt: end
 }
@@ -445,9 +460,13 @@ class Pair:
     def _of(cls, pair: _Pair) -> "Pair":
         return cls(bytes(pair.matrix), bytes(pair.labels))
 
+    def _lent(self) -> _Pair:
+        matrix, labels = _fixed(self.matrix, 64, "matrix"), _fixed(self.labels, 8, "labels")
+        return _Pair((c_uint8 * 64)(*matrix), (c_uint8 * 8)(*labels))
+
     def multiply(self, field: Field, t_values: Bytes, letter: Letter) -> None:
         """Multiplies a letter into the pair, over a field. On a refusal the pair is as it was."""
-        lent = _Pair((c_uint8 * 64)(*self.matrix), (c_uint8 * 8)(*self.labels))
+        lent = self._lent()
         _granted(_lib.walnut_multiply(lent, _large(field), _fixed(t_values, 8, "t_values"), letter_code(letter)))
         self.matrix, self.labels = bytes(lent.matrix), bytes(lent.labels)
 
@@ -480,6 +499,31 @@ class Key:
 
     def __repr__(self) -> str:
         return f"walnut.Key({self.field!r}, {_shown(self.t_values)}, {self.pair!r}, {_shown(self.second)})"
+
+
+class Half:
+    """What several copies of a slip are judged by, the verdict's first half: the key's field, its T-values, the pair
+    Pub(S), and the target, the matrix that a signature must reach."""
+
+    def __init__(self, field: Field, t_values: Bytes, pair: Pair, target: Bytes) -> None:
+        self.field = field
+        self.t_values = _fixed(t_values, 8, "t_values")
+        self.pair = pair
+        self.target = _fixed(target, 64, "target")
+
+    def _lent(self) -> _Half:
+        t_values, target = _fixed(self.t_values, 8, "t_values"), _fixed(self.target, 64, "target")
+        return _Half(_large(self.field), (c_uint8 * 8)(*t_values), self.pair._lent(), (c_uint8 * 64)(*target))
+
+    def __eq__(self, other: object) -> bool:
+        if not isinstance(other, Half):
+            return NotImplemented
+        return vars(self) == vars(other)
+
+    __hash__ = None  # type: ignore[assignment]
+
+    def __repr__(self) -> str:
+        return f"walnut.Half({self.field!r}, {_shown(self.t_values)}, {self.pair!r}, {_shown(self.target)})"
 
 
 def _shown(data: bytes) -> str:
@@ -563,6 +607,22 @@ def verify(key: Bytes, digest: Bytes, word: Bytes) -> None:
 def verdict(key: Bytes, digest: Bytes, word: Bytes) -> int:
     """The verdict's number: 0 where verify returns, else the refusal's. As a condition it is true on a failure."""
     return _lib.walnut_verify(*_slices(key=key, digest=digest, word=word))
+
+
+def first_half(key: Bytes, digest: Bytes) -> Half:
+    """The first half of the verdict, for several copies of a slip: the digest is encoded once."""
+    halved = _lib.walnut_first_half(*_slices(key=key, digest=digest))
+    half = halved.half
+    field = GF256 if half.large else GF32
+    return _granted(halved.answer, Half(field, bytes(half.t_values), Pair._of(half.pair), bytes(half.target)))
+
+
+def second_half(half: Half, word: Bytes) -> None:
+    """The second half: with what first_half gave, verify for this word. A half of the caller's own is asked 17, 4, 6 and
+    26 first."""
+    if not isinstance(half, Half):
+        raise TypeError(f"half: a Half is needed, not {type(half).__name__}")
+    _granted(_lib.walnut_second_half(half._lent(), *_slices(word=word)))
 
 
 def cloaks(key: Bytes, labels: Bytes, word: Bytes) -> bool:

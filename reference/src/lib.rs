@@ -1,5 +1,5 @@
 //! A second, independent road to the operations of document 01 ("Loan-slip signatures: braid words, keys and
-//! moves") and of document 02's sections 1, 2 and 7, to run beside another implementation.
+//! moves") and of document 02's sections 1, 2, 4 and 7, to run beside another implementation.
 //!
 //! It is written for plainness, not speed, and takes another way wherever there is one:
 //!
@@ -15,6 +15,8 @@
 //! - a move splices other letters into a run of letters, and the next one starts from what it left
 //!   ([`rewrite`](mod@rewrite));
 //! - how often two strands cross is found by following these two alone, without a list of labels ([`crossing`]);
+//! - the halves of a verdict work both sides out otherwise than the whole verdict: the target half byte by half byte,
+//!   and the signature's letters from the identity matrix ([`half`]);
 //! - the questions stand in lists, in the paper's order, and the answer is the number of the first one
 //!   answered no ([`questions`]).
 //!
@@ -22,7 +24,7 @@
 //! returned numbers, keys and pairs are zeros, and a yes or no is no.
 //!
 //! The functions that mirror the exported interface are gathered here; each layer's own definitions stand in
-//! its module. The [`verdict`], the rewriter, [`cloak`] and [`reduce`] stand above [`pair`], [`key`],
+//! its module. The [`verdict`], its halves, the rewriter, [`cloak`] and [`reduce`] stand above [`pair`], [`key`],
 //! [`digest`] and [`word`], and the [`desk`] above the verdict. What tests need besides, such as matrices of a
 //! chosen rank, slips that the verdict accepts and move lists that the rewriter accepts, is in [`testkit`].
 
@@ -32,6 +34,7 @@ pub mod crossing;
 pub mod desk;
 pub mod digest;
 pub mod field;
+pub mod half;
 pub mod key;
 pub mod letter;
 pub mod matrix;
@@ -47,6 +50,7 @@ pub use cloak::{cloaks, Cloak};
 pub use crossing::{crossings, Crossing};
 pub use digest::encode_digest;
 pub use field::{product, reciprocal, Element, Field};
+pub use half::{first_half, second_half, Half, Halved};
 pub use key::{file_entries, read_key, write_key, Key};
 pub use matrix::{matrix_product, Matrix};
 pub use pair::{multiply, start, Pair};

@@ -18,11 +18,10 @@ fn target(key: &Key, digest: &[u8]) -> Matrix {
     matrix_product(key.field, &reached, &key.second)
 }
 
-/// The answer of the verdict's own question on an accepted key, digest and word: 14, or 0. Lists are not
-/// compared.
-fn equality_answer(key: &Key, digest: &[u8], word: &[u8]) -> u8 {
-    let matrices = [signed(key, &letters(word)), target(key, digest)];
-    first_no(&[(14, |matrices: &[Matrix; 2]| matrices[0] == matrices[1])], &matrices)
+/// The answer of the verdict's own question, on the matrix that the signature reaches and the target: 14, or 0. Lists
+/// are not compared.
+pub fn equality_answer(reached: Matrix, target: Matrix) -> u8 {
+    first_no(&[(14, |matrices: &[Matrix; 2]| matrices[0] == matrices[1])], &[reached, target])
 }
 
 /// The verdict on a slip, over the key's field. Answers: the key's 1 to 7 and 26, the digest's 8, the word's 9 to 13,
@@ -30,7 +29,7 @@ fn equality_answer(key: &Key, digest: &[u8], word: &[u8]) -> u8 {
 pub fn verify(key: &[u8], digest: &[u8], word: &[u8]) -> u8 {
     let key = read_key(key);
     match first_refusal(&[key.answer, digest_answer(key.field, digest), word_answer(word)]) {
-        0 => equality_answer(&key, digest, word),
+        0 => equality_answer(signed(&key, &letters(word)), target(&key, digest)),
         answer => answer,
     }
 }

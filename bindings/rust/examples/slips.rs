@@ -1,4 +1,5 @@
-//! Worked slips: fields, words, pairs, keys, moves, crossings, cloaking and the verdict, at both strengths.
+//! Worked slips: fields, words, pairs, keys, moves, crossings, cloaking and the verdict, whole and in halves, at both
+//! strengths.
 
 use std::error::Error;
 
@@ -129,6 +130,24 @@ fn verdicts(key: &[u8]) -> Result<(), Box<dyn Error>> {
     Ok(())
 }
 
+/// Several copies of a slip: the digest is encoded once, by the first half.
+fn copies(key: &[u8]) -> Result<(), Box<dyn Error>> {
+    let half = walnut::first_half(key, &[0; DIGEST_BYTES])?;
+    let mut signature = vec![0x00, 0x80];
+    signature.resize(66, 0x66);
+    let mut out = [0; WORD_BYTES];
+    let insertion = Moves::new().insert(0, "b1".parse::<Letter>()?);
+    let rewritten = walnut::rewrite(&signature, &insertion.file(), &mut out)?;
+    println!("plain key, zero digest, three copies by halves:");
+    println!("00 80 and 64 bytes of 66: answer {}", answer(walnut::second_half(&half, &signature)));
+    println!("the same with kind 16 at place 0: answer {}", answer(walnut::second_half(&half, rewritten)));
+    println!("00 00: answer {}", answer(walnut::second_half(&half, &[0, 0])));
+    let blank = walnut::Half { target: [0; 64], ..half };
+    println!("a half with a target of zeros: answer {}", answer(walnut::second_half(&blank, &signature)));
+    println!("a half of 31 zero bytes: answer {}", answer(walnut::first_half(key, &[0; 31])));
+    Ok(())
+}
+
 /// The same over the field with 256 elements.
 fn larger_field() -> Result<(), Refusal> {
     println!("over 256 elements 128 x 2 = {}", walnut::product(Gf256, 128, 2)?);
@@ -155,6 +174,8 @@ fn larger_field() -> Result<(), Refusal> {
     signature.resize(130, 0x66);
     let verdict = walnut::verify(&key, &[0; 64], &signature);
     println!("plain key, 64 zero bytes, 01 00 and 128 bytes of 66: answer {}", answer(verdict));
+    let half = walnut::first_half(&key, &[0; 64])?;
+    println!("the same by halves: answer {}", answer(walnut::second_half(&half, &signature)));
     println!("plain key, 64 zero bytes, 00 00: answer {}", answer(walnut::verify(&key, &[0; 64], &[0, 0])));
     println!("plain key, 32 zero bytes: answer {}", answer(walnut::verify(&key, &[0; 32], &signature)));
     Ok(())
@@ -166,6 +187,7 @@ fn main() -> Result<(), Box<dyn Error>> {
     moves()?;
     crossings()?;
     verdicts(&key)?;
+    copies(&key)?;
     larger_field()?;
     Ok(())
 }

@@ -61,6 +61,25 @@ pub struct Key {
     pub second: [u8; 64],
 }
 
+/// The first half of a verdict: the field, the T-values, the pair Pub(S), and `target`, the matrix that a signature
+/// must reach.
+#[repr(C)]
+#[derive(Clone, Copy, Debug, PartialEq, Eq)]
+pub struct Half {
+    pub large: bool,
+    pub t_values: [u8; 8],
+    pub pair: Pair,
+    pub target: [u8; 64],
+}
+
+/// A half. On a refusal its field is the one with 32 elements, and all its numbers are 0.
+#[repr(C)]
+#[derive(Clone, Copy, Debug, PartialEq, Eq)]
+pub struct Halved {
+    pub answer: u8,
+    pub half: Half,
+}
+
 extern "C" {
     pub fn walnut_product(large: bool, a: u8, b: u8) -> Element;
     pub fn walnut_reciprocal(large: bool, a: u8) -> Element;
@@ -97,6 +116,8 @@ extern "C" {
         word: *const u8,
         wn: usize,
     ) -> u8;
+    pub fn walnut_first_half(key: *const u8, kn: usize, digest: *const u8, dn: usize) -> Halved;
+    pub fn walnut_second_half(half: Half, word: *const u8, n: usize) -> u8;
     pub fn walnut_cloaks(
         key: *const u8,
         kn: usize,

@@ -79,6 +79,16 @@ pub struct Key {
     pub second: [u8; 64],
 }
 
+/// What several copies of a slip are judged by, the verdict's first half: the key's field, its T-values, the pair
+/// Pub(S), and the target, the matrix that a signature must reach.
+#[derive(Clone, Copy, Debug, PartialEq, Eq)]
+pub struct Half {
+    pub field: Field,
+    pub t_values: [u8; 8],
+    pub pair: Pair,
+    pub target: [u8; 64],
+}
+
 // In every function below the pointers come from references and slices that live through the call, each with its
 // own length, and what is written is lent uniquely. The exported functions take any bytes.
 
@@ -196,6 +206,24 @@ pub fn verify(key: &[u8], digest: &[u8], word: &[u8]) -> Result<(), Refusal> {
     let answer =
         unsafe { walnut_verify(file, bytes, digest.as_ptr(), digest.len(), word.as_ptr(), word.len()) };
     granted(answer, ())
+}
+
+/// The first half of the verdict, for several copies of a slip: the digest is encoded once.
+pub fn first_half(key: &[u8], digest: &[u8]) -> Result<Half, Refusal> {
+    // SAFETY: see above.
+    let halved = unsafe { walnut_first_half(key.as_ptr(), key.len(), digest.as_ptr(), digest.len()) };
+    let half = halved.half;
+    let field = Field::named(half.large);
+    granted(halved.answer, Half { field, t_values: half.t_values, pair: half.pair, target: half.target })
+}
+
+/// The second half: with what [`first_half`] gave, [`verify`] for this word. A half of the caller's own is asked 17, 4,
+/// 6 and 26 first.
+pub fn second_half(half: &Half, word: &[u8]) -> Result<(), Refusal> {
+    let Half { field, t_values, pair, target } = *half;
+    let half = exported::Half { large: field.large(), t_values, pair, target };
+    // SAFETY: see above.
+    granted(unsafe { walnut_second_half(half, word.as_ptr(), word.len()) }, ())
 }
 
 /// Does the word cloak for the list under the key's T-values, over the key's field?

@@ -32,7 +32,7 @@ fn text(number: u8) -> &'static str {
         23 => "the letters at the move's place do not match this kind of move",
         24 => "an insertion would leave more than 10,000 letters",
         25 => "the list to cloak for is not 8 bytes, 0 to 7 each once",
-        26 => "a matrix of the key has no inverse",
+        26 => "a matrix of the key, or of a half, has no inverse",
         27 => "a label is over 7, or both labels are equal",
         // answers.txt: end
         _ => "an answer that this binding does not know",
@@ -96,7 +96,7 @@ impl Refusal {
     pub const WORD_FULL: Refusal = Refusal(24);
     /// The list to cloak for is not 8 bytes, 0 to 7 each once.
     pub const LIST: Refusal = Refusal(25);
-    /// A matrix of the key has no inverse.
+    /// A matrix of the key, or of a half, has no inverse.
     pub const NO_INVERSE: Refusal = Refusal(26);
     /// A label is over 7, or both labels are equal.
     pub const TWO_LABELS: Refusal = Refusal(27);

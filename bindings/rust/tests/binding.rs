@@ -45,6 +45,28 @@ fn verdicts_are_results() {
 }
 
 #[test]
+fn halves_judge_copies_as_the_verdict_does() {
+    for field in [Gf32, Gf256] {
+        let (key, digest) = (plain_key(field), vec![0; field.digest_bytes()]);
+        let half = walnut::first_half(&key, &digest).unwrap();
+        assert_eq!((half.field, half.t_values, half.pair), (field, T_VALUES, Pair::start()));
+        let mut signature = u16::try_from(4 * digest.len()).unwrap().to_be_bytes().to_vec();
+        signature.extend(vec![0x66; 2 * digest.len()]);
+        for copy in [&signature[..], &[0, 0], &[0], &[0, 1, 0x70], &SEVEN_FILE] {
+            assert_eq!(walnut::second_half(&half, copy), walnut::verify(&key, &digest, copy));
+        }
+        let own = walnut::Half { target: half.pair.matrix, ..half };
+        assert_eq!(walnut::second_half(&own, &[0, 0]), Ok(()));
+        let blank = walnut::Half { target: [0; 64], ..half };
+        assert_eq!(walnut::second_half(&blank, &[]), Err(Refusal::NO_INVERSE));
+        let zero = walnut::Half { t_values: [0; 8], ..blank };
+        assert_eq!(walnut::second_half(&zero, &[]), Err(Refusal::ZERO));
+        assert_eq!(walnut::first_half(&key[1..], &digest), Err(Refusal::KEY_LENGTH));
+        assert_eq!(walnut::first_half(&key, &digest[1..]), Err(Refusal::DIGEST_LENGTH));
+    }
+}
+
+#[test]
 fn refusals_are_errors_with_number_and_text() {
     let error: Box<dyn Error + Send + Sync> = Box::new(Refusal::MATRICES_DIFFER);
     assert!(error.to_string().starts_with("14: the matrices differ"));

@@ -1,11 +1,12 @@
-// The desk's reading and writing: bytes come in, and what `desk_line` and `desk_crossings` make of them goes out. They
-// decide too what is written where an input could not be read.
+// Reads the desk's input and writes its lines. `desk_line` and `desk_crossings` decide what is written, also where an
+// input could not be read.
 use desk_crossings::Text;
 use desk_line::Got;
 use desk_line::Line;
 use libc::STDERR_FILENO;
 use libc::STDIN_FILENO;
 use libc::STDOUT_FILENO;
+use slip_verdict::Halved;
 ghost use mathlib.Core.Path.{_≡_};
 ghost use mathlib.Core.Bool.{false};
 ghost use lib.ListN.{length};
@@ -100,15 +101,43 @@ fn desk_files() {
     tell(desk_line::files_line(&key, &digest, &word, k, d, w));
 }
 
-// The desk program: without arguments the slip on standard input, and with three names the slip in these files.
+// The line on a copy of a slip, whose signature is in the file that argument i names.
+fn desk_copy(made: Halved, i: usize) {
+    let mut word = [0u8; desk_line::WORD_ROOM];
+    let w = file(i, &mut word);
+    tell(desk_line::copy_line(made, &word, w));
+}
+
+// Copies of a slip: key and digest, read once, then n - 3 signatures. A line for each, and none where key or digest
+// could not be read.
+fn desk_copies(n: usize) {
+    let mut key = [0u8; desk_line::KEY_ROOM];
+    let mut digest = [0u8; desk_line::DIGEST_ROOM];
+    let k = file(1, &mut key);
+    let d = file(2, &mut digest);
+    if !desk_line::both(k.read, d.read) {
+        return;
+    }
+    let made = desk_line::first_half(&key, &digest, k, d);
+    let mut i = 3;
+    while i < n {
+        desk_copy(made, i);
+        i += 1;
+    }
+}
+
+// The desk program: without arguments the slip on standard input, with three names the slip in these files, and with
+// more the copies of a slip.
 pub fn desk() {
     let n = os::arg_count();
     if n < 2 {
         desk_input();
     } else if n == 4 {
         desk_files();
+    } else if 4 < n {
+        desk_copies(n);
     } else {
-        misused(b"desk takes three names of files, key, digest and signature, or none\n");
+        misused(b"desk takes names of files, key, digest and one or more signatures, or none\n");
     }
 }
 

@@ -1,3 +1,4 @@
 pub mod DeskLaws
+pub mod CopyLaws
 pub mod Enough
 pub mod WrongRooms

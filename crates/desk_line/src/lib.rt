@@ -4,10 +4,13 @@ ghost use Prim.Native.Nat.{_≤_};
 ghost use mathlib.Core.Path.{_≡_};
 ghost use mathlib.Core.Bool.{false, _&&_};
 ghost use lib.Dec.{eqb};
-ghost use lib.ListN.{length, replicate};
+ghost use lib.ListN.{length, take, replicate};
 ghost use Rattle.base.specs.Digits.{value, part as partOf};
 ghost use Rattle.desk_line.specs.Desk.{cutVerdict, deskVerdict, answerLine, inputLine, filesLine, Tells};
 ghost use Rattle.desk_line.specs.Desk.{EnoughOfInput, EnoughOfFiles};
+ghost use Rattle.desk_line.specs.Copies.{copyAnswer, GivesVerdicts, noAnswerLine, copyLine};
+ghost use Rattle.slip_verdict.specs.Halves.{MakesHalf};
+use slip_verdict::Halved;
 
 // The bytes of a key and of a digest, over GF(32) and over GF(256), and the most that a signature has.
 const KEY: usize = 83;
@@ -76,6 +79,28 @@ impl Line {
         Line {
             text: [0; 11],
             bytes: 0,
+        }
+    }
+
+    // "no answer", a line end.
+    fn no_answer() -> Line
+        ensures { λ r. ⌜ Tells noAnswerLine (r .bytes) (r .text) ⌝ }
+    {
+        Line {
+            text: [
+                b'n',
+                b'o',
+                b' ',
+                b'a',
+                b'n',
+                b's',
+                b'w',
+                b'e',
+                b'r',
+                b'\n',
+                0,
+            ],
+            bytes: 10,
         }
     }
 }
@@ -166,4 +191,45 @@ pub fn files_line(
         return Line::none();
     }
     answer_line(slip_verdict::verify(k_read, d_read, w_read))
+}
+
+// The first half of the verdict on a slip in files: what every copy of it is judged by.
+pub fn first_half(key: &[u8; KEY_ROOM], digest: &[u8; DIGEST_ROOM], k: Got, d: Got) -> Halved
+    ensures { λ r.
+        ⌜
+        MakesHalf (take (k .bytes) (now (key .entry))) (take (d .bytes) (now (digest .entry))) (r .answer) (r .half)
+        ⌝ }
+    ensures { λ _. ⌜ EnoughOfFiles (length (now (key .entry))) (length (now (digest .entry))) 5003 ⌝ }
+{
+    let k_n = k.bytes;
+    let d_n = d.bytes;
+    let k_read = text::part(key, 0, k_n);
+    let d_read = text::part(digest, 0, d_n);
+    slip_verdict::first_half(k_read, d_read)
+}
+
+// The answer to a copy: the first half's refusal, or the answer of the second.
+fn copy_answer(made: Halved, word: &[u8]) -> u8
+    ensures { λ r. ⌜ r ≡ copyAnswer made (now (word .entry)) ⌝ }
+{
+    let refusal = made.answer;
+    if refusal != 0 {
+        return refusal;
+    }
+    let half = made.half;
+    slip_verdict::second_half(half, word)
+}
+
+// The line on a copy, judged by its own bytes; "no answer" where it could not be read.
+pub fn copy_line(made: Halved, word: &[u8; WORD_ROOM], w: Got) -> Line
+    ensures { λ r. ⌜ Tells (copyLine made w (now (word .entry))) (r .bytes) (r .text) ⌝ }
+    ensures { λ _. ⌜ GivesVerdicts made ⌝ }
+    ensures { λ _. ⌜ EnoughOfFiles 129 65 (length (now (word .entry))) ⌝ }
+{
+    let n = w.bytes;
+    let w_read = text::part(word, 0, n);
+    if !w.read {
+        return Line::no_answer();
+    }
+    answer_line(copy_answer(made, w_read))
 }

@@ -1,7 +1,7 @@
-// The desk's verbs that write a new file: files come in, and what `desk_words` makes of them goes out. The first
-// argument is the verb. The second one is a name beside the new file's place: the file is written there, and takes its
-// own name when it is whole. Of each word one line tells its answer, after its file is in its place, and where that is
-// 0 a second one the sizes.
+// Writes a new file by a verb of the desk. `desk_words` decides what is written. The first argument is the verb. The
+// second one is a name beside the new file's place: the file is written there, and takes its own name when it is whole.
+// Of each word one line tells its answer, after its file is in its place. If the answer is 0, a second line tells the
+// sizes.
 use desk_line::Got;
 use desk_words::Made;
 ghost use Prim.Native.Nat.{_<_};

@@ -1,6 +1,6 @@
-// Prints the letters of a word file from standard input, in plain lines: the part that holds the codes; the letter at
-// each place, up to the first place where none is left and the place after it; and the second letter, by a reader of
-// words. The typed run has document 01's word of seven letters.
+// The letters of a word file, in plain lines, for the tests. Standard input is the file. The lines are the part that
+// holds the codes; the letter at each place, up to the first place where none is left and the place after it; and the
+// second letter, by a reader of words. The typed run has document 01's word of seven letters.
 use libc::STDIN_FILENO;
 use word::Letter;
 

@@ -1,4 +1,4 @@
-// Text on standard output: numbers in decimal, bytes in hexadecimal, and what an operation gives.
+// Text on standard output.
 use libc::STDOUT_FILENO;
 
 fn wide(x: u8) -> u64 {

@@ -52,31 +52,30 @@ braidOf-more hs k p =
     ∙ braidOf-append (take k hs) (getD hs k 0 ∷ [])
     ∙ ap (λ (w : List ℕ). braidOf (take k hs) ++ w) (append-nil (halfByteBraid (getD hs k 0)))
 
--- the braid of half bytes has at most 20 letters for each, and consists of letters
+-- of half bytes: short
 short : (hs : List ℕ) → ((k : ℕ) → getD hs k 0 < 16) → length (braidOf hs) ≤ 20 * length hs
 unfolding braidOf
 short [] b = omega arith
 short (h ∷ hs) b =
     simp length-append (omega (arith, braid-short h (b 0), short hs (λ k. b (suc k))))
 
-lettered : (hs : List ℕ) → ((k : ℕ) → getD hs k 0 < 16) → every isLetter (braidOf hs) ≡ true
+-- of any numbers: made of letters
+lettered : (hs : List ℕ) → every isLetter (braidOf hs) ≡ true
 unfolding braidOf every
-lettered [] b = refl
-lettered (h ∷ hs) b =
-    every-append isLetter (halfByteBraid h) (braidOf hs)
-    ∙ and-both (braid-letters h (b 0)) (lettered hs (λ k. b (suc k)))
+lettered [] = refl
+lettered (h ∷ hs) = every-append isLetter (halfByteBraid h) (braidOf hs) ∙ and-both (braid-letters h) (lettered hs)
 
 pub encoded-short : (digest : List ℕ) → ((k : ℕ) → getD digest k 0 < 256) → length digest ≤ 64
     → length (encoded digest) ≤ 2560
 unfolding encoded
 encoded-short digest b e = omega (arith, short (halves digest) (halves-below digest b), length-halves digest)
 
-pub encoded-letters : (digest : List ℕ) → ((k : ℕ) → getD digest k 0 < 256) → every isLetter (encoded digest) ≡ true
+pub encoded-letters : (digest : List ℕ) → every isLetter (encoded digest) ≡ true
 unfolding encoded
-encoded-letters digest b = lettered (halves digest) (halves-below digest b)
+encoded-letters digest = lettered (halves digest)
 
 -- what the encoder writes is an accepted word, with the digest's braid as its letters
 pub encoded-accepted : (digest : List ℕ) → ((k : ℕ) → getD digest k 0 < 256) → length digest ≤ 64
     → wordAnswer (wordFile (encoded digest)) ≡ 0
 encoded-accepted digest b e =
-    wordFile-accepted (encoded digest) (omega (arith, encoded-short digest b e)) (encoded-letters digest b)
+    wordFile-accepted (encoded digest) (omega (arith, encoded-short digest b e)) (encoded-letters digest)

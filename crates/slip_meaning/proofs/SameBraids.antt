@@ -6,8 +6,8 @@ use mathlib.Core.Path.{_≡_, refl, sym, ap, _∙_}
 use mathlib.Core.Bool.{true}
 use mathlib.Core.List.{List}
 use lib.ListN.{length}
+use Rattle.base.specs.Questions.{firstNo}
 use Rattle.base.specs.Lists.{valuesFrom}
-use Rattle.field.specs.Binary.{Operations, BinaryField}
 use Rattle.field.specs.Fields.{operations}
 use Rattle.field.specs.declared.Field.{Field}
 use Rattle.field.proofs.Fields.{binary}
@@ -15,39 +15,35 @@ use Rattle.word.specs.Words.{codes, wordAnswer, wordFile}
 use Rattle.word.specs.Strands.{inOrder, isOrder}
 use Rattle.word.proofs.ReadLaws.{accepted-word}
 use Rattle.word.proofs.RoundTrip.{wordFile-accepted, codes-wordFile}
-use Rattle.pair.specs.declared.Pair.{Pair}
 use Rattle.pair.specs.Action.{pairOf, wordOn}
-use Rattle.pair.specs.Good.{TValues, GoodPair}
 use Rattle.pair.proofs.GoodLaws.{tested-pair, tested-values}
 use Rattle.word_crossing.specs.Crossings.{crossings}
 use Rattle.pair_operands.specs.Operands.{elements, nonzero}
 use Rattle.braid_same.specs.SameBraid.{SameBraid}
 use Rattle.braid_same.proofs.Laws.{same-lettered}
 use Rattle.key.specs.Keys.{keyField, keyAnswer, keyOf}
-use Rattle.key.specs.declared.Key.{Key}
 use Rattle.key.proofs.KeyFacts.{key-values, key-pair, key-field}
+use Rattle.slip_verdict.specs.declared.Half.{Half}
 use Rattle.slip_verdict.specs.Verdict.{signed, signedOver}
+use Rattle.slip_verdict.specs.Halves.{secondHalfQuestions}
+use Rattle.slip_verdict.proofs.VerdictLaws.{signed-alike}
+use Rattle.slip_verdict.proofs.HalfLaws.{Sized}
+use Rattle.slip_verdict.proofs.CopiesAlike.{copies-alike}
 use Rattle.slip_verdict.proofs.VerdictIff.{same-verdict, zero-or-14}
 use Rattle.slip_meaning.specs.Meaning.{SameMeaning}
 
 -- ---- from the braid to the meaning
 
--- Two words of the same braid reach the same matrix from Pub(S). The field may be any binary field, and the key any
--- with T-values other than zero and a good pair over that field.
-pub signed-alike : (F : Operations) → BinaryField F → (key : Key) → TValues F (key .«t_values») → GoodPair F (key .pair)
-    → {w v : List ℕ} → SameBraid w v → signedOver F key v ≡ signedOver F key w
-unfolding signedOver
-signed-alike F laws key values good s =
-    ap (λ (q : Pair). q .matrix) (s .carried F laws (key .«t_values») values (key .pair) good)
-
 -- two words of the same braid reach the same matrix from Pub(S) under an accepted key, over the key's field
 same-signed : (key : List ℕ) {w v : List ℕ} → SameBraid w v → keyAnswer key ≡ 0
     → signed (keyOf key) v ≡ signed (keyOf key) w
 same-signed key {w} {v} s k =
-    let over : (u : List ℕ) → signed (keyOf key) u ≡ signedOver (operations (keyField key)) (keyOf key) u =
-    λ u. ap (λ (f : Field). signedOver (operations f) (keyOf key) u) (key-field key) in
+    let f : Field = keyField key in
+    let ts : List ℕ = keyOf key .«t_values» in
+    let over : (u : List ℕ) → signed (keyOf key) u ≡ signedOver (operations f) ts (keyOf key .pair) u =
+    λ u. ap (λ (g : Field). signedOver (operations g) ts (keyOf key .pair) u) (key-field key) in
     over v
-    ∙ signed-alike (operations (keyField key)) (binary (keyField key)) (keyOf key) (key-values key k) (key-pair key) s
+    ∙ signed-alike ts v w (s .carried (operations f) (binary f) ts (key-values key k)) (keyOf key .pair) (key-pair key)
     ∙ sym (over w)
 
 -- two accepted words of the same braid have the same meaning
@@ -89,3 +85,8 @@ pub crossings-alike : {word new : List ℕ} → SameMeaning word new → (a b : 
     → crossings a b (codes new) ≡ crossings a b (codes word)
 unfolding crossings valuesFrom
 crossings-alike s a b = s .crossed inOrder refl a b
+
+-- the second half gives two words of the same meaning the same answer, under every half (document 02, §4)
+pub halves-alike : {word new : List ℕ} → SameMeaning word new → (h : Half) → Sized h
+    → firstNo (secondHalfQuestions h new) ≡ firstNo (secondHalfQuestions h word)
+halves-alike {word} {new} s h sized = copies-alike h sized word new (s .old-accepted) (s .new-accepted) (s .carried)

@@ -1,5 +1,10 @@
+pub mod CopyLaws
 pub mod SlipLaws
 pub mod VerdictIff
 pub mod VerdictLaws
+pub mod HalfLaws
+pub mod WholeFromHalves
+pub mod CopiesAlike
 pub mod WrongVerdicts
+pub mod WrongHalves
 pub mod OldSlips

@@ -2,32 +2,42 @@
 -- the key's own field, are equal, and 14 otherwise; and where the key, the digest or the word is refused, in this
 -- order, the verdict is that refusal.
 use Prim.Native.Nat.{ℕ}
-use mathlib.Core.Path.{_≡_, refl, sym, ap, _∙_}
-use mathlib.Core.Bool.{Bool, true, false}
-use mathlib.Core.List.{List, [], _∷_}
-use mathlib.Core.Logic.{_⊎_, inl, inr, _↔_}
+use mathlib.Core.Path.{_≡_, sym, ap, _∙_, subst}
+use mathlib.Core.List.{List}
+use mathlib.Core.Logic.{_⊎_, _↔_}
 use lib.ListN.{length}
-use Rattle.base.specs.Questions.{_else_, firstNo}
-use Rattle.base.specs.Lists.{equal}
+use Rattle.base.specs.Questions.{firstNo}
 use Rattle.base.proofs.QuestionLaws.{all-passed, refused-there, both-passed}
 use Rattle.base.proofs.ListLaws.{equal-of, equal-false}
 use Rattle.field.specs.Fields.{digestBytes}
 use Rattle.word.specs.Words.{codes, wordAnswer}
 use Rattle.key.specs.Keys.{keyField, keyQuestions, keyAnswer, keyOf}
 use Rattle.key.proofs.KeyFacts.{key-field}
+use Rattle.slip_verdict.specs.declared.Half.{Half}
 use Rattle.slip_verdict.specs.Verdict.{signed, target, slipQuestions, verdict}
-use Rattle.slip_verdict.proofs.SlipLaws.{Goes, Equal, agree, digest-8, word-number, past-word, agree-0}
-use Rattle.slip_verdict.proofs.SlipLaws.{differ-14, zero-iff-opens}
+use Rattle.slip_verdict.specs.Halves.{halfOf, copyQuestions}
+use Rattle.slip_verdict.proofs.CopyLaws as copy
+use Rattle.slip_verdict.proofs.CopyLaws.{same-copy}
+use Rattle.slip_verdict.proofs.SlipLaws.{Goes, Equal, digest-8, past-digest, zero-iff-opens}
 
 -- the field of a file is that of the key that it holds
 goes : (key digest : List ℕ) → length digest ≡ digestBytes (keyField key) → Goes (keyOf key) digest
 goes key digest d = d ∙ ap digestBytes (sym (key-field key))
+
+-- the half of the key that a file holds and a digest
+abbrev fileHalf : List ℕ → List ℕ → Half
+fileHalf key digest = halfOf (keyOf key) digest
 
 module _ (key digest word : List ℕ) where
   -- the key that the file holds decides
   pub past-key : keyAnswer key ≡ 0 → verdict key digest word ≡ firstNo (slipQuestions (keyOf key) digest word)
   unfolding verdict keyAnswer
   past-key k = all-passed (keyQuestions key) (slipQuestions (keyOf key) digest word) tt k
+
+  -- key and digest are passed: the slip is a copy under their half
+  past-both : keyAnswer key ≡ 0 → length digest ≡ digestBytes (keyField key)
+      → verdict key digest word ≡ firstNo (copyQuestions (fileHalf key digest) word)
+  past-both k d = past-key k ∙ past-digest (keyOf key) digest word (goes key digest d)
 
   -- a refusal of the key, the digest or the word
   pub key-refused : (keyAnswer key ≡ 0 → ⊥) → verdict key digest word ≡ keyAnswer key
@@ -40,7 +50,7 @@ module _ (key digest word : List ℕ) where
 
   pub word-refused : keyAnswer key ≡ 0 → length digest ≡ digestBytes (keyField key) → (wordAnswer word ≡ 0 → ⊥)
       → verdict key digest word ≡ wordAnswer word
-  word-refused k d h = past-key k ∙ word-number (keyOf key) digest word (goes key digest d) h
+  word-refused k d h = past-both k d ∙ copy.word-number (fileHalf key digest) word h
 
   -- key, digest and word are accepted, and the matrices are equal
   pub record Signs : Type 0 where
@@ -63,21 +73,17 @@ module _ (key digest word : List ℕ) where
 
   module _ (k : keyAnswer key ≡ 0) (d : length digest ≡ digestBytes (keyField key)) (w : wordAnswer word ≡ 0) where
     pub equal-zero : Equal (keyOf key) digest word → verdict key digest word ≡ 0
-    equal-zero e = past-key k ∙ agree-0 (keyOf key) digest word (goes key digest d) w (equal-of e)
+    equal-zero e = past-both k d ∙ copy.agree-0 (fileHalf key digest) word w (equal-of e)
 
     pub unequal-14 : (Equal (keyOf key) digest word → ⊥) → verdict key digest word ≡ 14
     unequal-14 h =
-        past-key k
-        ∙ differ-14 (keyOf key) digest word (goes key digest d) w
+        past-both k d
+        ∙ copy.differ-14 (fileHalf key digest) word w
         (equal-false (signed (keyOf key) (codes word)) (target (keyOf key) digest) h)
 
     pub zero-or-14 : (verdict key digest word ≡ 0) ⊎ (verdict key digest word ≡ 14)
-    zero-or-14 = go (agree (keyOf key) digest word) refl
-      where
-        go : (b : Bool) → agree (keyOf key) digest word ≡ b
-            → (verdict key digest word ≡ 0) ⊎ (verdict key digest word ≡ 14)
-        go true e = inl (past-key k ∙ agree-0 (keyOf key) digest word (goes key digest d) w e)
-        go false e = inr (past-key k ∙ differ-14 (keyOf key) digest word (goes key digest d) w e)
+    zero-or-14 =
+        subst (λ (n : ℕ). (n ≡ 0) ⊎ (n ≡ 14)) (sym (past-both k d)) (copy.zero-or-14 (fileHalf key digest) word w)
 
     -- the verdict is 0 if and only if the matrix reached from Pub(S) by the word equals the one reached from the
     -- identity by the encoded digest, times the matrix of Pub(S')
@@ -95,7 +101,5 @@ pub same-verdict : (key digest word new : List ℕ) → keyAnswer key ≡ 0 → 
     → signed (keyOf key) (codes new) ≡ signed (keyOf key) (codes word)
     → verdict key digest new ≡ verdict key digest word
 same-verdict key digest word new k d w n e =
-    past-key key digest new k
-    ∙ past-word (keyOf key) digest new (goes key digest d) n
-    ∙ ap (λ (m : List ℕ). firstNo ((equal m (target (keyOf key) digest) else 14) ∷ [])) e
-    ∙ sym (past-key key digest word k ∙ past-word (keyOf key) digest word (goes key digest d) w)
+    past-both key digest new k d ∙ same-copy (fileHalf key digest) word new w n e
+    ∙ sym (past-both key digest word k d)

@@ -1,27 +1,38 @@
--- What the verdict compares: the matrix that the word reaches, and the comparison of the two sides.
+-- The two sides of the verdict: the matrix that a word reaches from Pub(S), as the code finds it and of words that
+-- carry pairs alike; and the target, as the code finds it.
 use Prim.Native.Nat.{ℕ}
-use mathlib.Core.Path.{_≡_, ap, ap₂, _∙_}
+use mathlib.Core.Path.{_≡_, ap, _∙_}
 use mathlib.Core.List.{List}
-use Rattle.base.specs.Lists.{equal}
+use Rattle.field.specs.Binary.{Operations}
 use Rattle.field.specs.Fields.{operations}
-use Rattle.pair.specs.declared.Pair.{Pair}
 use Rattle.matrix.specs.Product.{matrixProduct}
+use Rattle.pair.specs.declared.Pair.{Pair}
 use Rattle.pair.specs.Action.{wordOn, start}
+use Rattle.pair.specs.Good.{GoodPair}
 use Rattle.key.specs.declared.Key.{Key}
 use Rattle.slip_digest.specs.Digest.{encoded}
-use Rattle.slip_verdict.specs.Verdict.{signed, target, signedOver, targetOver}
+use Rattle.slip_verdict.specs.declared.Half.{Half}
+use Rattle.slip_verdict.specs.Verdict.{signedOver, targetOver, target}
+use Rattle.slip_verdict.specs.Halves.{signedBy}
 
--- the matrix that the word reaches from Pub(S)
-pub signed-is : (key : Key) (w : List ℕ) (reached : Pair)
-    → reached ≡ wordOn (operations (key .field)) (key .«t_values») w (key .pair)
-    → reached .matrix ≡ signed key w
+-- the matrix of the pair that the word reaches
+pub signed-is : (h : Half) (w : List ℕ) (reached : Pair)
+    → reached ≡ wordOn (operations (h .field)) (h .«t_values») w (h .pair)
+    → reached .matrix ≡ signedBy h w
 unfolding signedOver
-signed-is key w reached e = ap (λ (p : Pair). p .matrix) e
+signed-is h w reached e = ap (λ (p : Pair). p .matrix) e
 
--- the comparison that the code makes is that of the two sides
-module _ (key : Key) (w digest matrix first wanted : List ℕ) (m : matrix ≡ signed key w)
-    (f : first ≡ wordOn (operations (key .field)) (key .«t_values») (encoded digest) start .matrix)
-    (x : wanted ≡ matrixProduct (operations (key .field)) first (key .second)) where
-  pub sides : equal matrix wanted ≡ equal (signed key w) (target key digest)
-  unfolding targetOver
-  sides = ap₂ equal m (x ∙ ap (λ (l : List ℕ). matrixProduct (operations (key .field)) l (key .second)) f)
+-- two words that carry each good pair alike reach the same matrix
+pub signed-alike : {F : Operations} (ts v w : List ℕ)
+    → ((p : Pair) → GoodPair F p → wordOn F ts v p ≡ wordOn F ts w p) → (p : Pair) → GoodPair F p
+    → signedOver F ts p v ≡ signedOver F ts p w
+unfolding signedOver
+signed-alike ts v w same p good = ap (λ (q : Pair). q .matrix) (same p good)
+
+-- the product of the digest's matrix with that of Pub(S')
+pub target-is : (key : Key) (digest first product : List ℕ)
+    → first ≡ wordOn (operations (key .field)) (key .«t_values») (encoded digest) start .matrix
+    → product ≡ matrixProduct (operations (key .field)) first (key .second) → product ≡ target key digest
+unfolding targetOver
+target-is key digest first product f p =
+    p ∙ ap (λ (m : List ℕ). matrixProduct (operations (key .field)) m (key .second)) f

@@ -48,7 +48,7 @@ plainKey =
     (0x08 ∷ 0x00 ∷ 0x20 ∷ 0x08 ∷ 0x44 ∷ 0x32 ∷ 0x14 ∷ 0xC7 ∷ [])
     ++ (identityBytes ++ ((0x05 ∷ 0x39 ∷ 0x77 ∷ []) ++ identityBytes))
 
-abbrev plain : List ℕ
+abbrev pub plain : List ℕ
 plain = 1 ∷ 1 ∷ 2 ∷ 3 ∷ 4 ∷ 5 ∷ 6 ∷ 7 ∷ []
 
 -- 128 letters b7, in a file and as codes
@@ -65,7 +65,7 @@ abbrev pub zeroDigest : List ℕ
 zeroDigest = replicate 32 0
 
 -- all are accepted
-key-accepted : keyAnswer plainKey ≡ 0
+pub key-accepted : keyAnswer plainKey ≡ 0
 unfolding firstNo valuesFrom every tally eachOnce value digits keyField tValues unpackedRow rowFiller keyLabels
     wholeMatrix
     matrixOf rowOf columnOf identity
@@ -75,7 +75,7 @@ sevens-accepted : wordAnswer sevens ≡ 0
 unfolding firstNo every value codes filler halves wordAnswer
 sevens-accepted = refl
 
-empty-accepted : wordAnswer emptyWord ≡ 0
+pub empty-accepted : wordAnswer emptyWord ≡ 0
 unfolding firstNo every value codes filler halves wordAnswer
 empty-accepted = refl
 
@@ -84,7 +84,7 @@ unfolding keyField
 digest-fits = refl
 
 -- what they hold
-key-is : keyOf plainKey ≡ record { field = Gf32; «t_values» = plain; pair = start; second = identity }
+pub key-is : keyOf plainKey ≡ record { field = Gf32; «t_values» = plain; pair = start; second = identity }
 unfolding valuesFrom value digits rowOf columnOf matrixOf keyField tValues unpackedRow keyLabels wholeMatrix keyOf
     identity
     start

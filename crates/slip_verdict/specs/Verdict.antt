@@ -9,14 +9,15 @@ use Rattle.field.specs.Binary.{Operations}
 use Rattle.field.specs.Fields.{operations}
 use Rattle.word.specs.Words.{codes, wordQuestions}
 use Rattle.matrix.specs.Product.{matrixProduct}
+use Rattle.pair.specs.declared.Pair.{Pair}
 use Rattle.pair.specs.Action.{wordOn, start}
 use Rattle.key.specs.Keys.{keyQuestions, keyOf}
 use Rattle.key.specs.declared.Key.{Key}
 use Rattle.slip_digest.specs.Digest.{digestQuestions, encoded}
 
--- over any field: the matrix reached from Pub(S) by the signature's letters
-unfoldable pub signedOver : Operations → Key → List ℕ → List ℕ
-signedOver F key w = wordOn F (key .«t_values») w (key .pair) .matrix
+-- over any field and T-values: the matrix reached from Pub(S) by the signature's letters
+unfoldable pub signedOver : Operations → List ℕ → Pair → List ℕ → List ℕ
+signedOver F ts p w = wordOn F ts w p .matrix
 
 -- over any field: the matrix reached from the identity by the encoded digest, times the matrix of Pub(S')
 unfoldable pub targetOver : Operations → Key → List ℕ → List ℕ
@@ -24,19 +25,20 @@ targetOver F key digest = matrixProduct F (wordOn F (key .«t_values») (encoded
 
 -- both over the key's own field
 abbrev pub signed : Key → List ℕ → List ℕ
-signed key w = signedOver (operations (key .field)) key w
+signed key w = signedOver (operations (key .field)) (key .«t_values») (key .pair) w
 
 abbrev pub target : Key → List ℕ → List ℕ
 target key digest = targetOver (operations (key .field)) key digest
 
 -- Are the matrices equal? 14
-abbrev pub matrixQuestions : Key → List ℕ → List ℕ → List Question
-matrixQuestions key digest word = (equal (signed key (codes word)) (target key digest) else 14) ∷ []
+abbrev pub matrixQuestions : List ℕ → List ℕ → List Question
+matrixQuestions first second = (equal first second else 14) ∷ []
 
 -- A slip under a key that was read: the digest's question, over the key's field, the word's, and 14
 abbrev pub slipQuestions : Key → List ℕ → List ℕ → List Question
 slipQuestions key digest word =
-    digestQuestions (key .field) digest ++ (wordQuestions word ++ matrixQuestions key digest word)
+    digestQuestions (key .field) digest
+    ++ (wordQuestions word ++ matrixQuestions (signed key (codes word)) (target key digest))
 
 -- Verdict: the key's questions, then those of the slip under the key that the file holds
 abbrev pub verdictQuestions : List ℕ → List ℕ → List ℕ → List Question

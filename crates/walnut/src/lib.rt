@@ -1,6 +1,7 @@
 // The exports. Each is thin and has the contract of the function that it calls. The header states the functions in C. A
 // slice passes as a pointer and a length, a fixed array as a pointer, a struct by value in C's layout.
 ghost use mathlib.Core.Path.{_≡_};
+ghost use Rattle.base.specs.Questions.{firstNo};
 ghost use Rattle.field.specs.Fields.{operations, fieldOf};
 ghost use Rattle.field.specs.Elements.{productQuestions, reciprocalQuestions, Gives};
 ghost use Rattle.word.specs.Words.{codes, Read, WroteWord};
@@ -8,15 +9,17 @@ ghost use Rattle.pair.specs.Action.{start};
 ghost use Rattle.pair_multiplier.specs.Lent.{Lends};
 ghost use Rattle.key.specs.Keys.{fileEntries, ReadsKey, WroteKey};
 ghost use Rattle.slip_verdict.specs.Verdict.{verdict};
+ghost use Rattle.slip_verdict.specs.Halves.{MakesHalf, secondHalfQuestions};
 ghost use Rattle.slip_cloaking.specs.Cloaking.{Cloaks};
 ghost use Rattle.move_rewriter.specs.Rewriter.{Rewrote};
-ghost use Rattle.walnut.specs.Exported.{keyFrom};
+ghost use Rattle.walnut.specs.Exported.{keyFrom, halfFrom};
 ghost use Rattle.word_reduction.specs.Reducer.{WroteReduced};
 ghost use Rattle.slip_digest.specs.Digest.{WroteEncoded};
 ghost use Rattle.word_crossing.specs.Crossings.{Crosses};
 use field::Element;
 use pair::Pair;
 use slip_cloaking::Cloak;
+use slip_verdict::Half;
 use word::Word;
 use word::Written;
 use word_crossing::Crossing;
@@ -30,6 +33,23 @@ pub struct KeyForC {
     pub t_values: [u8; 8],
     pub pair: Pair,
     pub second: [u8; 64],
+}
+
+// What the first half gives and the second takes: whether the field is the larger one, the T-values, the pair Pub(S)
+// and the target, with which the matrix that a signature reaches is compared.
+#[repr(C)]
+pub struct HalfForC {
+    pub large: bool,
+    pub t_values: [u8; 8],
+    pub pair: Pair,
+    pub target: [u8; 64],
+}
+
+// An answer, and beside it a half. On a refusal the half's `large` is false, and all its numbers are zero.
+#[repr(C)]
+pub struct HalvedForC {
+    pub answer: u8,
+    pub half: HalfForC,
 }
 
 #[no_mangle]
@@ -170,6 +190,57 @@ pub extern "C" fn walnut_verify(key: &[u8], digest: &[u8], word: &[u8]) -> u8
     ensures { λ r. ⌜ r ≡ verdict (now (key .entry)) (now (digest .entry)) (now (word .entry)) ⌝ }
 {
     slip_verdict::verify(key, digest, word)
+}
+
+// The verdict's first half: what every signature of the digest is judged by.
+#[no_mangle]
+pub extern "C" fn walnut_first_half(key: &[u8], digest: &[u8]) -> HalvedForC
+    ensures { λ r.
+        ⌜
+        MakesHalf (now (key .entry)) (now (digest .entry)) (r .answer)
+        (halfFrom (r .half .large) (r .half .«t_values») (r .half .pair) (r .half .target))
+        ⌝ }
+{
+    let made = slip_verdict::first_half(key, digest);
+    let held = made.half;
+    let answer = made.answer;
+    let f = held.field;
+    let larger = field::is_large(f);
+    let t_values = held.t_values;
+    let pair = held.pair;
+    let target = held.target;
+    let half = HalfForC {
+        large: larger,
+        t_values,
+        pair,
+        target,
+    };
+    HalvedForC { answer, half }
+}
+
+// The verdict's second half. The caller may have made the half by itself.
+#[no_mangle]
+pub extern "C" fn walnut_second_half(half: HalfForC, word: &[u8]) -> u8
+    ensures { λ r.
+        ⌜
+        r
+        ≡ firstNo
+        (secondHalfQuestions (halfFrom (half .large) (half .«t_values») (half .pair) (half .target))
+        (now (word .entry)))
+        ⌝ }
+{
+    let large = half.large;
+    let f = field::field_of(large);
+    let t_values = half.t_values;
+    let pair = half.pair;
+    let target = half.target;
+    let held = Half {
+        field: f,
+        t_values,
+        pair,
+        target,
+    };
+    slip_verdict::second_half(held, word)
 }
 
 #[no_mangle]

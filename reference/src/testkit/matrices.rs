@@ -142,6 +142,22 @@ impl Random {
             .fold(self.permutation_matrix(), |matrix, row| row_scaled(field, matrix, *row, 0))
     }
 
+    /// A matrix of any shape with an inverse.
+    pub fn invertible_matrix(&mut self, field: Field) -> Matrix {
+        loop {
+            let matrix = self.elements(field);
+            if inverse_matrix(field, &matrix).is_some() {
+                return matrix;
+            }
+        }
+    }
+
+    /// A matrix of any shape without an inverse: one in the shape of a key's, times one with an inverse.
+    pub fn singular_matrix(&mut self, field: Field) -> Matrix {
+        let (singular, other) = (self.singular_key_matrix(field), self.invertible_matrix(field));
+        matrix_product(field, &singular, &other)
+    }
+
     /// Any pair whose matrix has the shape of a key's and an inverse.
     pub fn invertible_key_pair(&mut self, field: Field) -> Pair {
         Pair { matrix: self.invertible_key_matrix(field), labels: self.labels() }

@@ -141,6 +141,21 @@ pub fn sevens(letters: u16) -> Vec<u8> {
     word
 }
 
+/// Row 7, columns 6 to 8, of the matrix that as many zero bytes as a digest has over a field reach from the start under
+/// document 01's T-values; the rest is the identity's.
+///
+/// Row 7 of b7 b7 is 20, 18, 7: b7 has 6, 6, 1, and then 6 + 7 × 6 = 20, 7 × 6 = 18, 1 + 6 = 7. So 2 k letters have
+/// 18^k in the middle, and 20 and 7 times s = 1 + 18 + .. + 18^(k - 1) = (18^k + 1)/19 beside it. 32 bytes are b7, 128
+/// times, and 18^64 = 18^2 = 9, since t^31 = 1; s = 1 + 18 = 19; 20 × 19 = 30 and 7 × 19 = 22. 64 bytes are b7, 256
+/// times, and 18^128 is the root of 18, since t^256 = t; 129 is x^7 + 1, and its square is x^14 + 1 = 19 + 1 = 18. Then
+/// s is 128/19, that is x^7/x^14 = 1/x^7, which is 27; 20 × 27 = 193 and 7 × 27 = 65.
+pub fn zeros_reach(field: Field) -> [u8; 3] {
+    match field {
+        Field::Gf32 => [30, 9, 22],
+        Field::Gf256 => [193, 129, 65],
+    }
+}
+
 /// All fixed cases.
 fn cases() -> Vec<Fixed> {
     ALL.into_iter().flat_map(|operation| operation.fixed()).collect()

@@ -1,8 +1,8 @@
-//! Matrices and pairs of the library. It has its matrices by columns and the reference by rows: each matrix changes its
-//! layout here, and nowhere else.
+//! Matrices, pairs and halves of the library. It has its matrices by columns and the reference by rows: each matrix
+//! changes its layout here, and nowhere else.
 
 use reference::matrix::at;
-use reference::{Matrix, Pair};
+use reference::{Field, Half, Matrix, Pair};
 
 use crate::exported;
 
@@ -33,6 +33,23 @@ pub fn pair_of(pair: exported::Pair) -> Pair {
 /// A pair for the library.
 pub fn lent(pair: &Pair) -> exported::Pair {
     exported::Pair { matrix: by_columns(&pair.matrix), labels: pair.labels }
+}
+
+/// A half of the library's.
+pub fn half_of(half: exported::Half) -> Half {
+    let field = if half.large { Field::Gf256 } else { Field::Gf32 };
+    Half { field, t_values: half.t_values, pair: pair_of(half.pair), target: by_rows(&half.target) }
+}
+
+/// A half for the library.
+pub fn handed(half: &Half) -> exported::Half {
+    let (large, target) = (half.field == Field::Gf256, by_columns(&half.target));
+    exported::Half { large, t_values: half.t_values, pair: lent(&half.pair), target }
+}
+
+/// A half's T-values, matrix, labels and target.
+pub fn half_parts(half: &Half) -> Vec<Vec<u8>> {
+    [&half.t_values[..], &half.pair.matrix, &half.pair.labels, &half.target].map(<[u8]>::to_vec).to_vec()
 }
 
 /// A matrix and a list as one run of bytes.

@@ -18,7 +18,7 @@ pub mod prelude {
     pub use crate::case::{Input, Outcome, Parts};
     pub use crate::exported::*;
     pub use crate::fixed::{
-        entries, hex, identity, keys, sevens, with_row, Fixed, LIST, SEVEN, TURNED, T_VALUES,
+        entries, hex, identity, keys, sevens, with_row, zeros_reach, Fixed, LIST, SEVEN, TURNED, T_VALUES,
     };
     pub use crate::make::{files, Maker, Size};
     pub use crate::plan::{Checked, Run};

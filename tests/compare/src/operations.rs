@@ -4,6 +4,7 @@ pub mod cloaks;
 pub mod crossings;
 pub mod encode_digest;
 pub mod file_entries;
+pub mod first_half;
 pub mod free_reduce;
 pub mod multiply;
 pub mod product;
@@ -11,6 +12,7 @@ pub mod read_key;
 pub mod read_word;
 pub mod reciprocal;
 pub mod rewrite;
+pub mod second_half;
 pub mod start;
 pub mod verify;
 pub mod write_key;
@@ -21,7 +23,7 @@ use reference::Field;
 use crate::operation::Op;
 
 /// All of them, in the order of `walnut.h`.
-pub const ALL: [Op; 15] = [
+pub const ALL: [Op; 17] = [
     &product::Product,
     &reciprocal::Reciprocal,
     &start::Start,
@@ -35,6 +37,8 @@ pub const ALL: [Op; 15] = [
     &free_reduce::FreeReduce,
     &rewrite::Rewrite,
     &verify::Verify,
+    &first_half::FirstHalf,
+    &second_half::SecondHalf,
     &cloaks::Cloaks,
     &crossings::Crossings,
 ];
@@ -91,5 +95,9 @@ mod tests {
         assert_eq!(write_key::WriteKey.facts().answer_to(&[26, 6]), 6);
         assert_eq!(multiply::Multiply.facts().answer_to(&[12, 4, 17]), 17);
         assert_eq!(crossings::Crossings.facts().answer_to(&[27, 13]), 13);
+        assert_eq!(first_half::FirstHalf.facts().answer_to(&[8, 26]), 26);
+        let second_half = second_half::SecondHalf.facts();
+        let pairs = [[4, 17], [6, 4], [26, 6], [9, 26], [14, 13]];
+        assert_eq!(pairs.map(|faults| second_half.answer_to(&faults)), [17, 4, 6, 26, 13]);
     }
 }

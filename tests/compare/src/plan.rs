@@ -1,5 +1,6 @@
 //! The plan: what is compared, in which order. What works over a field is compared over both alike.
 
+mod halves;
 pub mod keys;
 mod slips;
 
@@ -29,6 +30,16 @@ pub enum Failure {
     Unexpected(Input, String),
 }
 
+/// No fault, each alone, and each with each other one.
+fn in_pairs(questions: &[u8]) -> Vec<Vec<u8>> {
+    let mut pairs = vec![vec![]];
+    for (place, first) in questions.iter().enumerate() {
+        pairs.push(vec![*first]);
+        pairs.extend(questions[place + 1..].iter().map(|second| vec![*first, *second]));
+    }
+    pairs
+}
+
 /// What is wrong, or nothing.
 pub type Checked<T = ()> = Result<T, Box<Failure>>;
 
@@ -50,6 +61,7 @@ impl Run {
         }
         for field in Field::BOTH {
             self.keys(field)?;
+            self.halves(field)?;
         }
         self.every_code()?;
         self.every_number_of_letters()?;
@@ -122,12 +134,7 @@ impl Run {
     /// Each question of each operation over each of its fields answered no, alone and with each other one; and none.
     fn faults_in_pairs(&mut self) -> Checked {
         for (operation, field) in over_fields() {
-            let questions = operation.facts().questions_over(field);
-            let mut pairs = vec![vec![]];
-            for (place, first) in questions.iter().enumerate() {
-                pairs.push(vec![*first]);
-                pairs.extend(questions[place + 1..].iter().map(|second| vec![*first, *second]));
-            }
+            let pairs = in_pairs(&operation.facts().questions_over(field));
             for faults in pairs.iter().flat_map(|faults| [faults; VARIANTS]) {
                 self.with_faults(operation, field, faults, Size::Short)?;
             }

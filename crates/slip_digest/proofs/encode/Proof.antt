@@ -72,7 +72,7 @@ returns-3 c =
     let known : (i : ℕ) → getD (digest s) i 0 < 256 = λ i. k .shared-slice-known .given i .fits in
     wrote-same
     (writable (room s) (encoded (digest s)) (omega arith)
-    (omega (arith, encoded-short (digest s) known (digest-short (digest s) passed))) (encoded-letters (digest s) known)
+    (omega (arith, encoded-short (digest s) known (digest-short (digest s) passed))) (encoded-letters (digest s))
     ∙ sym (passed-answers (encoderQuestions (room s) (digest s)) (le-leb 5002 (room s) (omega arith), (passed, tt))))
     refl
     (rw (e .encode-into .ensures .1) at (w .write-word .ensures))

@@ -1,9 +1,8 @@
 -- `slip_verdict::digest_matrix` meets its contract: the codes are the digest's braid, and letters.
-use Prim.Native.Nat.{ℕ, _<_}
+use Prim.Native.Nat.{ℕ}
 use mathlib.Core.Path.{sym, ap, ap₂, _∙_}
 use mathlib.Core.List.{List}
 use native.Mathlib.Omega.{arith}
-use lib.ListN.{getD}
 use lib.Seq.{length-take-le}
 use Rattle.base.specs.Lists.{every}
 use Rattle.field.specs.Fields.{operations}
@@ -15,10 +14,6 @@ use borrow.Author.Needs.{needs}
 use Rattle.slip_verdict.proofs.digest_matrix.Statement.{statement}
 use Rattle.slip_verdict.proofs.digest_matrix.Tie as tie
 
--- the digest is of bytes
-known : (e : tie.After-encode-into) (i : ℕ) → getD (e .before .before .before .args .digest .now) i 0 < 256
-known e i = e .before .before .shared-slice-known .given i .fits
-
 slice-aggregate-carry-letters : tie.Need-slice-aggregate-carry-letters
 slice-aggregate-carry-letters c =
     let e = c .before .before .before .encode-into in
@@ -27,8 +22,7 @@ slice-aggregate-carry-letters c =
 carry-letters-requires : tie.Need-carry-letters-requires
 carry-letters-requires c κs =
     let e = c .before .before .before in
-    ap (every isLetter) (e .encode-into .ensures .1)
-    ∙ encoded-letters (e .before .before .before .args .digest .now) (known e)
+    ap (every isLetter) (e .encode-into .ensures .1) ∙ encoded-letters (e .before .before .before .args .digest .now)
 
 returns : tie.Need-returns
 returns c =

@@ -1,15 +1,20 @@
 -- `slip_verdict::judge` meets its contract: each refusal is that of its question, and where digest and word are
--- accepted the two matrices decide.
+-- accepted the half of key and digest, and what the word reaches, decide.
 use Prim.Native.Nat.{ℕ}
-use mathlib.Core.Path.{_≡_, sym, _∙_}
+use mathlib.Core.Path.{_≡_, sym, ap, _∙_}
 use mathlib.Core.List.{List}
 use borrow.Author.Needs.{needs}
 use borrow.Author.Tests.{not-true, not-false, eqb-true, eqb-false}
 use lib.ListN.{length}
-use Rattle.word.specs.Words.{wordAnswer}
+use Rattle.base.specs.Questions.{firstNo}
+use Rattle.word.specs.Words.{codes, wordAnswer}
 use Rattle.key.specs.declared.Key.{Key}
 use Rattle.slip_digest.proofs.Encoded.{digest-fits}
-use Rattle.slip_verdict.proofs.SlipLaws.{Goes, digest-8, word-number, agree-0, differ-14}
+use Rattle.slip_verdict.specs.declared.Half.{Half}
+use Rattle.slip_verdict.specs.Verdict.{matrixQuestions}
+use Rattle.slip_verdict.specs.Halves.{halfOf, signedBy}
+use Rattle.slip_verdict.proofs.CopyLaws.{word-number, past-word}
+use Rattle.slip_verdict.proofs.SlipLaws.{Goes, digest-8, past-digest}
 use Rattle.slip_verdict.proofs.judge.Statement.{statement}
 use Rattle.slip_verdict.proofs.judge.Tie as tie
 
@@ -51,29 +56,27 @@ returns-2 c =
     let d = c .before .before in
     let s = at-2 d in
     let e = c .before .read-word .ensures .answer-is in
-    e ∙ sym (word-number (key s) (digest s) (word s) (digest-passed d) (λ z. c .if2 .taken (e ∙ z)))
+    e
+    ∙ sym (past-digest (key s) (digest s) (word s) (digest-passed d)
+    ∙ word-number (halfOf (key s) (digest s)) (word s) (λ z. c .if2 .taken (e ∙ z)))
 
-matrices-equal-requires : tie.Need-matrices-equal-requires
-matrices-equal-requires c κs =
+half-of-requires : tie.Need-half-of-requires
+half-of-requires c κs =
     let d = c .before .before in
-    (digest-fits (key (at-2 d) .field) (digest (at-2 d)) (digest-passed d), word-passed c)
+    digest-fits (key (at-2 d) .field) (digest (at-2 d)) (digest-passed d)
 
 returns-3 : tie.Need-returns-3
 returns-3 c =
-    let w = c .before .before in
+    let made = c .before in
+    let w = made .before in
     let s = at-3 w in
-    sym (differ-14 (key s) (digest s) (word s) (digest-passed (w .before .before)) (word-passed w)
-    (sym (c .before .matrices-equal .ensures) ∙ not-true _ (c .if3 .taken)))
-
-returns-4 : tie.Need-returns-4
-returns-4 c =
-    let w = c .before .before in
-    let s = at-3 w in
-    sym (agree-0 (key s) (digest s) (word s) (digest-passed (w .before .before)) (word-passed w)
-    (sym (c .before .matrices-equal .ensures) ∙ not-false _ (c .if3 .left)))
+    c .copy-answer .ensures
+    ∙ ap (λ (h : Half). firstNo (matrixQuestions (signedBy h (codes (word s))) (h .target))) (made .half-of .ensures)
+    ∙ sym (past-digest (key s) (digest s) (word s) (digest-passed (w .before .before))
+    ∙ past-word (halfOf (key s) (digest s)) (word s) (word-passed w))
 
 pub judge-spec : {M : Type 1} → statement M
 judge-spec =
     tie.close
-    (tie.spec (λ c κs. search needs) returns (λ c κs. search needs) returns-2 matrices-equal-requires
-    returns-3 returns-4)
+    (tie.spec (λ c κs. search needs) returns (λ c κs. search needs) returns-2 half-of-requires
+    (λ c κs. word-passed (c .before)) returns-3)

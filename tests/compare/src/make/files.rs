@@ -11,8 +11,8 @@ use reference::{file_entries, Field, Matrix};
 const N: usize = 0;
 const Q: usize = 8;
 
-/// Which of a key's two matrices have no inverse, where one has none.
-const SINGULAR: [&[usize]; 3] = [&[0], &[1], &[0, 1]];
+/// Which of two matrices have no inverse, where one has none.
+pub const SINGULAR: [&[usize]; 3] = [&[0], &[1], &[0, 1]];
 
 /// A number that is no element of the smaller field.
 pub fn too_high(random: &mut Random) -> u8 {
@@ -49,12 +49,17 @@ pub fn change_length(random: &mut Random, file: &mut Vec<u8>, keep: usize) {
     }
 }
 
+/// Makes a list one that is not 0 to 7, each once.
+pub fn spoil_labels(random: &mut Random, labels: &mut [u8; 8]) {
+    let (from, to) = two_places(random);
+    labels[to] = if random.one_in(3) { random.within(8, 255) as u8 } else { labels[from] };
+}
+
 /// A list as the multiplier and the key writer take it. Fault: 6.
 pub fn list(random: &mut Random, faults: &[u8]) -> Vec<u8> {
     let mut labels = random.labels();
     if faults.contains(&6) {
-        let (from, to) = two_places(random);
-        labels[to] = if random.one_in(3) { random.within(8, 255) as u8 } else { labels[from] };
+        spoil_labels(random, &mut labels);
     }
     labels.to_vec()
 }

@@ -47,15 +47,15 @@ impl Run {
         }
         let mut other = slip.digest.clone();
         other.resize(96 - slip.digest.len(), 0);
-        self.parts(&Verify, vec![slip.key.clone(), other, slip.word.clone()], Some(8))?;
+        self.whole_and_halves(vec![slip.key.clone(), other, slip.word.clone()], Some(8))?;
         let whole = self.maker.input(&Verify, field, vec![slip.key, slip.digest, slip.word]);
         let damaged = self.maker.damaged(whole);
-        self.input(damaged, None).map(drop)
+        self.whole_and_halves(damaged.parts, None)
     }
 
-    /// The slip is accepted with this word in the place of its own.
+    /// The slip is accepted with this word in the place of its own, whole and by halves.
     fn judged(&mut self, slip: &Slip, word: Vec<u8>) -> Checked {
-        self.parts(&Verify, vec![slip.key.clone(), slip.digest.clone(), word], Some(0)).map(drop)
+        self.whole_and_halves(vec![slip.key.clone(), slip.digest.clone(), word], Some(0))
     }
 
     /// The word that an accepted writing leaves.

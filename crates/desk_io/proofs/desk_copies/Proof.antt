@@ -1,0 +1,31 @@
+-- `desk_io::desk_copies` is safe and ends: one argument a copy. The measure is the number of copies that are left.
+use Prim.Native.Nat.{_-_, _≤_}
+use borrow.Author.Needs.{needs}
+use Rattle.desk_io.proofs.desk_copies.Statement.{statement}
+use Rattle.desk_io.proofs.desk_copies.Tie as tie
+
+abbrev Inv-loop : tie.InvT-loop
+Inv-loop n made i₀ i = n ≤ 18446744073709551615
+
+abbrev μ-loop : tie.MeasureT-loop
+μ-loop n made i₀ i = n - i
+
+pub desk-copies-spec : {M : Type 1} → statement M
+desk-copies-spec =
+    tie.close
+    (tie.spec
+    Inv-loop
+    μ-loop
+    (λ c. search needs)
+    (λ c κs. search needs)
+    (λ c. search needs)
+    (λ c κs. search needs)
+    (λ c κs. search needs)
+    (λ c. search needs)
+    (λ c κs. search needs)
+    (λ c. search needs)
+    (λ c κs. search needs)
+    (λ c. search needs)
+    (λ c. search needs)
+    (λ c. search needs)
+    (λ c. search needs))

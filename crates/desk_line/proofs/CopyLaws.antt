@@ -1,0 +1,47 @@
+-- Several copies of a slip: the answer to each is the whole verdict on it, and so is its line.
+use Prim.Native.Nat.{ℕ}
+use mathlib.Core.Path.{_≡_, sym, ap, subst, _∙_}
+use mathlib.Core.Bool.{true, false}
+use mathlib.Core.List.{List}
+use native.Mathlib.Decide.{ℕ-discrete}
+use lib.ListN.{take}
+use Rattle.base.specs.Questions.{firstNo}
+use Rattle.base.proofs.QuestionLaws.{granted-zero, granted-refused}
+use Rattle.slip_verdict.specs.declared.Halved.{Halved}
+use Rattle.slip_verdict.specs.Halves.{MakesHalf, secondHalfQuestions}
+use Rattle.slip_verdict.specs.Verdict.{verdict}
+use Rattle.slip_verdict.proofs.WholeFromHalves.{whole-is-its-halves, refused-by-the-first}
+use Rattle.desk_line.specs.Desk.{answerLine, Tells}
+use Rattle.desk_line.specs.Copies.{copyAnswer, GivesVerdicts, noAnswerLine, copyLine}
+use Rattle.desk_line.specs.declared.Got.{Got}
+
+module _ (made : Halved) (word : List ℕ) where
+  -- the first half refused, or the second answers
+  pub copy-refused : (made .answer ≡ 0 → ⊥) → made .answer ≡ copyAnswer made word
+  unfolding copyAnswer
+  copy-refused r = sym (granted-refused _ _ r)
+
+  pub copy-judged : made .answer ≡ 0 → firstNo (secondHalfQuestions (made .half) word) ≡ copyAnswer made word
+  unfolding copyAnswer
+  copy-judged z = sym (granted-zero _ _ z)
+
+pub gives-verdicts : (made : Halved) → GivesVerdicts made
+gives-verdicts made key digest word m = go (ℕ-discrete (made .answer) 0)
+  where
+    go : Dec (made .answer ≡ 0) → copyAnswer made word ≡ verdict key digest word
+    go (yes z) = sym (copy-judged made word z) ∙ whole-is-its-halves m word z
+    go (no r) = sym (copy-refused made word r) ∙ sym (refused-by-the-first m word r)
+
+-- the line, where the copy could be read and where it could not
+module _ (made : Halved) (got : Got) (word : List ℕ) where
+  pub copy-read : {copy : List ℕ} {n bytes : ℕ} {text : List ℕ} → got .read ≡ true → copy ≡ take (got .bytes) word
+      → n ≡ copyAnswer made copy
+      → Tells (answerLine n) bytes text → Tells (copyLine made got word) bytes text
+  unfolding copyLine
+  copy-read {bytes = bytes} {text = text} e s v t =
+      rw e (subst (λ (k : ℕ). Tells (answerLine k) bytes text) (v ∙ ap (copyAnswer made) s) t)
+
+  pub copy-not-read : {bytes : ℕ} {text : List ℕ} → got .read ≡ false → Tells noAnswerLine bytes text
+      → Tells (copyLine made got word) bytes text
+  unfolding copyLine
+  copy-not-read e t = rw e t

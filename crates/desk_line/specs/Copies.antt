@@ -1,0 +1,33 @@
+-- Several copies of a slip at the desk (document 02, §4): key and digest give the first half of the verdict once, and
+-- each copy gets its line by the second half.
+use Prim.Native.Nat.{ℕ}
+use mathlib.Core.Path.{_≡_}
+use mathlib.Core.Bool.{cond}
+use mathlib.Core.List.{List, [], _∷_}
+use lib.ListN.{take}
+use Rattle.base.specs.Questions.{firstNo, granted}
+use Rattle.text.specs.Texts.{line}
+use Rattle.slip_verdict.specs.declared.Halved.{Halved}
+use Rattle.slip_verdict.specs.Halves.{MakesHalf, secondHalfQuestions}
+use Rattle.slip_verdict.specs.Verdict.{verdict}
+use Rattle.desk_line.specs.Desk.{answerWord, answerLine}
+use Rattle.desk_line.specs.declared.Got.{Got}
+
+-- the answer to a copy: the first half's refusal, or the answer of the second
+unfoldable pub copyAnswer : Halved → List ℕ → ℕ
+copyAnswer made word =
+    granted (made .answer) (firstNo (secondHalfQuestions (made .half) word)) (made .answer)
+
+-- that is the verdict under every key and digest whose first half this is
+abbrev pub GivesVerdicts : Halved → Type 0
+GivesVerdicts made = (key digest word : List ℕ) → MakesHalf key digest (made .answer) (made .half)
+    → copyAnswer made word ≡ verdict key digest word
+
+-- "no answer", a line end
+unfoldable pub noAnswerLine : List ℕ
+noAnswerLine = line ((110 ∷ 111 ∷ []) ∷ answerWord ∷ [])
+
+-- what is written on a copy, of which the buffer's first bytes were read: the line of its answer, and "no answer" where
+-- it could not be read, so that each copy has its line
+unfoldable pub copyLine : Halved → Got → List ℕ → List ℕ
+copyLine made got word = cond (got .read) (answerLine (copyAnswer made (take (got .bytes) word))) noAnswerLine

@@ -1,0 +1,43 @@
+//! The verdict whole and by halves.
+
+use reference::Field;
+
+use crate::case::Parts;
+use crate::make::Size;
+use crate::operation::Operation;
+use crate::operations::first_half::FirstHalf;
+use crate::operations::second_half::SecondHalf;
+use crate::operations::verify::Verify;
+use crate::plan::{in_pairs, Checked, Failure, Run};
+
+impl Run {
+    /// Slips with each question of the verdict answered no, alone and with each other one, and accepted ones.
+    pub fn halves(&mut self, field: Field) -> Checked {
+        for faults in in_pairs(&Verify.facts().questions_over(field)) {
+            let case = self.maker.with_faults(&Verify, field, &faults, Size::Short);
+            let Some((slip, expected)) = case else { continue };
+            self.whole_and_halves(slip.parts, Some(expected))?;
+        }
+        Ok(())
+    }
+
+    /// Key, digest and word: the verdict answers what the first half refuses with, or what the second answers on the
+    /// half that the first gave.
+    pub fn whole_and_halves(&mut self, slip: Parts, expected: Option<u8>) -> Checked {
+        let input = self.maker.input(&Verify, Field::Gf32, slip.clone());
+        let whole = self.input(input.clone(), expected)?.answer;
+        let first = self.parts(&FirstHalf, slip[..2].to_vec(), None)?;
+        let by_halves = if first.answer == 0 {
+            let (field, half) = (Field::BOTH[first.numbers[0] as usize], first.bytes);
+            let parts = [&half[..8], &half[8..72], &half[72..80], &half[80..], &slip[2]].map(<[u8]>::to_vec);
+            self.over(&SecondHalf, field, parts.to_vec(), None)?.answer
+        } else {
+            first.answer
+        };
+        if by_halves != whole {
+            let account = format!("its halves give answer {by_halves}");
+            return Err(Box::new(Failure::Unexpected(input, account)));
+        }
+        Ok(())
+    }
+}
