@@ -26,7 +26,8 @@
 //! The functions that mirror the exported interface are gathered here; each layer's own definitions stand in
 //! its module. The [`verdict`], its halves, the rewriter, [`cloak`] and [`reduce`] stand above [`pair`], [`key`],
 //! [`digest`] and [`word`], and the [`desk`] above the verdict. What tests need besides, such as matrices of a
-//! chosen rank, slips that the verdict accepts and move lists that the rewriter accepts, is in [`testkit`].
+//! chosen rank, slips that the verdict accepts, move lists that the rewriter accepts and words that cloak, is in
+//! [`testkit`].
 
 pub mod bits;
 pub mod cloak;

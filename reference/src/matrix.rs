@@ -20,12 +20,14 @@ pub fn identity() -> Matrix {
     matrix
 }
 
-/// The matrix product: row by column, with the field's sums and products.
+/// The matrix product: row by column, with the field's sums and products. Zeros on the right add nothing and are
+/// skipped: a letter's matrix has few other entries.
 pub fn matrix_product(field: Field, left: &Matrix, right: &Matrix) -> Matrix {
     let mut result = [0; 64];
     for row in 1..=STRANDS {
         for column in 1..=STRANDS {
             result[at(row, column)] = (1..=STRANDS)
+                .filter(|k| right[at(*k, column)] != 0)
                 .map(|k| field.times(left[at(row, k)], right[at(k, column)]))
                 .fold(0, |sum, term| sum ^ term);
         }

@@ -85,6 +85,12 @@ pub fn carried(field: Field, pair: &Pair, t_values: &TValues, codes: &[u8]) -> P
     letters_of(codes).into_iter().fold(*pair, |pair, letter| e_multiplied(field, &pair, t_values, letter))
 }
 
+/// The list that a word reaches from a list. The codes are letters.
+pub fn list_reached(labels: &Labels, codes: &[u8]) -> Labels {
+    let letters = letters_of(codes).into_iter();
+    letters.fold(*labels, |labels, letter| composed(&labels, transposition(letter.generator)))
+}
+
 /// What the multiplier is asked about.
 struct Step {
     pair: Pair,

@@ -1,12 +1,14 @@
 //! What tests need: a small generator of numbers and of what they are made of ([`Random`]), matrices with an inverse
-//! and without one ([`matrices`]), slips that the verdict accepts ([`slips`]), and move lists that the rewriter accepts
-//! ([`walks`]).
+//! and without one ([`matrices`]), slips that the verdict accepts ([`slips`]), move lists that the rewriter accepts
+//! ([`walks`]), and words that cloak ([`cloaks`]).
 
+pub mod cloaks;
 pub mod matrices;
 pub mod random;
 pub mod slips;
 pub mod walks;
 
+pub use cloaks::inserted;
 pub use matrices::inverse_matrix;
 pub use random::Random;
 pub use slips::{accepted_slip, Slip};

@@ -1,5 +1,6 @@
 //! The plan: what is compared, in which order. What works over a field is compared over both alike.
 
+mod cloaks;
 mod halves;
 pub mod keys;
 mod slips;
@@ -12,6 +13,7 @@ use crate::make::{Maker, Size};
 use crate::operation::{parts, By, Op, Output};
 use crate::operations::{over_fields, ALL};
 use crate::tally::Tally;
+use cloaks::Insertions;
 
 /// How often each fault and each pair of faults is drawn anew.
 const VARIANTS: usize = 5;
@@ -47,11 +49,13 @@ pub type Checked<T = ()> = Result<T, Box<Failure>>;
 pub struct Run {
     pub maker: Maker,
     pub tally: Tally,
+    pub insertions: Insertions,
 }
 
 impl Run {
     pub fn new(seed: u64) -> Run {
-        Run { maker: Maker { random: Random::seeded(seed) }, tally: Tally::default() }
+        let maker = Maker { random: Random::seeded(seed) };
+        Run { maker, tally: Tally::default(), insertions: Insertions::default() }
     }
 
     /// The whole plan with so many random cases at its end.
@@ -68,6 +72,9 @@ impl Run {
         self.faults_in_pairs()?;
         self.rooms()?;
         self.longest()?;
+        for field in Field::BOTH {
+            self.cloaks_anywhere(field)?;
+        }
         for place in 0..cases {
             if place.is_multiple_of(CASES_TO_A_SLIP) {
                 for field in Field::BOTH {

@@ -73,6 +73,7 @@ impl Operation for Verify {
             judge("the large key and no word", &large, &[0; 64], &[]).refused(9),
             judge("permutation matrices", &keys::permutations().file, &[0; 32], &[0, 0]).refused(14),
         ];
+        cases.extend(insertions());
         for (name, key, answer) in keys::refused() {
             cases.push(judge(&name, &key, &[0; 64], &[0, 0]).refused(answer));
             cases.push(judge(&name, &key, &[], &[]).refused(answer));
@@ -117,8 +118,31 @@ impl Operation for Verify {
     }
 }
 
+/// Words before b7 repeated, which is accepted alone (document 02, section 12). b1 b1 cloaks for 0 to 7. After b2 the
+/// list is 0 2 1 3 to 7, and the T-values at positions 1 and 2 are 1 and 2. There b1 b1 does not cloak. b1, 62 times,
+/// does over 32 elements, where 2^31 = 1, but not over 256, where 2 has the order 255.
+fn insertions() -> Vec<Fixed> {
+    let many = format!("10 {}09", "00 ".repeat(30));
+    let fronts = [
+        ("b1 b1", "00", [0, 0]),
+        ("b2 b1 b1 b2⁻¹", "10 09", [14, 14]),
+        ("b2, b1 62 times, b2⁻¹", &many, [0, 14]),
+    ];
+    let mut cases = Vec::new();
+    for (field, place) in Field::BOTH.into_iter().zip(0..) {
+        let digest = vec![0; field.digest_bytes()];
+        for (name, front, answers) in &fronts {
+            let codes = [hex(front), vec![0x66; 2 * digest.len()]].concat();
+            let word = [&(2 * codes.len() as u16).to_be_bytes(), &codes[..]].concat();
+            let case = Fixed::of(&Verify, name, &[&keys::plain(field), &digest, &word]);
+            cases.push(if answers[place] == 0 { case } else { case.refused(answers[place]) });
+        }
+    }
+    cases
+}
+
 /// Turns one bit of the second matrix of a key file without faults round, such that it keeps an inverse.
-fn flip_second_matrix(random: &mut Random, field: Field, file: &mut [u8]) {
+pub fn flip_second_matrix(random: &mut Random, field: Field, file: &mut [u8]) {
     let second = &layout(field).second;
     loop {
         let bit = random.within(second.start, second.end - 1);

@@ -59,7 +59,7 @@ impl Run {
     }
 
     /// The word that an accepted writing leaves.
-    fn word_from(&mut self, operation: Op, parts: Parts) -> Checked<Vec<u8>> {
+    pub fn word_from(&mut self, operation: Op, parts: Parts) -> Checked<Vec<u8>> {
         let outcome = self.parts(operation, parts, Some(0))?;
         Ok(outcome.bytes[GUARD..GUARD + outcome.numbers[0] as usize].to_vec())
     }

@@ -1,0 +1,3 @@
+pub mod CloakedPairs
+pub mod CloaksAnywhere
+pub mod WrongInsertions

@@ -1,0 +1,1 @@
+// Cloaking words inserted in a word: a theorem, and no function.
