@@ -71,7 +71,7 @@ extern "C" {
 
 /* The version of this header and of its library. The first number is also the number after libwalnut.so. */
 #define WALNUT_VERSION_MAJOR 0
-#define WALNUT_VERSION_MINOR 1
+#define WALNUT_VERSION_MINOR 2
 #define WALNUT_VERSION_PATCH 0
 
 /* Marks a function whose result must be used. A compiler that knows the mark warns if a caller drops the result. */

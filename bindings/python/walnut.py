@@ -17,7 +17,7 @@ import operator
 import os
 from typing import Any, Iterable, List, Tuple, Union
 
-__version__ = "0.1.0"
+__version__ = "0.2.0"
 
 # walnut.h: begin; tools/interface writes these lines
 from ctypes import POINTER, Structure, c_bool, c_char_p, c_int32, c_size_t, c_uint8

@@ -11,7 +11,7 @@ use Rattle.slip_verdict.specs.declared.Halved.{Halved}
 use Rattle.slip_verdict.specs.Halves.{MakesHalf, secondHalfQuestions}
 use Rattle.slip_verdict.specs.Verdict.{verdict}
 use Rattle.slip_verdict.proofs.WholeFromHalves.{whole-is-its-halves, refused-by-the-first}
-use Rattle.desk_line.specs.Desk.{answerLine, Tells}
+use Rattle.desk_line.specs.Desk.{answerLine, filesLine, Tells}
 use Rattle.desk_line.specs.Copies.{copyAnswer, GivesVerdicts, noAnswerLine, copyLine}
 use Rattle.desk_line.specs.declared.Got.{Got}
 
@@ -45,3 +45,12 @@ module _ (made : Halved) (got : Got) (word : List ℕ) where
       → Tells (copyLine made got word) bytes text
   unfolding copyLine
   copy-not-read e t = rw e t
+
+-- the line on a copy is the line on the slip in three files, where all three could be read
+pub copy-as-files : (made : Halved) (k d w : Got) (key digest word : List ℕ)
+    → MakesHalf (take (k .bytes) key) (take (d .bytes) digest) (made .answer) (made .half)
+    → k .read ≡ true → d .read ≡ true → w .read ≡ true
+    → copyLine made w word ≡ filesLine k d w key digest word
+unfolding copyLine filesLine
+copy-as-files made k d w key digest word m kr dr wr =
+    rw kr (rw dr (rw wr (ap answerLine (gives-verdicts made _ _ _ m))))

@@ -52,14 +52,14 @@ braidOf-more hs k p =
     ∙ braidOf-append (take k hs) (getD hs k 0 ∷ [])
     ∙ ap (λ (w : List ℕ). braidOf (take k hs) ++ w) (append-nil (halfByteBraid (getD hs k 0)))
 
--- of half bytes: short
+-- the braid of half bytes has at most 20 letters for each
 short : (hs : List ℕ) → ((k : ℕ) → getD hs k 0 < 16) → length (braidOf hs) ≤ 20 * length hs
 unfolding braidOf
 short [] b = omega arith
 short (h ∷ hs) b =
     simp length-append (omega (arith, braid-short h (b 0), short hs (λ k. b (suc k))))
 
--- of any numbers: made of letters
+-- the braid of any numbers consists of letters
 lettered : (hs : List ℕ) → every isLetter (braidOf hs) ≡ true
 unfolding braidOf every
 lettered [] = refl

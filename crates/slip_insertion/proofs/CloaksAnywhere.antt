@@ -37,7 +37,7 @@ use Rattle.slip_verdict.proofs.VerdictIff.{same-verdict, digest-refused}
 use Rattle.move_kinds.specs.Rewriting.{Step, moveOf}
 use Rattle.braid_same.proofs.Laws.{same-lettered}
 use Rattle.move_kinds.proofs.MoveLaws.{Kept, move-kept}
-use Rattle.slip_insertion.specs.Insertion.{insertedAt, reachedAt, Insertion, insertedBy, Hides, insertions}
+use Rattle.slip_insertion.specs.Insertion.{insertedAt, Insertion, insertedBy, Hides, insertions}
 use Rattle.slip_insertion.specs.Insertion.{HidesAll, Alteration, inserts, moves, altered, Allowed, alterations}
 use Rattle.slip_insertion.specs.Insertion.{AllowedAll}
 use Rattle.slip_insertion.proofs.CloakedPairs.{inserted-carries}
@@ -128,9 +128,12 @@ alterations-kept key k (c ∷ cs) w e few h =
 
 -- ---- the verdict
 
--- of two words under a key: the second is accepted, and its verdict is that of the first, under every digest
+-- of two words under a key: the second is accepted, it carries Pub(S) where the first carries it, matrix and list, and
+-- its verdict is that of the first, under every digest
 pub record SameVerdicts (key word new : List ℕ) : Type 0 where
   pub new-accepted : wordAnswer new ≡ 0
+  pub carried : wordOn (operations (keyField key)) (keyOf key .«t_values») (codes new) (keyOf key .pair)
+      ≡ wordOn (operations (keyField key)) (keyOf key .«t_values») (codes word) (keyOf key .pair)
   pub verdicts : (digest : List ℕ) → verdict key digest new ≡ verdict key digest word
 
 module _ (key word : List ℕ) (k : keyAnswer key ≡ 0) (a : wordAnswer word ≡ 0) where
@@ -139,16 +142,22 @@ module _ (key word : List ℕ) (k : keyAnswer key ≡ 0) (a : wordAnswer word �
   kept-verdict v h =
       record {
         new-accepted = new;
+        carried = same-pair;
         verdicts = λ digest. go digest (ℕ-discrete (length digest) (digestBytes (keyField key)));
       }
     where
       new : wordAnswer (wordFile v) ≡ 0
       new = wordFile-accepted v (h .short) (h .lettered)
 
+      same-pair : wordOn (operations (keyField key)) (keyOf key .«t_values») (codes (wordFile v)) (keyOf key .pair)
+          ≡ wordOn (operations (keyField key)) (keyOf key .«t_values») (codes word) (keyOf key .pair)
+      same-pair =
+          ap (λ (u : List ℕ). wordOn (operations (keyField key)) (keyOf key .«t_values») u (keyOf key .pair))
+          (codes-wordFile v (h .short) (h .lettered))
+          ∙ h .carried
+
       reached : signed (keyOf key) (codes (wordFile v)) ≡ signed (keyOf key) (codes word)
-      reached =
-          ap (λ (u : List ℕ). signed (keyOf key) u) (codes-wordFile v (h .short) (h .lettered))
-          ∙ ap (λ (p : Pair). p .matrix) (h .carried)
+      reached = ap (λ (p : Pair). p .matrix) same-pair
 
       go : (digest : List ℕ) → Dec (length digest ≡ digestBytes (keyField key))
           → verdict key digest (wordFile v) ≡ verdict key digest word

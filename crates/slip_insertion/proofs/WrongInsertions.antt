@@ -1,47 +1,46 @@
 -- §12 without one of its conditions is false. The list matters: under the plain key b1 b1 cloaks for 0 to 7, the list
 -- of Pub(S). Inserted in b2 b2⁻¹ b7 .. b7 after the first letter, where another list is reached, it turns the answer 0
--- into 14. The limit matters: the file of a word with more than 10,000 letters is refused with 10.
-use Prim.Native.Nat.{ℕ, _+_, _≤_, _<_}
-use mathlib.Core.Path.{_≡_, refl, sym, ap, ap₂, _∙_}
-use mathlib.Core.Bool.{Bool, true}
-use mathlib.Core.List.{List, [], _∷_, _++_}
+-- into 14. The limit matters: the file of a word with more than 10,000 letters is refused with 10, and b1 b1 before
+-- 10,000 letters b1 makes such a word.
+use Prim.Native.Nat.{ℕ, zero, suc, _+_, _≤_, _<_}
+use mathlib.Core.Logic.{_⊎_, inl, inr}
+use mathlib.Core.Path.{_≡_, refl, sym, ap, _∙_}
+use mathlib.Core.Bool.{true}
+use mathlib.Core.List.{List, [], _∷_}
 use native.Mathlib.Omega.{arith}
 use borrow.Author.Tests.{le-leb, lt-leb}
-use lib.Dec.{leb, lit<}
-use lib.ListN.{length, take, drop, replicate, length-append, take-append-drop}
+use lib.Dec.{lit<}
+use lib.ListN.{length, drop, replicate, length-replicate}
 use lib.Seq.{take-at}
-use Rattle.base.specs.Questions.{_else_, firstNo, granted}
+use Rattle.base.specs.Questions.{firstNo}
 use Rattle.base.specs.Lists.{valuesFrom, every, tally, eachOnce, equal}
 use Rattle.base.specs.Digits.{value, digits, halves}
 use Rattle.base.specs.Packing.{unpackedRow}
-use Rattle.base.proofs.QuestionLaws.{passes, fails, all-passed}
+use Rattle.base.proofs.QuestionLaws.{passes, fails}
 use Rattle.base.proofs.DigitLaws.{length-digits, value-digits-below}
 use Rattle.field.specs.Polynomial.{timesX, horner, times}
-use Rattle.field.specs.Fields.{operations}
-use Rattle.field.specs.Gf32.{gf32}
-use Rattle.field.specs.declared.Field.the-variants.{Gf32}
+use Rattle.field.specs.Fields.{digestBytes}
 use Rattle.matrix.specs.Layout.{place, rowOf, columnOf, entry, matrixOf}
 use Rattle.matrix.specs.Product.{identity}
 use Rattle.word.specs.Strands.{swapped}
 use Rattle.word.specs.Words.{stated, codes, filler, wordQuestions, wordAnswer, wordFile, packed}
 use Rattle.word.proofs.WordLaws.{length-wordFile}
+use Rattle.word.specs.Letters.{isLetter}
+use Rattle.word.proofs.RoundTrip.{codes-wordFile, wordFile-accepted}
 use Rattle.word.proofs.ReadLaws.{accepted-word}
 use Rattle.pair.specs.Action.{tValue, shareOf, rowAfter, letterOn, wordOn, start}
 use Rattle.key.specs.Keys.{keyField, tValues, keyLabels, wholeMatrix, keyAnswer, keyOf}
 use Rattle.key.specs.declared.Key.{Key}
-use Rattle.slip_verdict.specs.Verdict.{verdict, signed, signedOver, target}
+use Rattle.slip_verdict.specs.Verdict.{verdict, signed, signedOver}
 use Rattle.slip_cloaking.specs.Cloaking.{samePair, comesBack, Cloaks}
 use Rattle.slip_cloaking.proofs.CloakLaws.{answered, past-list}
-use Rattle.slip_verdict.proofs.VerdictIff.{Signs, zero-iff-signs, unequal-14}
-use Rattle.slip_verdict.proofs.WrongVerdicts.{plainKey, sevens, zeroDigest, sevens-0}
+use Rattle.slip_verdict.proofs.VerdictIff.{Signs, zero-iff-signs, unequal-14, zero-or-14, word-refused}
+use Rattle.slip_verdict.proofs.WrongVerdicts.{plainKey, sevens, zeroDigest, key-is, sevens-0}
 use Rattle.move_kinds.specs.Kinds.{move}
-use Rattle.slip_insertion.specs.Insertion.{insertedAt, Insertion, insertedBy, moves, alterations, AllowedAll}
-use Rattle.slip_insertion.proofs.CloaksAnywhere.{SameVerdicts, inserted-length, cloaks-and-moves}
+use Rattle.slip_insertion.specs.Insertion.{reachedAt, Insertion, insertedBy, moves, alterations, AllowedAll}
+use Rattle.slip_insertion.proofs.CloaksAnywhere.{inserted-length, cloaks-and-moves}
 
 -- ---- the list
-
-abbrev plain : List ℕ
-plain = 1 ∷ 1 ∷ 2 ∷ 3 ∷ 4 ∷ 5 ∷ 6 ∷ 7 ∷ []
 
 -- b1 b1
 abbrev twice : List ℕ
@@ -54,11 +53,6 @@ around = 0x00 ∷ 0x82 ∷ 0x19 ∷ replicate 64 0x66
 -- b1 b1 after the first letter
 abbrev after-b2 : Insertion
 after-b2 = record { place = 1; file = twice }
-
-key-is : keyOf plainKey ≡ record { field = Gf32; «t_values» = plain; pair = start; second = identity }
-unfolding valuesFrom value digits rowOf columnOf matrixOf keyField tValues unpackedRow keyLabels wholeMatrix keyOf
-    identity start
-key-is = refl
 
 accepted : Signs plainKey zeroDigest sevens
 accepted = zero-iff-signs plainKey zeroDigest sevens .0 sevens-0
@@ -106,7 +100,7 @@ inserted-14 =
           (e ∙ sym (zero-iff-signs plainKey zeroDigest around .0 around-0 .matrices-equal)),
     ))
 
--- so the list reached at the place may not be exchanged for that of Pub(S), nor be any list for which the word cloaks
+-- so the list reached at the place may not be exchanged for that of Pub(S)
 pub list-matters : ((key digest word : List ℕ) (i : Insertion) → keyAnswer key ≡ 0 → wordAnswer word ≡ 0
     → i .place ≤ length (codes word)
     → Cloaks key (keyOf key .pair .labels) (i .file) 0 true → length (codes word) + length (codes (i .file)) ≤ 10000
@@ -120,6 +114,13 @@ list-matters claim =
       inserted-14,
       around-0,
     )
+
+-- nor may the list be left out: it is not enough that the word cloaks for some list
+pub list-left-out : ((key digest word labels : List ℕ) (i : Insertion) → keyAnswer key ≡ 0 → wordAnswer word ≡ 0
+    → i .place ≤ length (codes word)
+    → Cloaks key labels (i .file) 0 true → length (codes word) + length (codes (i .file)) ≤ 10000
+    → verdict key digest (wordFile (insertedBy i (codes word))) ≡ verdict key digest word) → ⊥
+list-left-out claim = list-matters (λ key digest word i. claim key digest word (keyOf key .pair .labels) i)
 
 -- ---- the limit
 
@@ -146,3 +147,60 @@ limit-matters word i a b many =
 
     size : length (insertedBy i (codes word)) ≡ length (codes word) + length (codes (i .file))
     size = inserted-length (i .place) (codes (i .file)) (codes word)
+
+-- §12 without the limit
+abbrev pub NoLimit : Type 0
+NoLimit =
+    (key digest word : List ℕ) (i : Insertion) → keyAnswer key ≡ 0 → wordAnswer word ≡ 0
+    → i .place ≤ length (codes word)
+    → Cloaks key (reachedAt key (i .place) (codes word)) (i .file) 0 true
+    → verdict key digest (wordFile (insertedBy i (codes word))) ≡ verdict key digest word
+
+-- letters b1
+ones : (n : ℕ) → every isLetter (replicate n 0) ≡ true
+unfolding every
+ones zero = refl
+ones (suc n) = ones n
+
+-- b1 b1 cloaks before 10,000 letters b1, and the new word is refused; n stands for 10,000, which is not computed with
+limit-at : (n : ℕ) → n ≡ 10000 → NoLimit → ⊥
+unfolding value halves codes wordOn firstNo every filler wordAnswer
+limit-at n e claim = go (zero-or-14 plainKey zeroDigest full k d a)
+  where
+    few : length {A = ℕ} (replicate n 0) ≤ 10000
+    few = omega (arith, length-replicate {A = ℕ} n 0, e)
+
+    full : List ℕ
+    full = wordFile (replicate n 0)
+
+    k : keyAnswer plainKey ≡ 0
+    k = accepted .key-accepted
+
+    d : length zeroDigest ≡ digestBytes (keyField plainKey)
+    d = accepted .digest-accepted
+
+    a : wordAnswer full ≡ 0
+    a = wordFile-accepted (replicate n 0) few (ones n)
+
+    size : length (codes full) ≡ 10000
+    size = ap length (codes-wordFile (replicate n 0) few (ones n)) ∙ length-replicate {A = ℕ} n 0 ∙ e
+
+    front : Insertion
+    front = record { place = 0; file = twice }
+
+    ten : wordAnswer (wordFile (insertedBy front (codes full))) ≡ 10
+    ten = limit-matters full front a refl (omega (arith, size))
+
+    same : verdict plainKey zeroDigest (wordFile (insertedBy front (codes full))) ≡ verdict plainKey zeroDigest full
+    same = claim plainKey zeroDigest full front k a (omega arith) cloaks-for-pub
+
+    new : verdict plainKey zeroDigest (wordFile (insertedBy front (codes full))) ≡ 10
+    new = word-refused plainKey zeroDigest _ k d (λ z. omega (arith, z, ten)) ∙ ten
+
+    go : (verdict plainKey zeroDigest full ≡ 0) ⊎ (verdict plainKey zeroDigest full ≡ 14) → ⊥
+    go (inl z) = omega (arith, z, same, new)
+    go (inr z) = omega (arith, z, same, new)
+
+-- so the limit may not be left out
+pub limit-left-out : NoLimit → ⊥
+limit-left-out = limit-at 10000 refl

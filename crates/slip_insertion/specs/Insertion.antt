@@ -48,7 +48,7 @@ unfoldable pub HidesAll : List ℕ → List Insertion → List ℕ → Type 0
 HidesAll key [] w = Unit {0}
 HidesAll key (i ∷ is) w = Hides key i w × HidesAll key is (insertedBy i w)
 
--- a change of a word: an insertedBy, or a move of a move list
+-- a change of a word: an insertion, or a move of a move list
 pub data Alteration : Type 0 where
   inserts : Insertion → Alteration
   moves : Step → Alteration

@@ -86,7 +86,8 @@ pub crossings-alike : {word new : List ℕ} → SameMeaning word new → (a b : 
 unfolding crossings valuesFrom
 crossings-alike s a b = s .crossed inOrder refl a b
 
--- the second half gives two words of the same meaning the same answer, under every half (document 02, §4)
+-- the second half gives two words of the same meaning the same answer, under every half of arrays of their sizes
+-- (document 02, §4)
 pub halves-alike : {word new : List ℕ} → SameMeaning word new → (h : Half) → Sized h
     → firstNo (secondHalfQuestions h new) ≡ firstNo (secondHalfQuestions h word)
 halves-alike {word} {new} s h sized = copies-alike h sized word new (s .old-accepted) (s .new-accepted) (s .carried)

@@ -1,5 +1,6 @@
 -- `desk_line::copy_answer` meets its contract.
 use mathlib.Core.Path.{_∙_}
+use native.Mathlib.Omega.{arith}
 use borrow.Author.Needs.{needs}
 use Rattle.desk_line.proofs.CopyLaws.{copy-refused, copy-judged}
 use Rattle.desk_line.proofs.copy_answer.Statement.{statement}
@@ -8,7 +9,7 @@ use Rattle.desk_line.proofs.copy_answer.Tie as tie
 returns : tie.Need-returns
 returns c =
     let a = c .before .before .args in
-    copy-refused (a .made) (a .word .now) (c .if1 .taken)
+    copy-refused (a .made) (a .word .now) (λ z. omega (arith, c .if1 .taken, z))
 
 returns-2 : tie.Need-returns-2
 returns-2 c =

@@ -1,4 +1,5 @@
-//! The program `desk`, on standard input and on three files: the line that it writes has the reference's answer.
+//! The program `desk`, on standard input, on three files, and on the files of several copies of a slip: each line that
+//! it writes has the reference's answer.
 
 use std::ffi::OsStr;
 use std::fs;
@@ -6,8 +7,9 @@ use std::path::{Path, PathBuf};
 use std::process::Output;
 use std::{env, process};
 
-use reference::testkit::Slip;
-use reference::word::word_file;
+use reference::letter::codes_of;
+use reference::testkit::{Random, Slip};
+use reference::word::{word_file, MOST_LETTERS};
 use reference::{desk, verify, Field};
 
 use crate::case::field_of_key;
@@ -21,17 +23,45 @@ use crate::show;
 /// How often each pair of faults, and each length, is drawn anew.
 const VARIANTS: usize = 5;
 
-/// What is wrong with what a program wrote, if it is not the line of this answer alone.
-fn held(name: &str, input: &[&[u8]], output: &Output, answer: u8) -> Checked {
-    if output.stdout == format!("answer {answer}\n").as_bytes() && output.stderr.is_empty() {
+/// The slips over each field of which several copies are judged, beside those with a fault of key or digest.
+const COPIED: usize = 60;
+
+/// The line of an answer, or of a file that cannot be read.
+fn line(answer: Option<u8>) -> String {
+    answer.map_or("no answer\n".to_string(), |answer| format!("answer {answer}\n"))
+}
+
+/// What is wrong with what a program wrote, if it is not the lines of these answers. It writes to standard error only
+/// where a file cannot be read.
+fn held(name: &str, input: &[&[u8]], output: &Output, answers: &[Option<u8>]) -> Checked {
+    let lines: String = answers.iter().copied().map(line).collect();
+    if output.stdout == lines.as_bytes() && output.stderr.is_empty() != answers.contains(&None) {
         return Ok(());
     }
     let parts = input.iter().map(|part| format!("  [{}]: {}\n", part.len(), show::hex(part)));
     let found = String::from_utf8_lossy(&output.stdout);
-    Err(format!(
-        "{name}: wrote {found:?} and not the line of answer {answer} on\n{}",
-        parts.collect::<String>()
-    ))
+    Err(format!("{name}: wrote {found:?} and not {lines:?} on\n{}", parts.collect::<String>()))
+}
+
+/// The file of a copy of a word: the word as it is, rewritten, damaged, with a fault, or too long; or another word.
+fn copy(random: &mut Random, codes: &[u8]) -> Vec<u8> {
+    let mut file = word_file(codes);
+    match random.below(7) {
+        0 => {}
+        1 => {
+            let moves = random.within(1, 40);
+            file = word_file(&codes_of(&random.walk(codes, moves).word));
+        }
+        2 => files::damage(random, &mut file, false),
+        3 => {
+            let fault = random.within(9, 13) as u8;
+            file = files::word(random, codes, &[fault]);
+        }
+        4 => file.resize(random.pick(&[file.len() + 1, 5_002, 5_003, 70_000]), 0),
+        5 => file = word_file(&vec![0; MOST_LETTERS + 1]),
+        _ => file = word_file(&random.tangled_word(codes.len() + 1)),
+    }
+    file
 }
 
 /// The programs, the folder of the files that they are given, and what was compared.
@@ -40,6 +70,8 @@ struct Desk<'a> {
     folder: PathBuf,
     by_input: BySize,
     by_files: BySize,
+    by_copies: BySize,
+    copies_left_out: usize,
     without_answer: usize,
 }
 
@@ -75,12 +107,19 @@ impl Desk<'_> {
         self.folder.join(name)
     }
 
+    /// The file of a part, with these bytes.
+    fn written(&self, name: &str, part: &[u8]) -> Checked<PathBuf> {
+        let path = self.file(name);
+        fs::write(&path, part).map_err(|error| format!("{}: {error}\n", path.display()))?;
+        Ok(path)
+    }
+
     /// The slip on standard input, in these pieces.
     fn on_input(&mut self, pieces: &[&[u8]]) -> Checked {
         let input = pieces.concat();
         let answer = desk::answer(&input);
         let output = ran(&self.programs.join("desk"), &[], pieces)?;
-        held("desk", &[&input], &output, answer)?;
+        held("desk", &[&input], &output, &[Some(answer)])?;
         self.by_input.count(desk::field_told(&input), answer);
         Ok(())
     }
@@ -88,14 +127,37 @@ impl Desk<'_> {
     /// The slip in three files.
     fn on_files(&mut self, slip: &Slip) -> Checked {
         let parts = [&slip.key, &slip.digest, &slip.word].map(Vec::as_slice);
-        let paths = ["the key", "the digest", "the signature"].map(|name| self.file(name));
-        for (path, part) in paths.iter().zip(parts) {
-            fs::write(path, part).map_err(|error| format!("{}: {error}\n", path.display()))?;
-        }
+        let named = ["the key", "the digest", "the signature"].into_iter().zip(parts);
+        let paths = named.map(|(name, part)| self.written(name, part)).collect::<Checked<Vec<_>>>()?;
         let answer = verify(parts[0], parts[1], parts[2]);
         let output = self.on_paths(&paths)?;
-        held("desk on three files", &parts, &output, answer)?;
+        held("desk on three files", &parts, &output, &[Some(answer)])?;
         self.by_files.count(field_of_key(parts[0]), answer);
+        Ok(())
+    }
+
+    /// A key, a digest and the words of several copies in files, some of which are left out: a line for each copy, in
+    /// order.
+    fn on_copies(&mut self, key: &[u8], digest: &[u8], words: &[Option<Vec<u8>>]) -> Checked {
+        let mut paths = vec![self.written("the key", key)?, self.written("the digest", digest)?];
+        for (place, word) in words.iter().enumerate() {
+            paths.push(match word {
+                Some(word) => self.written(&format!("copy {place}"), word)?,
+                None => self.file("not there"),
+            });
+        }
+        let judged = |word: &Option<Vec<u8>>| word.as_ref().map(|word| verify(key, digest, word));
+        let answers: Vec<Option<u8>> = words.iter().map(judged).collect();
+        let output = self.on_paths(&paths)?;
+        let parts: Vec<&[u8]> =
+            [key, digest].into_iter().chain(words.iter().flatten().map(Vec::as_slice)).collect();
+        held("desk on copies", &parts, &output, &answers)?;
+        for answer in answers {
+            match answer {
+                Some(answer) => self.by_copies.count(field_of_key(key), answer),
+                None => self.copies_left_out += 1,
+            }
+        }
         Ok(())
     }
 
@@ -135,6 +197,20 @@ impl Desk<'_> {
         }
         for given in 1..3 {
             self.unanswered(&there[..given])?;
+        }
+        self.without_key_or_digest(&there)
+    }
+
+    /// Copies of a slip whose key or digest, or both, are not there.
+    fn without_key_or_digest(&mut self, there: &[PathBuf; 3]) -> Checked {
+        let [key, digest, signature] = there;
+        let other = &self.file("not there");
+        for (key, digest) in [(other, digest), (key, other), (other, other)] {
+            for copies in 2..4 {
+                let mut paths = vec![key.clone(), digest.clone()];
+                paths.resize(2 + copies, signature.clone());
+                self.unanswered(&paths)?;
+            }
         }
         Ok(())
     }
@@ -263,6 +339,36 @@ impl Desk<'_> {
         Ok(())
     }
 
+    /// Slips of which several copies are judged: accepted ones, and ones with a fault of key or digest.
+    fn copied(&mut self, maker: &mut Maker, field: Field) -> Checked {
+        let of_the_slip = |fault: &u8| matches!(fault, 1..=8 | 26);
+        let questions = Verify.facts().questions_over(field);
+        for fault in questions.into_iter().filter(of_the_slip) {
+            for place in 0..VARIANTS {
+                self.copies_of(maker, field, &[fault], place % 2 == 1)?;
+            }
+        }
+        for place in 0..COPIED {
+            self.copies_of(maker, field, &[], place % 2 == 1)?;
+        }
+        Ok(())
+    }
+
+    /// From 2 to 20 copies of a slip with these faults of key or digest; one of them is left out, or none.
+    fn copies_of(&mut self, maker: &mut Maker, field: Field, faults: &[u8], left_out: bool) -> Checked {
+        let codes = maker.codes(Size::Short);
+        let slip = maker.slip(field, &codes);
+        let random = &mut maker.random;
+        let key = files::key(random, field, &slip.key, faults);
+        let digest = files::digest(random, field, &slip.digest, faults);
+        let number = random.within(2, 20);
+        let mut words: Vec<Option<Vec<u8>>> = (0..number).map(|_| Some(copy(random, &codes))).collect();
+        if left_out {
+            words[random.below(number as u64)] = None;
+        }
+        self.on_copies(&key, &digest, &words)
+    }
+
     /// A slip with these faults, damaged besides or not.
     fn made(&mut self, maker: &mut Maker, field: Field, faults: &[u8], damaged: bool) -> Checked {
         let case = maker.with_faults(&Verify, field, faults, Size::Short);
@@ -277,24 +383,35 @@ impl Desk<'_> {
     }
 }
 
-/// Runs both forms over both fields: a line for each.
+/// Runs all forms over both fields: a line for each.
 pub fn check(programs: &Path, maker: &mut Maker) -> Checked<Vec<String>> {
     let folder = env::temp_dir().join(format!("walnut slips {}", process::id()));
     fs::create_dir_all(&folder).map_err(|error| format!("{}: {error}\n", folder.display()))?;
-    let (by_input, by_files) = (BySize::default(), BySize::default());
-    let mut desk = Desk { programs, folder, by_input, by_files, without_answer: 0 };
+    let mut desk = Desk {
+        programs,
+        folder,
+        by_input: BySize::default(),
+        by_files: BySize::default(),
+        by_copies: BySize::default(),
+        copies_left_out: 0,
+        without_answer: 0,
+    };
     desk.of_the_paper()?;
     desk.missing()?;
     desk.mixed(maker)?;
     for field in Field::BOTH {
         desk.accepted(maker, field)?;
         desk.faulty(maker, field)?;
+        desk.copied(maker, field)?;
     }
-    let mut lines =
-        [desk.by_input.summaries("desk")?, desk.by_files.summaries("desk on three files")?].concat();
-    lines.push(format!(
-        "desk on three files: without an answer, as a file cannot be read: {}",
-        desk.without_answer
-    ));
+    let mut lines = [
+        desk.by_input.summaries("desk")?,
+        desk.by_files.summaries("desk on three files")?,
+        desk.by_copies.summaries("desk on copies")?,
+    ]
+    .concat();
+    lines
+        .push(format!("desk on copies: \"no answer\", as the copy cannot be read: {}", desk.copies_left_out));
+    lines.push(format!("desk on files: no line, as a file cannot be read: {}", desk.without_answer));
     Ok(lines)
 }
