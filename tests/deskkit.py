@@ -36,7 +36,7 @@ def run(*arguments, walnut=WALNUT, **options):
     """Runs ./walnut: its status, standard output and standard error."""
     global runs
     runs += 1
-    captured = {"stdin": subprocess.DEVNULL, "stdout": subprocess.PIPE, "stderr": subprocess.PIPE, "timeout": 30}
+    captured = {"stdin": subprocess.DEVNULL, "stdout": subprocess.PIPE, "stderr": subprocess.PIPE, "timeout": 120}
     options = {**captured, **options}
     done = subprocess.run([walnut, *arguments], check=False, **options)
     return done.returncode, (done.stdout or b"").decode(), (done.stderr or b"").decode()
