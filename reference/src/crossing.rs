@@ -1,6 +1,6 @@
 //! How often two strands cross (document 02, section 2).
 //!
-//! No list of labels is kept: two strands are followed by their own positions, and cross where a letter makes them
+//! This module keeps no list of labels. It follows the positions of two strands. They cross at a letter that makes them
 //! change positions with each other.
 
 use crate::letter::{letters_of, Letter};

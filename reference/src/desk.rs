@@ -16,7 +16,7 @@ pub fn field_told(input: &[u8]) -> Field {
     }
 }
 
-/// The input's key, digest and signature, as far as it has them. Bytes past the longest signature and one are not read.
+/// The key, digest and signature of an input, as far as it has them. Of a signature at most 5,003 bytes are read.
 pub fn parts(input: &[u8]) -> [&[u8]; 3] {
     let field = field_told(input);
     let (key, rest) = input.split_at(input.len().min(field.key_bytes()));

@@ -29,13 +29,13 @@ pub fn digest_braid(digest: &[u8]) -> Vec<u8> {
     bits::numbers(&bits::of_bytes(digest), 4).into_iter().flat_map(half_byte_braid).collect()
 }
 
-/// The answer to a digest's question under a key over this field: 8, or 0. It is to have the bytes that go with the
-/// key.
+/// The answer to a digest's question under a key over this field: 8, or 0. The digest must have the length that goes
+/// with the key.
 pub fn digest_answer(field: Field, digest: &[u8]) -> u8 {
     first_no(&[(8, |(field, bytes): &(Field, usize)| *bytes == field.digest_bytes())], &(field, digest.len()))
 }
 
-/// The answer to a digest's question where there is no key: 8, or 0. It is to have 32 bytes or 64.
+/// The answer to a digest's question without a key: 8, or 0. The digest must have 32 bytes or 64.
 fn any_digest_answer(digest: &[u8]) -> u8 {
     first_no(
         &[(8, |bytes: &usize| Field::BOTH.iter().any(|field| *bytes == field.digest_bytes()))],

@@ -67,8 +67,8 @@ pub fn layout(field: Field) -> &'static Layout {
     }
 }
 
-/// A key as read: its field, T-values, Pub(S) and the matrix of Pub(S'); on a refusal the field with 32 elements, and
-/// all zeros but the answer.
+/// A key as read: its field, T-values, Pub(S) and the matrix of Pub(S'). On a refusal the field is the one with 32
+/// elements, and everything but the answer is zeros.
 #[derive(Clone, Copy, Debug, PartialEq, Eq)]
 pub struct Key {
     pub answer: u8,
@@ -128,7 +128,7 @@ fn entry_places() -> impl Iterator<Item = usize> {
     rows.chain([at(STRANDS, STRANDS)])
 }
 
-/// The whole matrix with these entries: those of row 8 that a file leaves out are 0.
+/// The whole matrix with these entries. The entries of row 8 that a file leaves out are 0.
 pub fn key_matrix(entries: &[u8]) -> Matrix {
     let mut matrix = [0; 64];
     for (place, entry) in entry_places().zip(entries) {

@@ -20,8 +20,8 @@ pub fn identity() -> Matrix {
     matrix
 }
 
-/// The matrix product: row by column, with the field's sums and products. Zeros on the right add nothing and are
-/// skipped: a letter's matrix has few other entries.
+/// The matrix product: row by column, with the field's sums and products. Zeros of the right factor add nothing, so
+/// they are skipped; most entries of a letter's matrix are zeros.
 pub fn matrix_product(field: Field, left: &Matrix, right: &Matrix) -> Matrix {
     let mut result = [0; 64];
     for row in 1..=STRANDS {
@@ -35,9 +35,9 @@ pub fn matrix_product(field: Field, left: &Matrix, right: &Matrix) -> Matrix {
     result
 }
 
-/// The determinant, by expansion: the first rows, on as many columns, have the sum over these columns of the last of
-/// those rows' entry there times the determinant of the rows before it on the other columns; signs change nothing.
-/// A set of columns is a number whose bits are the columns, and all sets are worked out, smaller ones first.
+/// The determinant, by expansion along the last row: each entry of that row times the determinant of the rows before it
+/// on the other columns, summed. Signs change nothing. A set of columns is a number whose bits are the columns. The
+/// determinants of all sets are computed, smaller sets first.
 pub fn determinant(field: Field, matrix: &Matrix) -> u8 {
     let mut minors = [0; 1 << STRANDS];
     minors[0] = 1;
@@ -51,7 +51,7 @@ pub fn determinant(field: Field, matrix: &Matrix) -> u8 {
     minors[(1 << STRANDS) - 1]
 }
 
-/// Can the matrix be inverted? (Question 26.) Over a field that is so exactly where its determinant is not 0.
+/// Can the matrix be inverted? (Question 26.) Over a field it can exactly if its determinant is not 0.
 pub fn is_invertible(field: Field, matrix: &Matrix) -> bool {
     determinant(field, matrix) != 0
 }

@@ -1,8 +1,8 @@
 //! The rewriter (document 01, "Moves").
 //!
-//! A word is a run of letters here, and every kind of move replaces a few neighbours in it: a kind needs so
-//! many letters from its place on, and splices in what it makes of them if they have its shape. An insertion
-//! needs none and makes two.
+//! A word is a run of letters here, and every kind of move replaces a few neighbours in it. A kind takes a number of
+//! letters from its place on. If they match the kind, it puts other letters in their place. An insertion takes none
+//! and puts in two.
 
 use std::ops::Range;
 

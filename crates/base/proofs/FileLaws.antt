@@ -8,7 +8,8 @@ use lib.ListN.{length, take, drop, getD, length-append, take-append-drop, drop-o
 use lib.Seq.{take-at, drop-at, drop-drop}
 use Rattle.base.specs.Lists.{overlaid}
 use Rattle.base.specs.Digits.{part}
-use Rattle.base.specs.Files.{joined, placeFrom, filePart, partsFrom, Laid}
+use Rattle.base.specs.Files.{joined, placeFrom, filePart, partsFrom}
+use Rattle.base.specs.steps.Laying.{Laid}
 use Rattle.base.proofs.ListLaws.{laid-more}
 
 -- parts that stand after a front

@@ -93,7 +93,7 @@ module _ (f : ℕ → Bool) where
   pub every-drop : (k : ℕ) (xs : List ℕ) → every f xs ≡ true → every f (drop k xs) ≡ true
   every-drop k xs e = and-right (every f (take k xs)) (every f (drop k xs)) (sym (every-split k xs) ∙ e)
 
-  -- one turn of a loop: the first k + 1 elements, and the elements from k on
+  -- one turn of a loop: the first k + 1 elements pass if the first k do and element k does
   pub every-more : (xs : List ℕ) (k : ℕ) → k < length xs
       → every f (take (k + 1) xs) ≡ every f (take k xs) && f (getD xs k 0)
   unfolding every
@@ -102,7 +102,7 @@ module _ (f : ℕ → Bool) where
       (every-append (take k xs) (getD xs k 0 ∷ [])
       ∙ ap (λ (b : Bool). every f (take k xs) && b) (and-true (f (getD xs k 0))))
 
-  -- a rest of at most one element, for a test that 0 passes
+  -- For a test that 0 passes: if at most one element comes after the first n, they all pass just if place n does.
   pub every-last : f 0 ≡ true → (xs : List ℕ) (n : ℕ) → length xs ≤ n + 1 → every f (drop n xs) ≡ f (getD xs n 0)
   unfolding every
   every-last z [] n h = ap (every f) (drop-nil n) ∙ sym z

@@ -71,7 +71,7 @@ in-a-row (p ∷ ps) qs t =
     go false zero h e = absurd h
     go false (suc n) h e = refl
 
--- what is given on answer 0, and on a refusal
+-- on answer 0 `granted` is its first value, and on a refusal its second
 pub granted-zero {ℓ} : {A : Type ℓ} {n : ℕ} (a b : A) → n ≡ 0 → granted n a b ≡ a
 unfolding granted
 granted-zero a b e = ap (λ n. granted n a b) e
@@ -93,7 +93,8 @@ unfolding granted
 granted-ap f zero a b = refl
 granted-ap f (suc n) a b = refl
 
--- Two lists in a row: the first list is passed, or it has the first refusal. Answer 0 of both.
+-- Two lists of questions in a row. If the first list is passed, the answer is that of the second; if not, it is that of
+-- the first. On answer 0 both lists are passed.
 module _ (ps qs : List Question) (t : T (numbered ps)) where
   pub all-passed : firstNo ps ≡ 0 → firstNo (ps ++ qs) ≡ firstNo qs
   all-passed e = in-a-row ps qs t ∙ granted-zero (firstNo qs) (firstNo ps) e

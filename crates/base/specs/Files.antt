@@ -1,8 +1,7 @@
 -- Files that consist of parts, one after another.
 use Prim.Native.Nat.{ℕ, zero, suc, _+_}
-use mathlib.Core.Path.{_≡_}
 use mathlib.Core.List.{List, [], _∷_, _++_}
-use lib.ListN.{length, take, drop, getD}
+use lib.ListN.{getD}
 use Rattle.base.specs.Digits.{part}
 
 -- parts, one after another, as one list
@@ -24,9 +23,3 @@ filePart sizes i file = part (placeFrom 0 sizes i) (getD sizes i 0) file
 abbrev pub partsFrom : ℕ → List ℕ → List ℕ → List (List ℕ)
 partsFrom at [] file = []
 partsFrom at (n ∷ sizes) file = part at n file ∷ partsFrom (at + n) sizes file
-
--- The part xs is laid at place `at` of an output. `end` is the place after the part. All other bytes of the output are
--- unchanged.
-pub record Laid (at : ℕ) (xs before after : List ℕ) (end : ℕ) : Type 0 where
-  pub ends : end ≡ at + length xs
-  pub lies : after ≡ take at before ++ (xs ++ drop (length xs) (drop at before))

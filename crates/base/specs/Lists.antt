@@ -1,6 +1,7 @@
--- Lists of numbers: a test of every element, how often a number occurs, the values of a function in a row, two lists
--- compared, and the output after a writer.
+-- Lists of numbers: a test of every element, bytes, how often a number occurs, the values of a function in a row, two
+-- lists compared, and the output after a writer.
 use Prim.Native.Nat.{ℕ, zero, suc, _+_}
+use mathlib.Core.Path.{_≡_}
 use mathlib.Core.Bool.{Bool, true, false, cond, _&&_}
 use mathlib.Core.List.{List, [], _∷_, _++_}
 use lib.Dec.{eqb, ltb}
@@ -10,6 +11,10 @@ use lib.ListN.{length, drop}
 unfoldable pub every : (ℕ → Bool) → List ℕ → Bool
 every f [] = true
 every f (x ∷ xs) = f x && every f xs
+
+-- a list of bytes: what a lent slice can hold
+abbrev pub Bytes : List ℕ → Type 0
+Bytes xs = every (λ b. ltb b 256) xs ≡ true
 
 -- how many elements pass the test
 unfoldable pub tally : (ℕ → Bool) → List ℕ → ℕ

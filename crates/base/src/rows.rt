@@ -9,7 +9,7 @@ ghost use Prim.Native.Nat.{_+_, _^_, _≤_};
 ghost use lib.ListN.{length};
 ghost use Rattle.base.specs.Packing.{Below, rowBytes, fillerBits, packedRow, unpackedRow, rowFiller};
 ghost use Rattle.base.specs.steps.Regrouping.{Regroups, regrouped};
-ghost use Rattle.base.specs.Files.{Laid};
+ghost use Rattle.base.specs.steps.Laying.{Laid};
 
 // How many numbers n bits can write.
 pub fn power(n: usize) -> u64

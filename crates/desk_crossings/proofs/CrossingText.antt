@@ -1,5 +1,5 @@
--- Laws of the text: on a refusal and on success; how many bytes of a word are enough to read; and that two words in
--- which every two labels cross alike have the same text.
+-- Laws of the text on a refusal and on success. Then: how many bytes of a word are enough to read, and that two words
+-- in which every two labels cross equally often have the same text.
 use Prim.Native.Nat.{ℕ, _≤_, _<_}
 use mathlib.Core.Path.{_≡_, sym, ap, subst, _∙_}
 use mathlib.Core.Bool.{true, false}
@@ -21,7 +21,8 @@ use Rattle.word_crossing.proofs.PairLaws.{length-all, all-alike, numbers-within
 use Rattle.desk_line.specs.Desk.{answerLine, Tells}
 use Rattle.desk_line.specs.declared.Got.{Got}
 use Rattle.word.proofs.LongWords.{enough-of-word as enough-of-answer, whole-word}
-use Rattle.desk_crossings.specs.Lines.{textSize, linesOf, crossingText, wordText, EnoughOfWord, Numbers}
+use Rattle.desk_crossings.specs.Lines.{textSize, linesOf, crossingText, wordText, EnoughOfWord}
+use Rattle.desk_crossings.specs.steps.Range.{Numbers}
 
 -- ---- a refusal's line in the text
 
@@ -65,7 +66,7 @@ accepted-numbers {word} all z =
     rw (given-numbers all z)
     (record { size = length-all (codes word); small = numbers-within word (sym (all .answer-is) ∙ z) })
 
--- of the first bytes of a buffer, as the code reads them
+-- the text on the first bytes of a buffer, as the code reads them
 module _ (got : Got) (input : List ℕ) {bytes : ℕ} {text : List ℕ} where
   pub text-not-read : got .read ≡ false → bytes ≡ 0 → text ≡ replicate textSize 0
       → TellsIn textSize (wordText got input) bytes text
@@ -89,7 +90,7 @@ module _ (got : Got) (input : List ℕ) {bytes : ℕ} {text : List ℕ} where
     text-accepted z t =
         as-read (ap (linesOf allPairs) (given-numbers all z) ∙ sym (accepted-text word (sym (all .answer-is) ∙ z))) t
 
--- 5,003 bytes are enough to read, and so is more
+-- 5,003 bytes or more are enough to read
 pub enough-of-word : (n : ℕ) → 5002 < n → EnoughOfWord n
 unfolding crossingText
 enough-of-word n h =
@@ -98,9 +99,8 @@ enough-of-word n h =
     (λ word. answerLine (wordAnswer word)) n answers (whole-word n h)
     (λ word. ap answerLine (answers word))
 
--- ---- words that cross alike
+-- ---- words in which every two labels cross equally often have the same text
 
--- they have the same text
 pub same-text : (word new : List ℕ) → wordAnswer word ≡ 0 → wordAnswer new ≡ 0
     → ((a b : ℕ) → crossings a b (codes new) ≡ crossings a b (codes word)) → crossingText new ≡ crossingText word
 same-text word new a b s =

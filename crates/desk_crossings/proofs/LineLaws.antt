@@ -1,4 +1,4 @@
--- Laws of the lines: how long one is, how the code adds it, and one line more.
+-- Laws of the lines: how long a line is, how the code writes it, and one line more.
 use Prim.Native.Nat.{ℕ, zero, suc, _+_, _≤_, _<_}
 use mathlib.Core.Path.{_≡_, sym, ap, subst, _∙_}
 use mathlib.Core.List.{List, [], _∷_, _++_, append-assoc, append-nil}
@@ -10,11 +10,13 @@ use lib.Seq.{take-all}
 use mir.Syntax.{w32}
 use mir.Val.{SFits, toZ, ofZ}
 use mir.Facts.{toZ-ofZ}
+use Rattle.base.specs.steps.Laying.{Laid}
 use Rattle.text.specs.Decimal.{decimal, signedText}
-use Rattle.text.specs.Texts.{line, Added}
+use Rattle.text.specs.Texts.{line}
 use Rattle.text.proofs.DecimalLaws.{decimal-short}
 use Rattle.text.proofs.TextLaws.{added-word}
-use Rattle.word_crossing.specs.Crossings.{allPairs, pairAt}
+use Rattle.word_crossing.specs.Crossings.{allPairs}
+use Rattle.word_crossing.specs.steps.Pairs.{pairAt}
 use Rattle.word_crossing.specs.declared.Two.{Two}
 use Rattle.word_crossing.proofs.AllPairs.{twenty-eight}
 use Rattle.word_crossing.proofs.PairLaws.{in-order, larger-below}
@@ -26,7 +28,7 @@ use Rattle.desk_crossings.specs.Lines.{pairLine, linesOf}
 label-short : (a : ℕ) → a < 8 → length (decimal a) ≤ 1
 label-short a h = decimal-short a 1 (omega arith) (omega arith)
 
--- a number has five at most, and a minus sign
+-- a number has at most five digits and a minus sign
 pub number-short : (z : ℤ) → natAbs z ≤ 10000 → length (signedText z) ≤ 6
 unfolding signedText
 number-short (pos n) h = omega (arith, decimal-short n 5 (omega arith) (omega arith))
@@ -54,16 +56,16 @@ module _ (k : ℕ) (h : k < 28) where
         number-short z b,
       )
 
-  -- a line is its words one after another, as the code adds them
+  -- a line is its words one after another, as the code writes them
   pub line-added : {a b : ℕ} {n number : ℤ} {before first second after : List ℕ} {at one two end : ℕ}
       → a ≡ pairAt k .smaller → b ≡ pairAt k .larger → n ≡ number → at ≤ length before → one ≤ length first
-      → Added (decimal a ++ (32 ∷ [])) before at first one
-      → Added (decimal b ++ (32 ∷ [])) first one second two
-      → Added (signedText n ++ (10 ∷ [])) second two after end
-      → Added (pairLine (pairAt k) number) before at after end
+      → Laid at (decimal a ++ (32 ∷ [])) before first one
+      → Laid one (decimal b ++ (32 ∷ [])) first second two
+      → Laid two (signedText n ++ (10 ∷ [])) second after end
+      → Laid at (pairLine (pairAt k) number) before after end
   unfolding pairLine line
   line-added {a} {b} {n} {before = before} {after = after} {at = at} {end = end} ea eb en h l f g s =
-      subst (λ (t : List ℕ). Added t before at after end)
+      subst (λ (t : List ℕ). Laid at t before after end)
       (λ i. line (decimal (ea i) ∷ decimal (eb i) ∷ signedText (en i) ∷ []))
       (added-word (decimal a) (decimal b) (signedText n ∷ []) h f (added-word (decimal b) (signedText n) [] l g s))
 

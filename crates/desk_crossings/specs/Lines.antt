@@ -1,11 +1,10 @@
 -- The program that lists how often every two strands of a word cross (document 02, §2): its lines, and how large its
 -- buffer has to be.
-use Prim.Native.Nat.{ℕ, _≤_}
-use mathlib.Core.Path.{_≡_}
+use Prim.Native.Nat.{ℕ}
 use mathlib.Core.Bool.{cond}
 use mathlib.Core.List.{List, [], _∷_, _++_}
-use lib.ListN.{length, take, getD}
-use lib.IntN.{ℤ, pos, natAbs}
+use lib.ListN.{take}
+use lib.IntN.{ℤ}
 use Rattle.base.specs.Questions.{granted}
 use Rattle.text.specs.Decimal.{decimal, signedText}
 use Rattle.text.specs.Texts.{line}
@@ -16,7 +15,7 @@ use Rattle.word_crossing.specs.declared.Two.{Two}
 use Rattle.desk_line.specs.Desk.{answerLine}
 use Rattle.desk_line.specs.declared.Got.{Got}
 
--- smaller label, larger and number
+-- the line of a pair: its smaller label, its larger label, and its number
 unfoldable pub pairLine : Two → ℤ → List ℕ
 pairLine p number = line (decimal (p .smaller) ∷ decimal (p .larger) ∷ signedText number ∷ [])
 
@@ -26,12 +25,12 @@ linesOf [] numbers = []
 linesOf (p ∷ ps) [] = []
 linesOf (p ∷ ps) (n ∷ ns) = pairLine p n ++ linesOf ps ns
 
--- what is written of a word: the lines of all pairs, and on a refusal the desk program's line
+-- what is written on a word: the lines of all pairs, or on a refusal the desk program's line
 unfoldable pub crossingText : List ℕ → List ℕ
 crossingText word =
     granted (wordAnswer word) (linesOf allPairs (allCrossings (codes word))) (answerLine (wordAnswer word))
 
--- of a word of which the buffer's first bytes were read; nothing where it could not be read
+-- what is written on a word, of which the buffer's first bytes were read; nothing if it could not be read
 unfoldable pub wordText : Got → List ℕ → List ℕ
 wordText got word = cond (got .read) (crossingText (take (got .bytes) word)) []
 
@@ -39,11 +38,6 @@ wordText got word = cond (got .read) (crossingText (take (got .bytes) word)) []
 abbrev pub textSize : ℕ
 textSize = 308
 
--- n bytes are enough to read of an input of any length: what is written of them is what is written of all of it
+-- n bytes of an input of any length are enough to read: the same is written on them as on the whole input
 abbrev pub EnoughOfWord : ℕ → Type 0
 EnoughOfWord n = Enough n crossingText
-
--- for private contracts: the numbers of an accepted word, 28 from -10,000 to 10,000. (Past the end stands 0)
-pub record Numbers (numbers : List ℤ) : Type 0 where
-  pub size : length numbers ≡ 28
-  pub small : (k : ℕ) → natAbs (getD numbers k (pos 0)) ≤ 10000

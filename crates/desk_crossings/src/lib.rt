@@ -8,7 +8,7 @@ ghost use Rattle.desk_crossings.specs.Lines.{wordText, textSize, EnoughO
 
 mod line; // line.rt: the lines of all pairs
 
-// The bytes to read: one more than a word may have, so that a longer one is told from a full one.
+// The bytes to read: one more than a word may have, so that a word that is too long is noticed.
 pub const WORD_ROOM: usize = desk_line::WORD_ROOM;
 
 // The most bytes of a text: 28 lines of 11.
@@ -44,8 +44,8 @@ fn answer_text(answer: u8) -> Text
     Text { text, bytes }
 }
 
-// What is written of a word: the lines of all pairs, or on a refusal the desk program's line; nothing where it could
-// not be read.
+// What is written on a word: the lines of all pairs, or on a refusal the desk program's line. If the word could not be
+// read, nothing is written.
 pub fn word_text(input: &[u8; WORD_ROOM], got: Got) -> Text
     ensures { λ r. ⌜ TellsIn textSize (wordText got (now (input .entry))) (r .bytes) (r .text) ⌝ }
     ensures { λ _. ⌜ EnoughOfWord (length (now (input .entry))) ⌝ }

@@ -5,9 +5,12 @@ ghost use Prim.Native.Nat.{_+_, _≤_, _<_};
 ghost use mathlib.Core.Path.{_≡_};
 ghost use lib.IntN.{natAbs};
 ghost use lib.ListN.{length};
-ghost use Rattle.text.specs.Texts.{TellsIn, Added};
-ghost use Rattle.word_crossing.specs.Crossings.{allPairs, pairAt};
-ghost use Rattle.desk_crossings.specs.Lines.{pairLine, linesOf, textSize, Numbers};
+ghost use Rattle.base.specs.steps.Laying.{Laid};
+ghost use Rattle.text.specs.Texts.{TellsIn};
+ghost use Rattle.word_crossing.specs.Crossings.{allPairs};
+ghost use Rattle.word_crossing.specs.steps.Pairs.{pairAt};
+ghost use Rattle.desk_crossings.specs.Lines.{pairLine, linesOf, textSize};
+ghost use Rattle.desk_crossings.specs.steps.Range.{Numbers};
 
 fn wide(x: u8) -> u32
     ensures { λ r. ⌜ r ≡ x ⌝ }
@@ -15,10 +18,10 @@ fn wide(x: u8) -> u32
     x as u32
 }
 
-// The line of pair k behind the first `at` bytes of a text: where it ends.
+// Writes the line of pair k behind the first `at` bytes of a text. Returns the place after it.
 fn line(text: &mut [u8], at: usize, k: usize, number: i32) -> usize
     requires { ⌜ (at + 11 ≤ length (now text)) × (k < 28) × (natAbs number ≤ 10000) ⌝ }
-    ensures { λ r. ⌜ Added (pairLine (pairAt k) number) (now (text .entry)) at (now (text .exit)) r ⌝ }
+    ensures { λ r. ⌜ Laid at (pairLine (pairAt k) number) (now (text .entry)) (now (text .exit)) r ⌝ }
 {
     let two = word_crossing::pair_at(k);
     let second = text::decimal(text, at, wide(two.smaller), b' ');

@@ -1,4 +1,4 @@
-// Reads the desk's input and writes its lines. `desk_line` and `desk_crossings` decide what is written, also where an
+// Reads the desk's input and writes its lines. `desk_line` and `desk_crossings` decide what is written, also if an
 // input could not be read.
 use desk_crossings::Text;
 use desk_line::Got;
@@ -29,7 +29,7 @@ pub fn tell(line: Line)
     say(&text[..n]);
 }
 
-// What reading gave where it failed, after a line on standard error.
+// Reports on standard error that a file could not be read, and returns what such a reading gives.
 fn unread(path: &[u8]) -> Got
     ensures { λ r. ⌜ (r .read ≡ false) × (r .bytes ≡ 0) ⌝ }
 {
@@ -37,7 +37,7 @@ fn unread(path: &[u8]) -> Got
     Got::unread()
 }
 
-// Fills the start of `buf` from an open file, to its end or the file's.
+// Reads an open file into `buf`, until the buffer is full or the file ends.
 fn fill(fd: i32, path: &[u8], buf: &mut [u8]) -> Got
     ensures { λ r. ⌜ GotOf (length (now (buf .exit))) r ⌝ }
 {
@@ -59,19 +59,19 @@ fn fill(fd: i32, path: &[u8], buf: &mut [u8]) -> Got
     }
 }
 
-// Says on standard error what a program takes, where it was given something else.
+// Says on standard error which arguments a program takes.
 pub fn misused(takes: &[u8]) {
     io::write_all(STDERR_FILENO, takes);
 }
 
-// A slip on standard input, key, digest and signature end to end.
+// Judges a slip on standard input: key, digest and signature end to end.
 fn desk_input() {
     let mut input = [0u8; desk_line::INPUT_ROOM];
     let got = fill(STDIN_FILENO, b"standard input", &mut input);
     tell(desk_line::input_line(&input, got));
 }
 
-// Reads the file that argument i names. One that cannot be opened or read gets a line on standard error.
+// Reads the file that argument i names. If it cannot be opened or read, a line on standard error says so.
 pub fn file(i: usize, buf: &mut [u8]) -> Got
     ensures { λ r. ⌜ GotOf (length (now (buf .exit))) r ⌝ }
 {
@@ -90,7 +90,7 @@ pub fn file(i: usize, buf: &mut [u8]) -> Got
     got
 }
 
-// A slip in three files, whose names are the arguments: key, digest, signature.
+// Judges a slip in three files, whose names are the arguments: key, digest, signature.
 fn desk_files() {
     let mut key = [0u8; desk_line::KEY_ROOM];
     let mut digest = [0u8; desk_line::DIGEST_ROOM];
@@ -101,24 +101,25 @@ fn desk_files() {
     tell(desk_line::files_line(&key, &digest, &word, k, d, w));
 }
 
-// The line on a copy of a slip, whose signature is in the file that argument i names.
+// Judges a copy of a slip. Argument i names the file of its signature.
 fn desk_copy(made: Halved, i: usize) {
     let mut word = [0u8; desk_line::WORD_ROOM];
     let w = file(i, &mut word);
     tell(desk_line::copy_line(made, &word, w));
 }
 
-// Copies of a slip: key and digest, read once, then n - 3 signatures. A line for each, and none where key or digest
-// could not be read.
+// Judges copies of a slip: key and digest are read once, then n - 3 signatures. Each gets a line. If key or digest
+// could not be read, there is no line.
 fn desk_copies(n: usize) {
     let mut key = [0u8; desk_line::KEY_ROOM];
     let mut digest = [0u8; desk_line::DIGEST_ROOM];
     let k = file(1, &mut key);
     let d = file(2, &mut digest);
-    if !desk_line::both(k.read, d.read) {
+    let first = desk_line::first_half(&key, &digest, k, d);
+    if !first.read {
         return;
     }
-    let made = desk_line::first_half(&key, &digest, k, d);
+    let made = first.made;
     let mut i = 3;
     while i < n {
         desk_copy(made, i);
@@ -126,8 +127,8 @@ fn desk_copies(n: usize) {
     }
 }
 
-// The desk program: without arguments the slip on standard input, with three names the slip in these files, and with
-// more the copies of a slip.
+// The desk program. Without arguments it judges the slip on standard input, with three names the slip in these files,
+// and with more names the copies of a slip.
 pub fn desk() {
     let n = os::arg_count();
     if n < 2 {
@@ -150,21 +151,21 @@ fn tell_text(t: Text)
     say(&text[..n]);
 }
 
-// The crossings of the word on standard input.
+// Lists the crossings of the word on standard input.
 fn crossings_input() {
     let mut input = [0u8; desk_crossings::WORD_ROOM];
     let got = fill(STDIN_FILENO, b"standard input", &mut input);
     tell_text(desk_crossings::word_text(&input, got));
 }
 
-// The crossings of the word in the file that the argument names.
+// Lists the crossings of the word in the file that the argument names.
 fn crossings_file() {
     let mut input = [0u8; desk_crossings::WORD_ROOM];
     let got = file(1, &mut input);
     tell_text(desk_crossings::word_text(&input, got));
 }
 
-// The program that lists crossings: without arguments of the word on standard input, and with a name of the word in
+// The program that lists crossings. Without arguments it takes the word on standard input, and with a name the word in
 // that file.
 pub fn crossings() {
     let n = os::arg_count();

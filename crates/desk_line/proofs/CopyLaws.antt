@@ -1,4 +1,5 @@
--- Several copies of a slip: the answer to each is the whole verdict on it, and so is its line.
+-- Several copies of a slip: the answer to each copy is the whole verdict on it, and its line is the line of that
+-- answer.
 use Prim.Native.Nat.{ℕ}
 use mathlib.Core.Path.{_≡_, sym, ap, subst, _∙_}
 use mathlib.Core.Bool.{true, false}
@@ -32,7 +33,7 @@ gives-verdicts made key digest word m = go (ℕ-discrete (made .answer) 0)
     go (yes z) = sym (copy-judged made word z) ∙ whole-is-its-halves m word z
     go (no r) = sym (copy-refused made word r) ∙ sym (refused-by-the-first m word r)
 
--- the line, where the copy could be read and where it could not
+-- the line on a copy that could be read, and on a copy that could not
 module _ (made : Halved) (got : Got) (word : List ℕ) where
   pub copy-read : {copy : List ℕ} {n bytes : ℕ} {text : List ℕ} → got .read ≡ true → copy ≡ take (got .bytes) word
       → n ≡ copyAnswer made copy

@@ -1,4 +1,4 @@
--- The slip as it is cut, and the line of its answer.
+-- Laws of the cut of a slip and of the line with its answer.
 use Prim.Native.Nat.{ℕ, _+_, _*_, _≤_, _<_}
 use native.Mathlib.Omega.{arith}
 use mathlib.Core.Path.{_≡_, refl, sym, ap, subst, _∙_}
@@ -7,10 +7,11 @@ use mathlib.Core.List.{List, [], _∷_, _++_}
 use borrow.Author.Tests.{ne-eqb}
 use lib.Dec.{eqb}
 use lib.ListN.{length, getD, take, replicate}
+use Rattle.base.specs.steps.Laying.{Laid}
 use Rattle.base.specs.Digits.{value, part}
 use Rattle.base.specs.Lists.{overlaid}
 use Rattle.text.specs.Decimal.{decimal}
-use Rattle.text.specs.Texts.{line, Added}
+use Rattle.text.specs.Texts.{line}
 use Rattle.text.proofs.DecimalLaws.{decimal-short}
 use Rattle.text.proofs.TextLaws.{told-more}
 use Rattle.field.specs.Fields.{keyBytes, digestBytes}
@@ -53,9 +54,9 @@ short-names (x ∷ y ∷ z ∷ xs) h b = absurd (omega arith)
 
 -- ---- the line
 
--- "answer " is in the buffer, and the number and the line end are added
+-- "answer " stands in the buffer, and the number and the line end are laid behind it
 pub answer-told : {n answer bytes : ℕ} {text : List ℕ} → n ≡ answer
-    → Added (decimal n ++ (10 ∷ [])) (answerWord ++ (32 ∷ replicate 4 0)) 7 text bytes
+    → Laid 7 (decimal n ++ (10 ∷ [])) (answerWord ++ (32 ∷ replicate 4 0)) text bytes
     → Tells (answerLine answer) bytes text
 unfolding answerLine line overlaid
 answer-told {n} {answer} {bytes} {text} e f =
@@ -72,7 +73,7 @@ unfolding overlaid
 none-told {written} {bytes} {text} e b t =
     subst (λ (l : List ℕ). Tells l bytes text) (sym e) (record { bytes-are = b; text-is = t })
 
--- on one input, where it could be read and where it could not
+-- the line on one input that could be read, and on one that could not
 module _ (got : Got) (input : List ℕ) where
   pub input-read : {slip : List ℕ} {n bytes : ℕ} {text : List ℕ} → got .read ≡ true → slip ≡ take (got .bytes) input
       → n ≡ deskVerdict slip
@@ -86,7 +87,7 @@ module _ (got : Got) (input : List ℕ) where
   unfolding inputLine
   input-not-read e b t = none-told (rw e) b t
 
--- on three files, where all could be read and where one could not
+-- the line on three files that could all be read, and on three of which one could not
 module _ (k d w : Got) (key digest word : List ℕ) where
   pub files-read : {read : Bool} {a b c : List ℕ} {n bytes : ℕ} {text : List ℕ} → read ≡ k .read && d .read && w .read
       → read ≡ true

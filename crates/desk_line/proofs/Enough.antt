@@ -1,6 +1,6 @@
--- How much of a file is enough to read: 129 bytes of a key, 65 of a digest and 5,003 of a signature are judged as the
--- whole files are, of any length, and so are 5,195 bytes of a slip that lies end to end; and so is more. One byte less
--- is not enough, at any of the four: WrongRooms.
+-- How much of a file is enough to read: 129 bytes of a key, 65 of a digest and 5,003 of a signature, or more, get the
+-- verdict that the whole files get, however long they are. So do 5,195 bytes of a slip whose parts lie end to end.
+-- `WrongRooms` shows that one byte less is not enough for any of the four.
 use Prim.Native.Nat.{ℕ, _+_, _≤_, _<_}
 use native.Mathlib.Decide.{ℕ-discrete}
 use native.Mathlib.Omega.{arith}

@@ -1,6 +1,6 @@
--- One byte less is not enough, at any of the four buffers: 128 bytes of a key, 64 of a digest, 5,002 of a signature,
--- 5,194 of a slip that lies end to end. In each place a longer file would be taken for the good one that it begins
--- with. And an input that says 256 is not to be cut at 83 and 32.
+-- One byte less is not enough for any of the four buffers: 128 bytes of a key, 64 of a digest, 5,002 of a signature,
+-- 5,194 of a slip whose parts lie end to end. With each of these a file that is too long would be taken for the good
+-- file that it begins with. An input that says 256 must not be cut at 83 and 32.
 use Prim.Native.Nat.{ℕ}
 use native.Mathlib.Omega.{arith}
 use mathlib.Core.Path.{_≡_, refl, sym, _∙_}
@@ -45,7 +45,7 @@ empty-accepted : wordAnswer emptyWord ≡ 0
 unfolding firstNo every value codes filler halves wordAnswer
 empty-accepted = refl
 
--- 10,000 letters b1, the longest word, and a byte more
+-- the file of 10,000 letters b1, which is a longest word, and that file with one more byte
 abbrev fullWord : List ℕ
 fullWord = 0x27 ∷ 0x10 ∷ replicate 5000 0
 

@@ -2,7 +2,7 @@
 -- each copy gets its line by the second half.
 use Prim.Native.Nat.{ℕ}
 use mathlib.Core.Path.{_≡_}
-use mathlib.Core.Bool.{cond}
+use mathlib.Core.Bool.{Bool, cond, _&&_}
 use mathlib.Core.List.{List, [], _∷_}
 use lib.ListN.{take}
 use Rattle.base.specs.Questions.{firstNo, granted}
@@ -13,12 +13,18 @@ use Rattle.slip_verdict.specs.Verdict.{verdict}
 use Rattle.desk_line.specs.Desk.{answerWord, answerLine}
 use Rattle.desk_line.specs.declared.Got.{Got}
 
--- the answer to a copy: the first half's refusal, or the answer of the second
+-- What key and digest give for all copies, of each of which the buffer's first bytes were read: could both be read, and
+-- the first half of the verdict.
+pub record FirstHalfOf (k d : Got) (key digest : List ℕ) (read : Bool) (made : Halved) : Type 0 where
+  pub both-read : read ≡ k .read && d .read
+  pub half-is : MakesHalf (take (k .bytes) key) (take (d .bytes) digest) (made .answer) (made .half)
+
+-- the answer to a copy: the refusal of the first half, or the answer of the second half
 unfoldable pub copyAnswer : Halved → List ℕ → ℕ
 copyAnswer made word =
     granted (made .answer) (firstNo (secondHalfQuestions (made .half) word)) (made .answer)
 
--- that is the verdict under every key and digest whose first half this is
+-- the answer to a copy is the verdict, under every key and digest that give this first half
 abbrev pub GivesVerdicts : Halved → Type 0
 GivesVerdicts made = (key digest word : List ℕ) → MakesHalf key digest (made .answer) (made .half)
     → copyAnswer made word ≡ verdict key digest word
@@ -27,7 +33,7 @@ GivesVerdicts made = (key digest word : List ℕ) → MakesHalf key digest (made
 unfoldable pub noAnswerLine : List ℕ
 noAnswerLine = line ((110 ∷ 111 ∷ []) ∷ answerWord ∷ [])
 
--- what is written on a copy, of which the buffer's first bytes were read: the line of its answer, and "no answer" where
--- it could not be read, so that each copy has its line
+-- The line on a copy, of which the buffer's first bytes were read: the line of its answer, or "no answer" if it could
+-- not be read. So each copy has its line.
 unfoldable pub copyLine : Halved → Got → List ℕ → List ℕ
 copyLine made got word = cond (got .read) (answerLine (copyAnswer made (take (got .bytes) word))) noAnswerLine

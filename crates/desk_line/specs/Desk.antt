@@ -1,5 +1,5 @@
--- The desk: a slip whose key, digest and signature lie end to end in one input, or in three files; the line that tells
--- the answer; and how large a buffer has to be.
+-- The desk: a slip whose key, digest and signature lie end to end in one input or in three files, the line with the
+-- answer, and how large a buffer has to be.
 use Prim.Native.Nat.{ℕ, _+_, _≤_}
 use mathlib.Core.Path.{_≡_}
 use mathlib.Core.Bool.{false, cond, _&&_}
@@ -20,12 +20,12 @@ use Rattle.desk_line.specs.declared.Got.{Got}
 unfoldable pub deskField : List ℕ → Field
 deskField input = cond (eqb (value 256 (part 1 2 input)) 256) Gf256 Gf32
 
--- the verdict on the first k bytes as key, the next d as digest and up to 5,003 after them as signature; each may be
--- cut short
+-- The verdict on an input: the first k bytes are the key, the next d the digest, and up to 5,003 after them the
+-- signature. The input may end within any of them.
 unfoldable pub cutVerdict : ℕ → ℕ → List ℕ → ℕ
 cutVerdict k d input = verdict (part 0 k input) (part k d input) (part (k + d) 5003 input)
 
--- cut for the field that the input names: 83 bytes and 32, or 128 and 64
+-- the verdict on an input that is cut for the field that it names: at 83 bytes and 32, or at 128 and 64
 unfoldable pub deskVerdict : List ℕ → ℕ
 deskVerdict input = cutVerdict (keyBytes (deskField input)) (digestBytes (deskField input)) input
 
@@ -37,13 +37,13 @@ answerWord = 97 ∷ 110 ∷ 115 ∷ 119 ∷ 101 ∷ 114 ∷ []
 unfoldable pub answerLine : ℕ → List ℕ
 answerLine n = line (answerWord ∷ decimal n ∷ [])
 
--- what is written on one input, of which the buffer's first bytes were read: the line of the verdict on them, and
--- nothing where it could not be read
+-- What is written on one input, of which the buffer's first bytes were read: the line of the verdict on these bytes, or
+-- nothing if the input could not be read.
 unfoldable pub inputLine : Got → List ℕ → List ℕ
 inputLine got input = cond (got .read) (answerLine (deskVerdict (take (got .bytes) input))) []
 
--- what is written on three files, of each of which the buffer's first bytes were read: the line of the verdict on them,
--- and nothing unless all three could be read
+-- What is written on three files, of each of which the buffer's first bytes were read: the line of the verdict on these
+-- bytes, or nothing if one of the files could not be read.
 unfoldable pub filesLine : Got → Got → Got → List ℕ → List ℕ → List ℕ → List ℕ
 filesLine k d w key digest word =
     cond (k .read && d .read && w .read)
@@ -54,15 +54,15 @@ filesLine k d w key digest word =
 abbrev pub Tells : List ℕ → ℕ → List ℕ → Type 0
 Tells = TellsIn 11
 
--- what reading gives of a buffer of some size: no more bytes than it has, and none where it could not be read
+-- What reading into a buffer gives: at most as many bytes as the buffer has, and none if the file could not be read.
 pub record GotOf (size : ℕ) (got : Got) : Type 0 where
   pub fits : got .bytes ≤ size
   pub none : got .read ≡ false → got .bytes ≡ 0
 
--- n bytes are enough to read of an input of any length: they are judged as all of it is
+-- n bytes of an input of any length are enough to read: they get the verdict that the whole input gets
 abbrev pub EnoughOfInput : ℕ → Type 0
 EnoughOfInput n = Enough n deskVerdict
 
--- k bytes of a key, d of a digest and w of a signature are enough to read of three files of any length
+-- of three files of any length, k bytes of the key, d of the digest and w of the signature are enough to read
 abbrev pub EnoughOfFiles : ℕ → ℕ → ℕ → Type 0
 EnoughOfFiles k d w = EnoughOfThree k d w verdict

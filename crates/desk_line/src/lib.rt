@@ -1,36 +1,35 @@
-// A slip at the desk: how much to read, and the line to write. What is read lies in arrays whose sizes are given here,
-// so that a buffer of another size does not fit.
+// A slip at the desk: how much to read, and the line to write. The functions take arrays whose sizes are given here, so
+// a program cannot hand in a buffer of another size.
 ghost use Prim.Native.Nat.{_≤_};
 ghost use mathlib.Core.Path.{_≡_};
 ghost use mathlib.Core.Bool.{false, _&&_};
 ghost use lib.Dec.{eqb};
-ghost use lib.ListN.{length, take, replicate};
+ghost use lib.ListN.{length, replicate};
 ghost use Rattle.base.specs.Digits.{value, part as partOf};
 ghost use Rattle.desk_line.specs.Desk.{cutVerdict, deskVerdict, answerLine, inputLine, filesLine, Tells};
 ghost use Rattle.desk_line.specs.Desk.{EnoughOfInput, EnoughOfFiles};
-ghost use Rattle.desk_line.specs.Copies.{copyAnswer, GivesVerdicts, noAnswerLine, copyLine};
-ghost use Rattle.slip_verdict.specs.Halves.{MakesHalf};
+ghost use Rattle.desk_line.specs.Copies.{FirstHalfOf, copyAnswer, GivesVerdicts, noAnswerLine, copyLine};
 use slip_verdict::Halved;
 
 // The bytes of a key and of a digest, over GF(32) and over GF(256), and the most that a signature has.
-const KEY: usize = 83;
+const KEY: usize = key::SMALL_BYTES;
 
 const DIGEST: usize = 32;
 
-const LARGE_KEY: usize = 128;
+const LARGE_KEY: usize = key::LARGE_BYTES;
 
 const LARGE_DIGEST: usize = 64;
 
-const WORD: usize = 5002;
+const WORD: usize = word::MAX_BYTES;
 
-// The bytes to read of each file: one more than it may hold, so that a longer file is told from a full one.
+// The bytes to read of each file: one more than the file may have, so that a file that is too long is noticed.
 pub const KEY_ROOM: usize = LARGE_KEY + 1;
 
 pub const DIGEST_ROOM: usize = LARGE_DIGEST + 1;
 
 pub const WORD_ROOM: usize = WORD + 1;
 
-// The bytes to read of a slip that lies end to end.
+// The bytes to read of a slip whose parts lie end to end.
 pub const INPUT_ROOM: usize = LARGE_KEY + LARGE_DIGEST + WORD_ROOM;
 
 // Do bytes 1 and 2, counted from 0, say 256?
@@ -43,7 +42,8 @@ fn says_256(input: &[u8]) -> bool
     base::two_bytes(input, 1) == 256
 }
 
-// The verdict on a slip whose key of k bytes, digest of d and signature lie end to end; each may be cut short.
+// The verdict on a slip whose key of k bytes, digest of d bytes and signature lie end to end. The input may end within
+// any of them.
 fn cut(input: &[u8], k: usize, d: usize) -> u8
     requires { ⌜ (k ≤ 128) × (d ≤ 64) ⌝ }
     ensures { λ r. ⌜ r ≡ cutVerdict k d (now (input .entry)) ⌝ }
@@ -54,7 +54,7 @@ fn cut(input: &[u8], k: usize, d: usize) -> u8
     slip_verdict::verify(key, digest, word)
 }
 
-// The verdict on a slip that lies end to end, cut for the field that it names.
+// The verdict on a slip whose parts lie end to end. The field that the slip names tells where it is cut.
 fn judged(input: &[u8]) -> u8
     ensures { λ r. ⌜ r ≡ deskVerdict (now (input .entry)) ⌝ }
 {
@@ -120,7 +120,7 @@ pub fn answer_line(answer: u8) -> Line
     Line { text: line, bytes }
 }
 
-// What reading a file gave: could it be read, and how many bytes of its buffer.
+// What reading a file gave: could the file be read, and how many bytes of its buffer were filled?
 pub struct Got {
     pub read: bool,
     pub bytes: usize,
@@ -138,7 +138,7 @@ impl Got {
     }
 }
 
-// The line on a slip that lies end to end; none where it could not be read.
+// The line on a slip whose parts lie end to end. If it could not be read, there is no line.
 pub fn input_line(input: &[u8; INPUT_ROOM], got: Got) -> Line
     ensures { λ r. ⌜ Tells (inputLine got (now (input .entry))) (r .bytes) (r .text) ⌝ }
     ensures { λ _. ⌜ EnoughOfInput (length (now (input .entry))) ⌝ }
@@ -163,7 +163,7 @@ pub fn all_read(k: Got, d: Got, w: Got) -> bool
     both(both(k.read, d.read), w.read)
 }
 
-// The line on a slip in three files, each judged by its own bytes; none where one of them could not be read.
+// The line on a slip in three files. If one of them could not be read, there is no line.
 pub fn files_line(
     key: &[u8; KEY_ROOM],
     digest: &[u8; DIGEST_ROOM],
@@ -193,19 +193,26 @@ pub fn files_line(
     answer_line(slip_verdict::verify(k_read, d_read, w_read))
 }
 
-// The first half of the verdict on a slip in files: what every copy of it is judged by.
-pub fn first_half(key: &[u8; KEY_ROOM], digest: &[u8; DIGEST_ROOM], k: Got, d: Got) -> Halved
-    ensures { λ r.
-        ⌜
-        MakesHalf (take (k .bytes) (now (key .entry))) (take (d .bytes) (now (digest .entry))) (r .answer) (r .half)
-        ⌝ }
+// What key and digest give for all copies of a slip: could both files be read, and the first half of the verdict on the
+// bytes that were read.
+pub struct FirstHalf {
+    pub read: bool,
+    pub made: Halved,
+}
+
+// The first half of the verdict on a slip in files, by which each copy is judged. If the key or the digest could not be
+// read, no copy is judged.
+pub fn first_half(key: &[u8; KEY_ROOM], digest: &[u8; DIGEST_ROOM], k: Got, d: Got) -> FirstHalf
+    ensures { λ r. ⌜ FirstHalfOf k d (now (key .entry)) (now (digest .entry)) (r .read) (r .made) ⌝ }
     ensures { λ _. ⌜ EnoughOfFiles (length (now (key .entry))) (length (now (digest .entry))) 5003 ⌝ }
 {
     let k_n = k.bytes;
     let d_n = d.bytes;
     let k_read = text::part(key, 0, k_n);
     let d_read = text::part(digest, 0, d_n);
-    slip_verdict::first_half(k_read, d_read)
+    let read = both(k.read, d.read);
+    let made = slip_verdict::first_half(k_read, d_read);
+    FirstHalf { read, made }
 }
 
 // The answer to a copy: the first half's refusal, or the answer of the second.
@@ -220,7 +227,7 @@ fn copy_answer(made: Halved, word: &[u8]) -> u8
     slip_verdict::second_half(half, word)
 }
 
-// The line on a copy, judged by its own bytes; "no answer" where it could not be read.
+// The line on a copy. If the copy could not be read, the line is "no answer".
 pub fn copy_line(made: Halved, word: &[u8; WORD_ROOM], w: Got) -> Line
     ensures { λ r. ⌜ Tells (copyLine made w (now (word .entry))) (r .bytes) (r .text) ⌝ }
     ensures { λ _. ⌜ GivesVerdicts made ⌝ }

@@ -7,7 +7,7 @@ use desk_words::Made;
 ghost use Prim.Native.Nat.{_<_};
 ghost use Rattle.io.specs.Counts.{Counts};
 
-// Writes the bytes to a new file, and where it is alone waits until they have reached its device.
+// Writes the bytes to a new file. If it is the only new file, waits until they have reached the device.
 fn saved(fd: i32, bytes: &[u8], alone: bool) -> bool {
     if !io::write_all(fd, bytes) {
         return false;
@@ -15,8 +15,8 @@ fn saved(fd: i32, bytes: &[u8], alone: bool) -> bool {
     !alone || libc::fsync(fd) == 0
 }
 
-// A new file at `beside` gets the bytes, and then the name `new`. Where that fails, `new` is what it was, and nothing
-// of ours is left at `beside`: what stood there before stays, and no file is made.
+// Writes the bytes to a new file at `beside`, and then gives it the name `new`. If a step fails, `new` is unchanged and
+// the file at `beside` is removed. If a file stood at `beside` before, it stays, and no file is made.
 fn put(beside: &[u8], new: &[u8], bytes: &[u8], alone: bool) -> bool {
     let fd = os::create(beside);
     if fd < 0 {
@@ -42,7 +42,7 @@ fn put(beside: &[u8], new: &[u8], bytes: &[u8], alone: bool) -> bool {
     true
 }
 
-// The same, by the places of both names among the arguments.
+// Writes a new file like `put`. Both names are given by their places among the arguments.
 fn put_at(beside: usize, new: usize, bytes: &[u8], alone: bool) -> bool {
     let mut first = io::buffer();
     let n = os::arg(beside, &mut first);
@@ -159,9 +159,7 @@ pub fn new_word() {
         reduce();
     } else {
         desk_io::misused(
-            b"new_word takes a verb and,
-                after a name beside the new file,
-                    the verb's files: shorten KEY DIGEST SIGNATURE NEW, rewrite WORD MOVES NEW or reduce WORD NEW\n",
+            b"new_word takes a verb and, after a name beside the new file, the verb's files: shorten KEY DIGEST SIGNATURE NEW, rewrite WORD MOVES NEW or reduce WORD NEW\n",
         );
     }
 }

@@ -18,7 +18,7 @@ use Rattle.desk_words.specs.declared.Made.{Made}
 unfoldable pub toWrite : Bool → ℕ → List ℕ → List ℕ
 toWrite read answer new = cond read (granted answer new []) []
 
--- what stands for the answer where a file could not be read: no answer of the papers
+-- what stands in place of an answer if a file could not be read; no answer of the papers has this number
 abbrev pub noAnswer : ℕ
 noAnswer = 255
 
@@ -52,8 +52,8 @@ pub record Rewrites (read : Bool) (word moves : List ℕ) (made : Made) : Type 0
 abbrev pub Reduces : Bool → List ℕ → Made → Type 0
 Reduces read word made = MakesNew read (wordAnswer word) (shortFile word) made
 
--- what is answered, and what is written, of a part of each file is that of the whole files, of any length: so much of a
--- slip is enough to shorten it, so much of a word and a move list to rewrite it, so much of a word to reduce it
+-- These numbers of bytes are enough to read of a slip to shorten it, of a word and a move list to rewrite it, and of a
+-- word to reduce it: the answer and the bytes written are those for the whole files, however long they are.
 abbrev pub EnoughToShorten : ℕ → ℕ → ℕ → Type 0
 EnoughToShorten k d w =
     EnoughOfThree k d w verdict

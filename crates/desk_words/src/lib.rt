@@ -1,5 +1,5 @@
-// A new word from files: shortened, rewritten or reduced. What is read lies in arrays whose sizes are given here and in
-// `desk_line`, so that a buffer of another size does not fit.
+// A new word from files: shortened, rewritten or reduced. The functions take arrays whose sizes are given here and in
+// `desk_line`, so a program cannot hand in a buffer of another size.
 use desk_line::Got;
 ghost use mathlib.Core.Path.{_≡_};
 ghost use mathlib.Core.Bool.{true, false, _&&_};
@@ -20,7 +20,7 @@ pub struct Made {
 }
 
 impl Made {
-    // What stands for the answer where a file could not be read: no answer of the papers.
+    // Stands in place of an answer if a file could not be read. No answer of the papers has this number.
     pub const NO_ANSWER: u8 = 255;
 
     // The answer alone, and nothing to write.
@@ -75,8 +75,8 @@ fn rewritten(word: &[u8], moves: &[u8]) -> Made
     }
 }
 
-// A slip's word, freely reduced where the slip opens. The new word is judged before it is given: that verdict is proved
-// to be 0, it is made all the same, and no contract asks for it.
+// The word of a slip, freely reduced if the slip opens. The new word is judged before it is given. No contract asks for
+// this second verdict, which is proved to be 0.
 fn shortened(key: &[u8], digest: &[u8], word: &[u8]) -> Made
     ensures { λ r. ⌜ Shortens true (now (key .entry)) (now (digest .entry)) (now (word .entry)) r ⌝ }
 {
@@ -94,7 +94,7 @@ fn shortened(key: &[u8], digest: &[u8], word: &[u8]) -> Made
     made
 }
 
-// Shortening a slip in three files, each judged by its own bytes.
+// Shortens a slip in three files, each judged by its own bytes.
 pub fn shorten(
     key: &[u8; desk_line::KEY_ROOM],
     digest: &[u8; desk_line::DIGEST_ROOM],
@@ -125,7 +125,7 @@ pub fn shorten(
     shortened(k_read, d_read, w_read)
 }
 
-// Rewriting the word in a file by the move list in another.
+// Rewrites the word in a file by the move list in another file.
 pub fn rewrite(word: &[u8; desk_line::WORD_ROOM], moves: &[u8; MOVES_ROOM], w: Got, m: Got) -> Made
     ensures { λ r.
         ⌜
@@ -143,7 +143,7 @@ pub fn rewrite(word: &[u8; desk_line::WORD_ROOM], moves: &[u8; MOVES_ROOM], w: G
     rewritten(w_read, m_read)
 }
 
-// Reducing the word in a file freely.
+// Reduces the word in a file freely.
 pub fn reduce(word: &[u8; desk_line::WORD_ROOM], w: Got) -> Made
     ensures { λ r. ⌜ Reduces (w .read) (take (w .bytes) (now (word .entry))) r ⌝ }
     ensures { λ _. ⌜ EnoughToReduce (length (now (word .entry))) ⌝ }

@@ -35,6 +35,15 @@ pub struct Element {
     pub value: u8,
 }
 
+impl Element {
+    // A refusal: its number, and 0.
+    fn refused(answer: u8) -> Element
+        ensures { λ r. ⌜ (r .answer ≡ answer) × (r .value ≡ 0) ⌝ }
+    {
+        Element { answer, value: 0 }
+    }
+}
+
 // The field that a caller names as one of two: true is the larger field.
 pub fn field_of(large: bool) -> Field
     ensures { λ r. ⌜ r ≡ fieldOf large ⌝ }
@@ -68,16 +77,10 @@ fn reciprocal_by(a: u8, table: &[u8], f: Field) -> Element
     ensures { λ r. ⌜ Gives (reciprocalQuestions f a) (operations f .inv a) (r .answer) (r .value) ⌝ }
 {
     if table.len() < a as usize {
-        return Element {
-            answer: 17,
-            value: 0,
-        };
+        return Element::refused(17);
     }
     if a == 0 {
-        return Element {
-            answer: 4,
-            value: 0,
-        };
+        return Element::refused(4);
     }
     Element {
         answer: 0,

@@ -29,16 +29,10 @@ pub(crate) fn small_product(a: u8, b: u8) -> Element
     ensures { λ r. ⌜ Gives (productQuestions Gf32 a b) (gf32 .mul a b) (r .answer) (r .value) ⌝ }
 {
     if 32 <= a {
-        return Element {
-            answer: 17,
-            value: 0,
-        };
+        return Element::refused(17);
     }
     if 32 <= b {
-        return Element {
-            answer: 17,
-            value: 0,
-        };
+        return Element::refused(17);
     }
     Element {
         answer: 0,

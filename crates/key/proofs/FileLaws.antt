@@ -12,7 +12,8 @@ use Rattle.base.specs.Files.{joined, placeFrom, filePart}
 use Rattle.base.proofs.DigitLaws.{length-digits}
 use Rattle.base.proofs.RowLaws.{length-packed-row}
 use Rattle.base.proofs.FileLaws.{part-joined, length-joined}
-use Rattle.key.specs.Keys.{keySizes, keyPlace, fileBytes, fileParts, keyFile}
+use Rattle.key.specs.Keys.{keySizes, fileParts, keyFile}
+use Rattle.key.specs.steps.Places.{keyPlace, fileBytes}
 use Rattle.key.specs.steps.Parts.{Sizes}
 
 -- a part as the code cuts it out, from its place to its end

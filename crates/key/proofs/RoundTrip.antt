@@ -23,14 +23,16 @@ use Rattle.base.proofs.FileLaws.{joined-parts}
 use Rattle.word.specs.Strands.{isOrder}
 use Rattle.field.specs.Fields.{bits, keyBytes}
 use Rattle.field.specs.declared.Field.{Field}
+use Rattle.field.proofs.Fields.{narrow}
 use Rattle.pair_operands.specs.Operands.{nonzero}
 use Rattle.key.specs.declared.Key.{Key}
-use Rattle.key.specs.Keys.{keyField, keySizes, keyPlace, fileBytes, tValues, keyLabels, entries, firstBytes}
+use Rattle.key.specs.Keys.{keyField, keySizes, tValues, keyLabels, entries, firstBytes}
+use Rattle.key.specs.steps.Places.{keyPlace, fileBytes}
 use Rattle.key.specs.Keys.{secondBytes, fieldSize, fileEntries, wholeMatrix, startsWithOnes, bothInvertible}
 use Rattle.key.specs.Keys.{keyAnswer, keyHolding, keyParts, keyOf, zeroKey, ReadsKey, fileParts, keyFile}
 use Rattle.key.specs.Keys.{keyWriterQuestions, WroteFile, WroteKey}
 use Rattle.key.specs.steps.Parts.{Parts, Sizes}
-use Rattle.key.proofs.Widths.{narrow, file-bytes, field-of-length}
+use Rattle.key.proofs.Widths.{file-bytes, field-of-length}
 use Rattle.key.proofs.FileLaws.{key-file-size, part-back}
 use Rattle.key.proofs.KeyFacts.{Accepted, accepted, accepted-answers, Writable, writable, parts}
 use Rattle.key.proofs.KeyFacts.{t-values-elements, entries-elements}

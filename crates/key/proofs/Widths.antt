@@ -4,19 +4,15 @@ use Prim.Native.Nat.{ℕ, _≤_}
 use mathlib.Core.Path.{_≡_, refl, sym, ap, _∙_, subst}
 use mathlib.Core.Bool.{Bool, true, false, cond, _||_, false≢true}
 use mathlib.Core.List.{List}
-use native.Mathlib.Omega.{arith}
 use borrow.Author.Tests.{eqb-true}
 use lib.Dec.{eqb}
 use lib.ListN.{length}
 use Rattle.field.specs.Fields.{bits, keyBytes}
 use Rattle.field.specs.declared.Field.{Field}
 use Rattle.field.specs.declared.Field.the-variants.{Gf32, Gf256}
-use Rattle.key.specs.Keys.{keyField, fileBytes}
-
--- an element fits a byte
-pub narrow : (f : Field) → bits f ≤ 8
-narrow Gf32 = omega arith
-narrow Gf256 = omega arith
+use Rattle.field.proofs.Fields.{narrow}
+use Rattle.key.specs.Keys.{keyField}
+use Rattle.key.specs.steps.Places.{fileBytes}
 
 -- the number of bytes of a file, by the bits of an element
 pub file-bytes : (f : Field) → fileBytes (bits f) ≡ keyBytes f

@@ -7,10 +7,9 @@ use mathlib.Core.Path.{_≡_, refl, sym, ap, _∙_, subst}
 use mathlib.Core.Bool.{true, false≢true}
 use mathlib.Core.List.{List, _∷_}
 use native.Mathlib.Omega.{arith}
-use lib.Dec.{ltb}
 use lib.ListN.{length, take, getD, replicate}
 use Rattle.base.specs.Questions.{firstNo}
-use Rattle.base.specs.Lists.{valuesFrom, values, every, eachOnce, tally}
+use Rattle.base.specs.Lists.{valuesFrom, values, every, Bytes, eachOnce, tally}
 use Rattle.base.specs.Digits.{value, digits}
 use Rattle.base.specs.Packing.{packedRow}
 use Rattle.base.proofs.QuestionLaws.{granted-refused}
@@ -24,9 +23,6 @@ use Rattle.key.specs.Keys.{keyField, fieldSize, fileEntries, keyFile, ke
 use Rattle.key.proofs.Widths.{field-of-length}
 use Rattle.key.proofs.KeyFacts.{Accepted, accepted}
 use Rattle.key.proofs.Inverses.{keyWith, blank, unitEntries, blank-key, plain-key}
-
-abbrev Bytes : List ℕ → Type 0
-Bytes file = every (λ b. ltb b 256) file ≡ true
 
 -- any reader that meets the contract on bytes
 module _ (answer : List ℕ → ℕ) (key : List ℕ → Key)

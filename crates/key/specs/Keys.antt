@@ -11,7 +11,7 @@ use Rattle.base.specs.Questions.{Question, _else_, firstNo, granted}
 use Rattle.base.specs.Lists.{values, overlaid}
 use Rattle.base.specs.Digits.{value, digits, part}
 use Rattle.base.specs.Packing.{rowBytes, packedRow, unpackedRow, rowFiller}
-use Rattle.base.specs.Files.{joined, placeFrom, filePart}
+use Rattle.base.specs.Files.{joined, filePart}
 use Rattle.field.specs.Fields.{bits, operations, keyBytes}
 use Rattle.field.specs.declared.Field.{Field}
 use Rattle.field.specs.declared.Field.the-variants.{Gf32, Gf256}
@@ -38,13 +38,6 @@ keyField file = cond (eqb (length file) (keyBytes Gf256)) Gf256 Gf32
 -- matrix of Pub(S'). A matrix has 57 entries.
 abbrev pub keySizes : ℕ → List ℕ
 keySizes b = 1 ∷ 2 ∷ rowBytes b 8 ∷ rowBytes b 57 ∷ rowBytes 3 8 ∷ rowBytes b 57 ∷ []
-
--- The place where part i begins, counted from 0. `fileBytes` is the number of bytes of a file.
-abbrev pub keyPlace : ℕ → ℕ → ℕ
-keyPlace b i = placeFrom 0 (keySizes b) i
-
-abbrev pub fileBytes : ℕ → ℕ
-fileBytes b = keyPlace b 6
 
 unfoldable pub tValues : ℕ → List ℕ → List ℕ
 tValues b file = unpackedRow b 8 (filePart (keySizes b) 2 file)

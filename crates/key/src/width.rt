@@ -4,7 +4,7 @@ use field::Field;
 ghost use mathlib.Core.Path.{_≡_};
 ghost use Prim.Native.Nat.{_≤_};
 ghost use Rattle.field.specs.Fields.{bits};
-ghost use Rattle.key.specs.Keys.{keyPlace, fileBytes};
+ghost use Rattle.key.specs.steps.Places.{keyPlace, fileBytes};
 
 // The number of bytes of a key file, over GF(32) and over GF(256).
 pub const SMALL_BYTES: usize = 83;

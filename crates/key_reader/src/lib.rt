@@ -7,7 +7,8 @@ ghost use mathlib.Core.Path.{_≡_};
 ghost use Prim.Native.Nat.{_≤_};
 ghost use lib.ListN.{length};
 ghost use Rattle.field.specs.Fields.{keyBytes};
-ghost use Rattle.key.specs.Keys.{fileBytes, tValues, keyLabels, keyField, keyParts, ReadsKey};
+ghost use Rattle.key.specs.Keys.{tValues, keyLabels, keyField, keyParts, ReadsKey};
+ghost use Rattle.key.specs.steps.Places.{fileBytes};
 
 mod parts; // parts.rt: the parts of a key file, and its questions
 
@@ -49,8 +50,7 @@ fn read_over(file: &[u8], f: Field) -> KeyRead
     let pair = key.pair;
     let first = pair.matrix;
     let second = key.second;
-    let inverses = matrix_elimination::both_invertible(first, second, f);
-    if !inverses {
+    if !matrix_elimination::both_invertible(first, second, f) {
         return KeyRead::refused(26);
     }
     KeyRead { answer, key }

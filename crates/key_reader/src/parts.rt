@@ -7,7 +7,8 @@ ghost use Prim.Native.Nat.{_≤_};
 ghost use lib.ListN.{length};
 ghost use Rattle.base.specs.Questions.{firstNo};
 ghost use Rattle.base.specs.Packing.{rowBytes, unpackedRow};
-ghost use Rattle.key.specs.Keys.{fileBytes, tValues, keyLabels, entries, wholeMatrix, matrixFiller, firstBytes};
+ghost use Rattle.key.specs.Keys.{tValues, keyLabels, entries, wholeMatrix, matrixFiller, firstBytes};
+ghost use Rattle.key.specs.steps.Places.{fileBytes};
 ghost use Rattle.key.specs.Keys.{secondBytes, partQuestions};
 
 // Unpacks eight numbers of `bits` bits.
@@ -59,10 +60,11 @@ fn filler_is_zero(file: &[u8], bits: usize) -> bool
 {
     let at = key::first_place(bits);
     let end = key::labels_place(bits);
+    if !base::filler_is_zero(&file[at..end], bits, 57) {
+        return false;
+    }
     let after = key::second_place(bits);
-    let first = base::filler_is_zero(&file[at..end], bits, 57);
-    let second = base::filler_is_zero(&file[after..], bits, 57);
-    first & second
+    base::filler_is_zero(&file[after..], bits, 57)
 }
 
 // Questions 2 to 7, in order: the number of the first question answered no, or 0 if there is none. The caller has
@@ -83,20 +85,16 @@ pub(crate) fn answer(file: &[u8], ts: &[u8; 8], labels: &[u8; 8], bits: usize) -
     if size != wanted {
         return 3;
     }
-    let set = pair_operands::all_nonzero(ts);
-    if !set {
+    if !pair_operands::all_nonzero(ts) {
         return 4;
     }
-    let ones = key::starts_with_ones(ts);
-    if !ones {
+    if !key::starts_with_ones(ts) {
         return 5;
     }
-    let each = pair_operands::is_order(labels);
-    if !each {
+    if !pair_operands::is_order(labels) {
         return 6;
     }
-    let clear = filler_is_zero(file, bits);
-    if !clear {
+    if !filler_is_zero(file, bits) {
         return 7;
     }
     0

@@ -16,10 +16,13 @@ fn all_fit(ts: &[u8; 8], first: &[u8; 57], second: &[u8; 57], bits: usize) -> bo
         r ≡ (fit bits (now (ts .entry)) && fit bits (now (first .entry)) && fit bits (now (second .entry)))
         ⌝ }
 {
-    let a = pair_operands::all_fit(ts, bits);
-    let b = pair_operands::all_fit(first, bits);
-    let c = pair_operands::all_fit(second, bits);
-    a & b & c
+    if !pair_operands::all_fit(ts, bits) {
+        return false;
+    }
+    if !pair_operands::all_fit(first, bits) {
+        return false;
+    }
+    pair_operands::all_fit(second, bits)
 }
 
 // Questions 16, 17, 4, 5, 6, 26, in this order: the number of the first question answered no, or 0 if there is none. An
@@ -44,26 +47,21 @@ fn answer(
     if room < size {
         return 16;
     }
-    let elements = all_fit(ts, first, second, width);
-    if !elements {
+    if !all_fit(ts, first, second, width) {
         return 17;
     }
-    let set = pair_operands::all_nonzero(ts);
-    if !set {
+    if !pair_operands::all_nonzero(ts) {
         return 4;
     }
-    let ones = key::starts_with_ones(ts);
-    if !ones {
+    if !key::starts_with_ones(ts) {
         return 5;
     }
-    let each = pair_operands::is_order(labels);
-    if !each {
+    if !pair_operands::is_order(labels) {
         return 6;
     }
     let whole = key::whole_matrix(first);
     let other = key::whole_matrix(second);
-    let inverses = matrix_elimination::both_invertible(whole, other, f);
-    if !inverses {
+    if !matrix_elimination::both_invertible(whole, other, f) {
         return 26;
     }
     0

@@ -10,10 +10,11 @@ use native.Mathlib.Decide.{ℕ-discrete}
 use lib.Pow.{pow-pos, pow-mono, shl-exact}
 use lib.ListN.{length, getD, set, replicate, length-set}
 use lib.Seq.{getD-set-same, getD-set-other}
+use Rattle.base.specs.Packing.{Below}
 use Rattle.field.specs.Binary.{Operations}
 use Rattle.field.specs.Polynomial.{Degree, timesX, times, polynomials}
 use Rattle.field.proofs.Laws.{step-below, times-one, times-next}
-use Rattle.matrix_columns.specs.steps.Constants.{Bytes, Multiples, Filled, AllFilled, Reciprocals, Constants}
+use Rattle.matrix_columns.specs.steps.Constants.{Multiples, Filled, AllFilled, Reciprocals, Constants}
 
 -- the size of the field, as the code computes it
 pub size-is : (bits : ℕ) → bits ≤ 8 → 1 * 2 ^ bits % 2 ^ 64 ≡ 2 ^ bits
@@ -23,7 +24,7 @@ size-at-most : (bits : ℕ) → bits ≤ 8 → 2 ^ bits ≤ 256
 size-at-most bits h = pow-mono h
 
 -- a list of bytes stays a list of bytes when a byte is stored in it
-bytes-set : (l : List ℕ) (i v : ℕ) → i < length l → v < 256 → Bytes l → Bytes (set l i v)
+bytes-set : (l : List ℕ) (i v : ℕ) → i < length l → v < 256 → Below 256 l → Below 256 (set l i v)
 bytes-set l i v h b all k = at (ℕ-discrete k i)
   where
     at : Dec (k ≡ i) → getD (set l i v) k 0 < 256
@@ -37,7 +38,7 @@ pub record Filling (bits modulus number at i : ℕ) (before after : List ℕ) (p
   pub next : i < bits → product ≡ times bits modulus number (2 ^ i)
 
 module _ {bits modulus : ℕ} (degree : Degree bits modulus) (small : bits ≤ 8) (number at : ℕ) where
-  pub none-filled : (before : List ℕ) → Bytes before
+  pub none-filled : (before : List ℕ) → Below 256 before
       → Filling bits modulus number at 0 before before (number % 2 ^ bits)
   none-filled before b =
       record {
@@ -83,7 +84,7 @@ zero-bytes (suc n) zero = zero-lt-suc 255
 zero-bytes (suc n) (suc k) = zero-bytes n k
 
 module _ (F : Operations) (bits : ℕ) (numbers : List ℕ) (from : ℕ) (before : List ℕ) where
-  pub none-row : length before ≡ 128 → Bytes before → AllFilled F bits numbers from 0 before before
+  pub none-row : length before ≡ 128 → Below 256 before → AllFilled F bits numbers from 0 before before
   none-row l b = record { size = l; bytes = b; there = λ a h. absurd (omega arith); elsewhere = λ k h. refl }
 
   pub next-row : (n : ℕ) (list after : List ℕ) → bits ≤ 8 → n < 8 → AllFilled F bits numbers from n before list

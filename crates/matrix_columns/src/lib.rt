@@ -2,8 +2,8 @@
 ghost use mathlib.Core.Path.{_≡_};
 ghost use Prim.Native.Nat.{_+_, _≤_, _<_};
 ghost use lib.ListN.{length, getD};
+ghost use Rattle.base.specs.Packing.{Below};
 ghost use Rattle.matrix_columns.specs.steps.Lanes.{lane, chosen, InLanes};
-ghost use Rattle.matrix_columns.specs.steps.Constants.{Bytes};
 
 mod constants; // constants.rt: the constants of T-values and their reciprocals
 mod layout; // layout.rt: the columns of a matrix as numbers, and back
@@ -24,7 +24,7 @@ const ONES: u64 = 0x0101_0101_0101_0101;
 
 // A number times a column. The number's constants start at place `at`.
 pub fn times(constants: &[u64], at: usize, bits: usize, column: u64) -> u64
-    requires { ⌜ Bytes (now constants) × (bits ≤ 8) × (at + bits ≤ length (now constants)) ⌝ }
+    requires { ⌜ Below 256 (now constants) × (bits ≤ 8) × (at + bits ≤ length (now constants)) ⌝ }
     ensures { λ r. ⌜ InLanes r (λ j. chosen (λ i. getD (now (constants .entry)) (at + i) 0) bits (lane j column)) ⌝ }
 {
     let mut total: u64 = 0;

@@ -58,16 +58,10 @@ fn try_remove(codes: &mut [u8], n: usize, place: usize) -> Change
     ensures { λ r. ⌜ Makes (removal place) n (now (codes .entry)) (now (codes .exit)) (r .answer) (r .letters) ⌝ }
 {
     if n < place + 2 {
-        return Change {
-            answer: 22,
-            letters: n,
-        };
+        return Change::refused(22, n);
     }
     if codes[place + 1] != word::inverse(codes[place]) {
-        return Change {
-            answer: 23,
-            letters: n,
-        };
+        return Change::refused(23, n);
     }
     remove_two(codes, n, place);
     Change {
@@ -82,18 +76,12 @@ fn try_swap(codes: &mut [u8], n: usize, place: usize) -> Change
     ensures { λ r. ⌜ Makes (exchange place) n (now (codes .entry)) (now (codes .exit)) (r .answer) (r .letters) ⌝ }
 {
     if n < place + 2 {
-        return Change {
-            answer: 22,
-            letters: n,
-        };
+        return Change::refused(22, n);
     }
     let c = codes[place];
     let d = codes[place + 1];
     if !are_far(c, d) {
-        return Change {
-            answer: 23,
-            letters: n,
-        };
+        return Change::refused(23, n);
     }
     codes[place] = d;
     codes[place + 1] = c;
@@ -109,18 +97,12 @@ fn try_braid(codes: &mut [u8], n: usize, place: usize) -> Change
     ensures { λ r. ⌜ Makes (braiding place) n (now (codes .entry)) (now (codes .exit)) (r .answer) (r .letters) ⌝ }
 {
     if n < place + 3 {
-        return Change {
-            answer: 22,
-            letters: n,
-        };
+        return Change::refused(22, n);
     }
     let j = codes[place];
     let k = codes[place + 1];
     if !is_braid(j, k, codes[place + 2]) {
-        return Change {
-            answer: 23,
-            letters: n,
-        };
+        return Change::refused(23, n);
     }
     codes[place] = k;
     codes[place + 1] = j;
@@ -137,16 +119,10 @@ fn try_insert(codes: &mut [u8], n: usize, place: usize, c: u8) -> Change
     ensures { λ r. ⌜ Makes (insertion c place) n (now (codes .entry)) (now (codes .exit)) (r .answer) (r .letters) ⌝ }
 {
     if n < place {
-        return Change {
-            answer: 22,
-            letters: n,
-        };
+        return Change::refused(22, n);
     }
     if word::MAX_LETTERS < n + 2 {
-        return Change {
-            answer: 24,
-            letters: n,
-        };
+        return Change::refused(24, n);
     }
     insert_two(codes, n, place, c, word::inverse(c));
     Change {
@@ -169,10 +145,7 @@ pub fn one_move(codes: &mut [u8], n: usize, kind: u8, place: usize) -> Change
         if word::is_letter(c) {
             return try_insert(codes, n, place, c);
         }
-        return Change {
-            answer: 21,
-            letters: n,
-        };
+        return Change::refused(21, n);
     }
     if kind == 2 {
         return try_swap(codes, n, place);
@@ -180,8 +153,5 @@ pub fn one_move(codes: &mut [u8], n: usize, kind: u8, place: usize) -> Change
     if kind == 3 {
         return try_braid(codes, n, place);
     }
-    Change {
-        answer: 21,
-        letters: n,
-    }
+    Change::refused(21, n)
 }

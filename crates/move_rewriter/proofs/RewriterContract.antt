@@ -6,10 +6,10 @@ use mathlib.Core.Path.{_≡_, _∙_}
 use mathlib.Core.List.{List}
 use lib.ListN.{length, take}
 use Rattle.base.specs.Questions.{firstNo}
+use Rattle.base.specs.Lists.{Bytes}
 use Rattle.base.proofs.QuestionLaws.{granted-zero}
 use Rattle.word.specs.Words.{codes, wordAnswer, wordFile}
 use Rattle.word.proofs.RoundTrip.{wrote-file}
-use Rattle.slip_verdict.proofs.WrongVerdicts.{Bytes}
 use Rattle.move_kinds.specs.Rewriting.{steps, moveQuestions, rewritten, listQuestions, rewriterQuestions}
 use Rattle.move_rewriter.specs.Rewriter.{Rewrote}
 use Rattle.move_kinds.proofs.RewriterAnswer.{past-list}

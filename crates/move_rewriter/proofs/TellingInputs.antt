@@ -5,10 +5,9 @@ use mathlib.Core.List.{List, [], _∷_}
 use lib.Dec.{lit≤}
 use lib.ListN.{replicate}
 use Rattle.base.specs.Questions.{firstNo}
-use Rattle.base.specs.Lists.{every, valuesFrom}
+use Rattle.base.specs.Lists.{every, Bytes, valuesFrom}
 use Rattle.base.specs.Digits.{value, digits, halves}
 use Rattle.word.specs.Words.{codes, filler, wordAnswer, packed, wordFile}
-use Rattle.slip_verdict.proofs.WrongVerdicts.{Bytes}
 use Rattle.move_kinds.specs.Kinds.{move}
 use Rattle.move_kinds.specs.Rewriting.{moveQuestions, wordAfter, rewritten, listQuestions}
 use Rattle.move_rewriter.proofs.RewriterContract.{Handed, movesAnswer}

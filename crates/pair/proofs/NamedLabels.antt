@@ -8,13 +8,14 @@ use native.Mathlib.Omega.{arith}
 use native.Mathlib.Decide.{ℕ-discrete}
 use lib.ListN.{length, getD}
 use lib.Seq.{ext-getD}
+use Rattle.base.specs.Packing.{Below}
 use Rattle.base.specs.Lists.{every, values, valuesFrom}
 use Rattle.base.proofs.DigitLaws.{all-below}
 use Rattle.base.proofs.ListLaws.{and-left, and-right, length-values, getD-values, values-of}
 use Rattle.field.specs.Binary.{Operations}
 use Rattle.field.specs.Polynomial.{Degree, polynomials}
 use Rattle.matrix_columns.specs.steps.Lanes.{columnsMatrix}
-use Rattle.matrix_columns.specs.steps.Constants.{Bytes, Constants}
+use Rattle.matrix_columns.specs.steps.Constants.{Constants}
 use Rattle.word.specs.Letters.{isLetter, isInverse, generator}
 use Rattle.word.specs.Strands.{swapped}
 use Rattle.word.proofs.LetterLaws.{generator-below}
@@ -117,7 +118,8 @@ first-below : (k : ℕ) → getD first k 0 < 8
 unfolding valuesFrom every
 first-below = all-below 8 first (omega arith) refl
 
-pub begun : {bits : ℕ} → bits ≤ 8 → (cs columns : List ℕ) → Bytes cs → length columns ≡ 9 → Held bits cs columns first
+pub begun : {bits : ℕ} → bits ≤ 8 → (cs columns : List ℕ) → Below 256 cs → length columns ≡ 9
+    → Held bits cs columns first
 unfolding valuesFrom
 begun narrow cs columns b l = record { small = narrow; bytes = b; nine = l; eight = refl; below = first-below }
 

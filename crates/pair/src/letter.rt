@@ -6,7 +6,7 @@ ghost use Prim.Native.Nat.{_+_, _*_, _<_, _≤_};
 ghost use mathlib.Core.Bool.{true, cond};
 ghost use mathlib.Core.List.{[], _∷_};
 ghost use lib.ListN.{length};
-ghost use Rattle.matrix_columns.specs.steps.Constants.{Bytes};
+ghost use Rattle.base.specs.Packing.{Below};
 ghost use Rattle.word.specs.Letters.{isLetter};
 ghost use Rattle.word.specs.Strands.{swapped};
 ghost use Rattle.pair.specs.steps.Columns.{Held, Spread, ColumnsAfter, Carried};
@@ -70,7 +70,7 @@ pub fn multiply_columns(
 )
     requires { ⌜
         (length (now columns) ≡ 9)
-        × Bytes (now constants)
+        × Below 256 (now constants)
         × (bits ≤ 8)
         × (at + bits ≤ length (now constants))
         × (g < 7)

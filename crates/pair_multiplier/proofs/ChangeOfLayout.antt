@@ -40,6 +40,10 @@ module _ (f : Field) (p : Pair) (ts : List ℕ) (c : ℕ) (size : length (p .mat
       ∙ sym (granted-ap turnedPair (firstNo (multiplierQuestions f p ts c)) (letterByRows (operations f) ts c p) q)
 
   -- the multiplier by value, whose refusal gives zeros
+  pub multiplier-answer-turned : {answer : ℕ} {after : Pair} → Multiplies f (turnedPair p) ts c answer after
+      → answer ≡ firstNo (multiplierQuestions f p ts c)
+  multiplier-answer-turned m = m .answer-is ∙ answer-turned
+
   pub multiplier-turned : {answer : ℕ} {after : Pair} → Multiplies f (turnedPair p) ts c answer after
       → after ≡ turnedPair
       (granted (firstNo (multiplierQuestions f p ts c)) (letterByRows (operations f) ts c p) zeroPair)

@@ -12,11 +12,12 @@ ghost use mathlib.Core.Path.{_≡_};
 ghost use mathlib.Core.Bool.{true};
 ghost use Prim.Native.Nat.{_<_};
 ghost use lib.ListN.{length};
+ghost use Rattle.base.specs.Packing.{Below};
 ghost use Rattle.field.specs.Polynomial.{polynomials};
 ghost use Rattle.field.specs.steps.Reciprocals.{lookedUp, LentField};
 ghost use Rattle.field.specs.Fields.{operations, fieldOf};
 ghost use Rattle.word.specs.Letters.{isLetter};
-ghost use Rattle.matrix_columns.specs.steps.Constants.{Bytes, Multiples};
+ghost use Rattle.matrix_columns.specs.steps.Constants.{Multiples};
 ghost use Rattle.pair.specs.Action.{letterOn};
 ghost use Rattle.pair.specs.steps.Columns.{takenBy};
 ghost use Rattle.pair.specs.PairQuestions.{zeroPair};
@@ -70,7 +71,7 @@ fn constants_taken(
     requires { ⌜ (length (now «t_values») ≡ 8) × (g < 7) × LentField bits modulus (now table) ⌝ }
     ensures { λ r.
         ⌜
-        Bytes r
+        Below 256 r
         × Multiples (polynomials bits modulus) bits r 0
         (takenBy (polynomials bits modulus .inv) (now («t_values» .entry)) (now (labels .entry)) negative g)
         ⌝ }

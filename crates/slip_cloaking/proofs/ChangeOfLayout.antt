@@ -1,6 +1,5 @@
--- The comparison of two pairs whose matrices are held by columns is that of pairs whose matrices are held by rows,
--- through the plain change of layout; and whether a pair comes back from a word is the same either way. (The identity
--- matrix is one list in both layouts.)
+-- Comparing two pairs by columns gives the same as comparing them by rows, through the plain change of layout. So does
+-- the test whether a pair comes back from a word. The identity matrix is the same list in both layouts.
 use Prim.Native.Nat.{ℕ, _/_, _%_}
 use mathlib.Core.Path.{_≡_, refl, sym, ap, ap₂, _∙_}
 use mathlib.Core.Bool.{Bool, _&&_}

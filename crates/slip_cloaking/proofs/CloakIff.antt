@@ -35,7 +35,7 @@ same-pair-iff p q = (
   λ e. and-both (equal-of (ap (λ (r : Pair). r .matrix) e)) (equal-of (ap (λ (r : Pair). r .labels) e)),
 )
 
--- over any field
+-- over any field, `comesBack` says yes exactly if the identity matrix with the list comes back
 pub comes-back-iff : (F : Operations) (ts labels w : List ℕ)
     → (comesBack F ts labels w ≡ true) ↔ (wordOn F ts w (identityWith labels) ≡ identityWith labels)
 unfolding comesBack
@@ -53,7 +53,7 @@ module _ (key labels word : List ℕ) where
     pub word-accepted : wordAnswer word ≡ 0
     pub comes-back : reached ≡ identityWith labels
 
-  -- of any operation that meets the contract, on all inputs: it says yes if and only if all four hold
+  -- any operation that meets the contract says yes, on all inputs, if and only if all four hold
   module _ {answer : ℕ} {yes : Bool} (c : Cloaks key labels word answer yes) where
     abbrev back : Bool
     back = comesBack (operations (keyField key)) (keyOf key .«t_values») labels (codes word)

@@ -1,5 +1,5 @@
--- Laws of cloaking: the answer on each question's refusal and where all are passed, and the comparison of the pair that
--- comes back.
+-- Laws of cloaking: the answer if a question is failed and if all are passed, and the comparison of the pair that comes
+-- back.
 use Prim.Native.Nat.{ℕ}
 use mathlib.Core.Path.{_≡_, sym, _∙_}
 use mathlib.Core.Bool.{Bool, true, false, _&&_}
@@ -34,13 +34,13 @@ module _ (key labels word : List ℕ) where
     unfolding wordAnswer
     past-list l = past-key ∙ passes 25 (wordQuestions word) l
 
-  -- what is given on a refusal, as `Cloak::refused` makes it: no
+  -- a refusal, as `Cloak::refused` makes it, says no
   pub refused : {answer : ℕ} {yes : Bool} (n : ℕ) → (answer ≡ n) × (yes ≡ false)
       → firstNo (cloakQuestions key labels word) ≡ n → (n ≡ 0 → ⊥)
       → Cloaks key labels word answer yes
   refused n r e h = record { answer-is = r .0 ∙ sym e; yes-is = r .1 ∙ sym (granted-refused _ _ (λ z. h (sym e ∙ z))) }
 
-  -- what is given where every question is passed
+  -- the answer and the yes or no if every question is passed
   pub answered : firstNo (cloakQuestions key labels word) ≡ 0 → {yes : Bool}
       → yes ≡ comesBack (operations (keyField key)) (keyOf key .«t_values») labels (codes word)
       → Cloaks key labels word 0 yes

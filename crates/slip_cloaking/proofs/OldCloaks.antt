@@ -1,5 +1,5 @@
--- Old promises are instances: under a key that has not 128 bytes cloaking asks, and answers, what it did when there was
--- one field, with GF(32) spelled.
+-- The promises of the library with one field are instances: under a key that does not have 128 bytes, cloaking asks and
+-- answers what it did over GF(32) alone.
 use Prim.Native.Nat.{ℕ}
 use mathlib.Core.Path.{_≡_, ap, ap₂}
 use mathlib.Core.Bool.{Bool, cond, _&&_}

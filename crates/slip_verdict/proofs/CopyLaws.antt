@@ -1,5 +1,5 @@
--- What is said of a copy of a slip under any half: the word's refusal, and where the word is accepted 0 if and only if
--- the matrix that it reaches from Pub(S) is the target, over the half's own field, and 14 otherwise.
+-- The answer to a copy of a slip under any half. A refused word gets its refusal. An accepted word gets 0 if and only
+-- if the matrix that it reaches from Pub(S), over the half's own field, is the target, and 14 otherwise.
 use Prim.Native.Nat.{ℕ}
 use mathlib.Core.Path.{_≡_, refl, sym, ap, _∙_}
 use mathlib.Core.Bool.{Bool, true, false}

@@ -1,5 +1,5 @@
--- The two halves of the verdict: what the first gives on each refusal and where there is none; what it says of a half
--- that it passes its questions, and what the second half answers where it fails one, and where it passes all.
+-- Laws of the two halves of the verdict: what the first half gives on each refusal and without one; what follows for a
+-- half that passes its questions; what the second half answers if a half fails a question, and if it passes all.
 use Prim.Native.Nat.{ℕ}
 use mathlib.Core.Path.{_≡_, sym, _∙_}
 use mathlib.Core.Bool.{true, false, _&&_}
@@ -43,13 +43,13 @@ module _ (key digest : List ℕ) where
     unfolding firstNo
     none-refused e = past-key ∙ passes 8 [] e
 
-  -- what is given on a refusal, as `Halved::refused` makes it: zeros
+  -- a refusal, as `Halved::refused` makes it, gives zeros
   pub refused : {answer : ℕ} {half : Half} (n : ℕ) → (answer ≡ n) × (half ≡ zeroHalf)
       → firstNo (firstHalfQuestions key digest) ≡ n → (n ≡ 0 → ⊥)
       → MakesHalf key digest answer half
   refused n r e h = record { answer-is = r .0 ∙ sym e; half-is = r .1 ∙ sym (granted-refused _ _ (λ z. h (sym e ∙ z))) }
 
-  -- what is given where every question is passed
+  -- what the first half gives if every question is passed
   pub made : firstNo (firstHalfQuestions key digest) ≡ 0 → {half : Half} → half ≡ halfOf (keyOf key) digest
       → MakesHalf key digest 0 half
   made z e = record { answer-is = sym z; half-is = e ∙ sym (granted-zero _ _ z) }

@@ -1,5 +1,5 @@
--- Old promises are instances: under a key that has not 128 bytes the verdict asks, and answers, what it did when there
--- was one field, with 32 bytes of digest and GF(32) spelled.
+-- The promises of the library with one field are instances: under a key that does not have 128 bytes, the verdict asks
+-- and answers what it did over GF(32) alone, with a digest of 32 bytes.
 use Prim.Native.Nat.{ℕ}
 use mathlib.Core.Path.{_≡_}
 use mathlib.Core.List.{List, [], _∷_, _++_}

@@ -1,6 +1,6 @@
--- What the verdict on a slip says, under any key that was read: the refusal of the digest, or what is said of the word
--- under the half of key and digest. It is 0 if and only if digest and word are accepted and the two matrices, over the
--- key's own field, are equal.
+-- The verdict on a slip under any key that was read: the refusal of the digest, or the answer to the word under the
+-- half of key and digest. It is 0 if and only if digest and word are accepted and the two matrices are equal over the
+-- key's own field.
 use Prim.Native.Nat.{ℕ}
 use mathlib.Core.Path.{_≡_, _∙_}
 use mathlib.Core.List.{List}

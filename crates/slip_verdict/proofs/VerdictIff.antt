@@ -1,6 +1,6 @@
--- What the verdict says: under an accepted key and digest an accepted word gets 0 if and only if the two matrices, over
--- the key's own field, are equal, and 14 otherwise; and where the key, the digest or the word is refused, in this
--- order, the verdict is that refusal.
+-- What the verdict says. If the key, the digest or the word is refused, asked in this order, the verdict is that
+-- refusal. If all three are accepted, the verdict is 0 if and only if the two matrices are equal over the key's own
+-- field, and 14 otherwise.
 use Prim.Native.Nat.{ℕ}
 use mathlib.Core.Path.{_≡_, sym, ap, _∙_, subst}
 use mathlib.Core.List.{List}

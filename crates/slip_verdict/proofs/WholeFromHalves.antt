@@ -1,6 +1,6 @@
--- The whole verdict is its halves (document 02, §4), from bytes, for every key, digest and word. Where the first half
--- answers 0, the second, on the half that the first gave, answers what the verdict answers. Where the first refuses,
--- the verdict answers its number. A half that the first gave passes all questions of the second: the target of an
+-- The whole verdict is its halves (document 02, §4), from bytes, for every key, digest and word. If the first half
+-- answers 0, the second half answers what the verdict answers, on the half that the first gave. If the first refuses,
+-- the verdict is its number. A half that the first gave passes all questions of the second, because the target of an
 -- accepted key has an inverse, whatever the digest.
 use Prim.Native.Nat.{ℕ}
 use mathlib.Core.Path.{_≡_, refl, sym, ap, _∙_}

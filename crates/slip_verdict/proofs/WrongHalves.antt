@@ -8,7 +8,7 @@ use mathlib.Core.List.{List, [], _∷_}
 use native.Mathlib.Omega.{arith}
 use lib.ListN.{length, getD, replicate}
 use Rattle.base.specs.Questions.{_else_, firstNo}
-use Rattle.base.specs.Lists.{valuesFrom, every, tally, eachOnce}
+use Rattle.base.specs.Lists.{valuesFrom, every, Bytes, tally, eachOnce}
 use Rattle.base.specs.Digits.{value, halves}
 use Rattle.base.proofs.QuestionLaws.{fails, all-passed, granted-refused}
 use Rattle.base.proofs.ListLaws.{and-false, equal-of, equal-false}
@@ -40,7 +40,7 @@ use Rattle.slip_verdict.specs.Halves.{zeroHalf, firstHalfQuestions, Make
 use Rattle.slip_verdict.specs.Halves.{copyQuestions, secondHalfQuestions}
 use Rattle.slip_verdict.proofs.CopyLaws.{agree-0, differ-14}
 use Rattle.slip_verdict.proofs.HalfLaws.{digest-refused, accepted-answers, half-refused, past-half}
-use Rattle.slip_verdict.proofs.WrongVerdicts.{Bytes, plainKey, plain, emptyWord, key-accepted, empty-accepted}
+use Rattle.slip_verdict.proofs.WrongVerdicts.{plainKey, plain, emptyWord, key-accepted, empty-accepted}
 use Rattle.slip_verdict.proofs.WrongVerdicts.{key-is}
 
 -- n bytes, and a half as memory holds it

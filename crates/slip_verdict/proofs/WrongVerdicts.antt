@@ -1,16 +1,14 @@
--- Wrong verdicts are shut out by the definition: under the plain key and the digest of 32 zero bytes, 128 letters b7
--- get 0 and the empty word gets 14 (document 01's slips), so no verdict is always 14, and none is always 0. The zero
--- digest's braid is those 128 letters, so both sides of the first are one matrix; that this is not the identity, which
--- the empty word leaves, is seen at one entry.
+-- The definition shuts out wrong verdicts: no verdict is always 14, and none is always 0. Under the plain key and the
+-- digest of 32 zero bytes, 128 letters b7 get 0 and the empty word gets 14 (document 01's slips). The braid of the zero
+-- digest is those 128 letters, so both sides of the first slip are one matrix. One entry shows that this matrix is not
+-- the identity, which the empty word leaves.
 use Prim.Native.Nat.{ℕ}
 use mathlib.Core.Path.{_≡_, refl, sym, ap, ap₂, _∙_}
-use mathlib.Core.Bool.{true}
 use mathlib.Core.List.{List, [], _∷_, _++_}
 use native.Mathlib.Omega.{arith}
-use lib.Dec.{ltb}
 use lib.ListN.{length, replicate}
 use Rattle.base.specs.Questions.{firstNo}
-use Rattle.base.specs.Lists.{valuesFrom, every, eachOnce, tally}
+use Rattle.base.specs.Lists.{valuesFrom, every, Bytes, eachOnce, tally}
 use Rattle.base.specs.Digits.{value, digits, halves}
 use Rattle.base.specs.Packing.{unpackedRow, rowFiller}
 use Rattle.field.specs.Polynomial.{timesX, horner, times}
@@ -112,8 +110,8 @@ one-there : entry identity 6 6 ≡ 1
 unfolding identity place rowOf columnOf entry matrixOf valuesFrom
 one-there = refl
 
--- both sides: the word's letters reach it from Pub(S), and the digest's reach it from the identity; times the identity
--- it stays as it is
+-- Both sides of the verdict are this matrix. The word's letters reach it from Pub(S). The digest's letters reach it
+-- from the identity, and the product with the identity leaves it unchanged.
 sevens-signed : signed (keyOf plainKey) (codes sevens) ≡ reached
 unfolding signedOver
 sevens-signed =
@@ -144,9 +142,6 @@ empty-word-14 =
     (λ e. omega (arith, one-there, corner, ap (λ (m : List ℕ). entry m 6 6) (sym empty-signed ∙ e ∙ zero-target)))
 
 -- ---- wrong verdicts
-
-abbrev pub Bytes : List ℕ → Type 0
-Bytes xs = every (λ b. ltb b 256) xs ≡ true
 
 -- a function that gives the verdict on bytes is neither always 14 nor always 0
 module _ (f : (key digest word : List ℕ) → ℕ)

@@ -80,8 +80,8 @@ fn half_of(held: Key, digest: &[u8]) -> Half
     }
 }
 
-// The one judgement of a half and an accepted word: 14 where the word does not reach the target from Pub(S), over the
-// half's field.
+// The answer to an accepted word under a half: 14 if the word does not reach the target from Pub(S) over the half's
+// field, otherwise 0.
 fn copy_answer(half: Half, word: &[u8]) -> u8
     requires { ⌜ wordAnswer (now word) ≡ 0 ⌝ }
     ensures { λ r. ⌜ r ≡ firstNo (matrixQuestions (signedBy half (codes (now (word .entry)))) (half .target)) ⌝ }

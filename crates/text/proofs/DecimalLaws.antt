@@ -1,5 +1,5 @@
--- Laws of decimal text, of every number: it reads back as the number, has no zero in front, and is the only such text;
--- how long it is; and the digits one by one as the code writes them.
+-- Laws of decimal text, for every number. The text reads back as the number, has no zero in front, and is the only such
+-- text. Then: how long it is, and the digits one by one, as the code writes them.
 use Prim.Native.Nat.{ℕ, zero, suc, _+_, _-_, _*_, _/_, _%_, _^_, _≤_, _<_}
 use native.Mathlib.Nat.{zero-mul, mul-le-mul-right, pow-suc, pow-zero, pow-le-pow-right, div-eq-of-lt, div-add-mod'}
 use native.Mathlib.Nat.{mod-lt}
@@ -30,7 +30,7 @@ module _ (f : ℕ → Bool) where
       go true h = omega arith
       go false h = omega arith
 
-  -- it passes, or none of the n numbers does
+  -- the number found passes, or none of the n numbers does
   first-passes : (k n : ℕ) → (f (firstFrom f k n) ≡ true) ⊎ (firstFrom f k n ≡ k + n)
   unfolding firstFrom
   first-passes k zero = inr (omega arith)
@@ -42,7 +42,7 @@ module _ (f : ℕ → Bool) where
       go false e (inl d) = inl d
       go false e (inr d) = inr (omega arith)
 
-  -- none before it does
+  -- no number before it passes
   first-least : (k n j : ℕ) → k ≤ j → j < firstFrom f k n → f j ≡ false
   unfolding firstFrom
   first-least k zero j h l = absurd (omega arith)
@@ -66,7 +66,7 @@ module _ (n : ℕ) where
   unfolding places
   places-positive = first-from (λ k. ltb n (10 ^ k)) 1 n
 
-  -- as many as the number needs
+  -- a number has as many digits as it needs
   places-enough : n < 10 ^ places n
   unfolding places
   places-enough = go (first-passes (λ k. ltb n (10 ^ k)) 1 n)
@@ -78,12 +78,12 @@ module _ (n : ℕ) where
       go (inl e) = ltb-true n (10 ^ most) e
       go (inr e) = let s : most ≡ suc n = omega arith in rw s (omega (arith, pow-suc 10 n, below-power n))
 
-  -- and no more, but one for 0: no zero stands in front of other digits
+  -- A number has no more digits than it needs, so no zero stands in front. Exception: 0 has one digit.
   pub places-needed : (k : ℕ) → 1 ≤ k → k < places n → 10 ^ k ≤ n
   unfolding places
   places-needed k h l = ltb-false n (10 ^ k) (first-least (λ k. ltb n (10 ^ k)) 1 n k h l)
 
-  -- where k digits are enough
+  -- the number of digits, if k digits are enough
   places-few : (k : ℕ) → 1 ≤ k → n < 10 ^ k → places n ≤ k
   places-few k h l = go (decLe (places n) k)
     where
@@ -133,7 +133,7 @@ first-not-zero (d ∷ ds) h z =
     let one : 1 * 10 ^ length ds ≤ d * 10 ^ length ds = mul-le-mul-right (10 ^ length ds) z in
     rw size (omega arith)
 
--- and it is the only text of digits that does so without a zero in front of others
+-- the text is the only row of digits that reads back as the number and has no zero in front of other digits
 pub decimal-only : (ds : List ℕ) → Below 10 ds → 1 ≤ length ds → (1 < length ds → 1 ≤ getD ds 0 0)
     → shown ds ≡ decimal (value 10 ds)
 unfolding decimal
@@ -145,7 +145,7 @@ decimal-only ds below some front =
 
 -- ---- as the code counts and writes them
 
--- what is left of a number after k digits: nothing, or not
+-- something is left of a number after its last k digits just if the number is at least 10 to the power k
 pub none-left : (n k : ℕ) → n / 10 ^ k ≡ 0 → n < 10 ^ k
 none-left n k e =
     let none : n / 10 ^ k * 10 ^ k ≡ 0 = rw e (zero-mul (10 ^ k)) in
@@ -159,7 +159,7 @@ more-left n k h = go (decLe (10 ^ k) n)
     go (yes l) = l
     go (no l) = absurd (omega (arith, div-eq-of-lt {n = n} {m = 10 ^ k} (omega arith)))
 
--- no number has more digits than it has units and one
+-- a number n has at most n + 1 digits
 pub needed-few : (n k : ℕ) → (1 < k → 10 ^ (k - 1) ≤ n) → k ≤ n + 1
 needed-few n k needed = go (decLe k 1)
   where
@@ -167,7 +167,7 @@ needed-few n k needed = go (decLe k 1)
     go (yes h) = omega arith
     go (no h) = omega (arith, needed (omega arith), below-power (k - 1))
 
--- one more byte of a row of digits, from the last on
+-- one turn of the loop, which writes the digits from the last on
 pub spelled-more : (number v n i : ℕ) (xs : List ℕ) → i < length xs → drop (suc i) xs ≡ shown (digits 10 n number)
     → v ≡ number / 10 ^ n
     → drop i (set xs i (48 + v % 10)) ≡ shown (digits 10 (suc n) number)

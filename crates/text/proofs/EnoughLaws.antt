@@ -1,5 +1,5 @@
--- Laws of how many bytes are enough to read: more are enough too; a part of the file, and what it picks; a function
--- that sees of long files the first bytes alone; answers, and what is given on them; several files.
+-- Laws of how many bytes are enough to read: more bytes; a part of a file; a function that a part of the file picks; a
+-- function that uses only the first bytes of a long file; answers, and what `granted` makes of them; several files.
 use Prim.Native.Nat.{ℕ, zero, suc, _+_, _≤_, _<_}
 use native.Mathlib.Decide.{decLe, ℕ-discrete}
 use native.Mathlib.Omega.{arith}
@@ -12,11 +12,11 @@ use Rattle.base.specs.Digits.{part}
 use Rattle.base.proofs.QuestionLaws.{granted-zero, granted-refused}
 use Rattle.text.specs.Enough.{Enough, EnoughOfTwo, EnoughOfThree}
 
--- more is enough too
+-- if n bytes are enough, more bytes are enough
 enough-more {ℓ} : {A : Type ℓ} (f : List ℕ → A) (n m : ℕ) → n ≤ m → Enough n f → Enough m f
 enough-more f n m h e file = sym (e (take m file)) ∙ ap f (take-take n m file h) ∙ e file
 
--- a function that a part of the file picks, of the file
+-- n bytes are enough for a function g that f picks, if they are enough for f and for each g that it may pick
 pub enough-picked {ℓ} : {A B : Type ℓ} (f : List ℕ → A) (g : A → List ℕ → B) (n : ℕ) → Enough n f
     → ((x : A) → Enough n (g x))
     → Enough n (λ file. g (f file) file)
@@ -29,7 +29,7 @@ enough-part (suc at) size zero h file = absurd (omega arith)
 enough-part (suc at) size (suc n) h [] = refl
 enough-part (suc at) size (suc n) h (x ∷ file) = enough-part at size n (omega arith) file
 
--- a function that sees of a file of over n bytes the first k alone: n + 1 bytes are enough, and so is more
+-- If f uses only the first k bytes of a file that has more than n bytes, then any number of bytes over n is enough.
 pub enough-long {ℓ} : {A : Type ℓ} (f g : List ℕ → A) (k n m : ℕ) → k ≤ n → n < m
     → ((file : List ℕ) → n < length file → f file ≡ g (take k file))
     → Enough m f
@@ -44,11 +44,11 @@ enough-long f g k n m h l long = enough-more f (suc n) m l (λ file. go file (de
 
 -- ---- answers
 
--- a file that is accepted ends within its first n bytes
+-- if the first n bytes of a file are accepted, they are the whole file
 abbrev pub Whole : ℕ → (List ℕ → ℕ) → Type 0
 Whole n answer = (file : List ℕ) → answer (take n file) ≡ 0 → take n file ≡ file
 
--- so it is where every file of over n bytes is refused
+-- If every file of more than n bytes is refused, then m bytes that are accepted are the whole file, for m over n.
 pub whole-long : (answer : List ℕ → ℕ) (n m : ℕ) → n < m → ((file : List ℕ) → n < length file → answer file ≡ 0 → ⊥)
     → Whole m answer
 whole-long answer n m h long file a = go (decLe (length file) m)
@@ -59,7 +59,7 @@ whole-long answer n m h long file a = go (decLe (length file) m)
         let size : length (take m file) ≡ m = rw length-take (omega arith) in
         absurd (long (take m file) (omega arith) a)
 
--- what is given on answer 0 and on a refusal: alike where the answers are, and on 0 the first two
+-- `granted` gives the same for equal answers, if the first values are equal on answer 0 and the second values are equal
 pub granted-alike {ℓ} : {A : Type ℓ} {a b : ℕ} (x y z t : A) → a ≡ b → (a ≡ 0 → x ≡ y) → z ≡ t
     → granted a x z ≡ granted b y t
 granted-alike {a = a} {b = b} x y z t e same rest = go (ℕ-discrete a 0)
@@ -76,7 +76,7 @@ enough-granted answer f g n e whole rest file =
 
 -- ---- several files
 
--- two files, and three
+-- if enough is read of each of two or three files, enough is read of all
 pub enough-of-two {ℓ} : {A : Type ℓ} (f : List ℕ → List ℕ → A) (m n : ℕ) → ((y : List ℕ) → Enough m (λ x. f x y))
     → ((x : List ℕ) → Enough n (f x))
     → EnoughOfTwo m n f

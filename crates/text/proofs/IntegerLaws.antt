@@ -1,4 +1,4 @@
--- Laws of integers of 32 bits: how far one is from 0, as the code works it out in 64; and their text.
+-- Laws of integers of 32 bits: how far an integer is from 0, as the code computes it in 64 bits; and its text.
 use Prim.Native.Nat.{ℕ}
 use mathlib.Core.Path.{_≡_, refl, sym, ap, _∙_}
 use mathlib.Core.Bool.{true, false, false≢true}
@@ -15,12 +15,12 @@ use Rattle.text.specs.Decimal.{decimal, signedText}
 
 -- ---- how far from 0
 
--- an integer from 0 on
+-- an integer that is not below 0
 from-zero : (z : ℤ) → SFits w32 z → ltZ z (pos 0) ≡ false → T (nonNeg z) × Fits w32 (natAbs z)
 from-zero (pos n) f e = (tt, record { fits = omega (arith, f .sfits) })
 from-zero (negsuc n) f e = absurd (false≢true (sym e))
 
--- one below, taken from 0
+-- an integer below 0, subtracted from 0
 record Turned (z turned : ℤ) : Type 0 where
   fits : SFits w64 turned
   natural : T (nonNeg turned) × Fits w32 (natAbs turned)
@@ -35,7 +35,7 @@ below-zero (negsuc n) f e =
       size = omega arith;
     }
 
--- as the code has them
+-- the integer as the code holds it
 module _ (z : ℤ) (f : SFits w32 z) where
   abbrev narrow : ℤ
   narrow = toZ w32 (ofZ w32 z)

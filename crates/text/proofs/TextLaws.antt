@@ -1,4 +1,4 @@
--- Laws of a text that grows: bytes added behind what is written, one after another; a number; lines.
+-- Laws of a text that grows: bytes laid behind the written ones, one after another; a number; lines.
 use Prim.Native.Nat.{ℕ, _+_, _≤_, _<_}
 use mathlib.Core.Path.{_≡_, refl, sym, ap, ap₂, _∙_}
 use mathlib.Core.List.{List, [], _∷_, _++_, append-assoc}
@@ -6,48 +6,49 @@ use native.Mathlib.Numerals.{add-one}
 use native.Mathlib.Omega.{arith}
 use lib.ListN.{length, take, drop, set, replicate, length-append, length-drop}
 use lib.Seq.{take-at, drop-at, drop-drop, set-split, length-take-le}
+use Rattle.base.specs.steps.Laying.{Laid}
 use Rattle.base.specs.Lists.{overlaid}
 use Rattle.base.proofs.ListLaws.{overlaid-append}
 use Rattle.base.specs.Digits.{digits}
 use Rattle.base.proofs.PackLaws.{length-part}
 use Rattle.text.specs.Decimal.{places, shown, decimal}
-use Rattle.text.specs.Texts.{line, TellsIn, Added}
+use Rattle.text.specs.Texts.{line, TellsIn}
 use Rattle.text.proofs.DecimalLaws.{length-decimal}
 
 -- ---- bytes added
 
--- a part of the buffer that is lent, of k bytes, and comes back with the bytes in it
+-- k bytes of the buffer are lent, and come back with the new bytes in them
 added-part : {bytes part : List ℕ} {k : ℕ} (before : List ℕ) (at : ℕ) → part ≡ bytes → k ≡ length bytes
-    → Added bytes before at (take at before ++ (part ++ drop k (drop at before))) (at + k)
+    → Laid at bytes before (take at before ++ (part ++ drop k (drop at before))) (at + k)
 unfolding overlaid
 added-part before at e l =
     record {
-      end-is = ap (λ (n : ℕ). at + n) l;
-      buffer-is = ap₂ (λ (b : List ℕ) (n : ℕ). take at before ++ (b ++ drop n (drop at before))) e l;
+      ends = ap (λ (n : ℕ). at + n) l;
+      lies = ap₂ (λ (b : List ℕ) (n : ℕ). take at before ++ (b ++ drop n (drop at before))) e l;
     }
 
--- one byte stored
-pub added-byte : (before : List ℕ) (at x : ℕ) → at < length before → Added (x ∷ []) before at (set before at x) (at + 1)
+-- one byte is stored
+pub added-byte : (before : List ℕ) (at x : ℕ) → at < length before → Laid at (x ∷ []) before (set before at x) (at + 1)
 unfolding overlaid
 added-byte before at x h =
     record {
-      end-is = refl;
-      buffer-is =
+      ends = refl;
+      lies =
           set-split before at x h
           ∙ ap (λ (l : List ℕ). take at before ++ (x ∷ l))
           (sym (drop-drop 1 at before ∙ ap (λ (k : ℕ). drop k before) (add-one at)));
     }
 
--- one after another
+-- xs are laid, and then ys behind them: together they are laid
 pub added-then : {xs ys before between after : List ℕ} {at middle end : ℕ} → at ≤ length before
-    → Added xs before at between middle
-    → Added ys between middle after end → Added (xs ++ ys) before at after end
+    → Laid at xs before between middle
+    → Laid middle ys between after end → Laid at (xs ++ ys) before after end
 unfolding overlaid
 added-then {xs} {ys} {before} {between} {after} {at} {middle} {end} h f g =
     record {
-      end-is = omega (arith, f .end-is, g .end-is, length-append xs ys);
-      buffer-is =
-          g .buffer-is
+      ends = omega (arith, f .ends, g .ends, length-append xs ys);
+      lies =
+          g .lies
           ∙ ap₂ (λ (p q : List ℕ). p ++ overlaid ys q)
           (ap (take middle) there ∙ take-at front (drop (length xs) rest) middle size)
           (ap (drop middle) there ∙ drop-at front (drop (length xs) rest) middle size)
@@ -62,16 +63,16 @@ added-then {xs} {ys} {before} {between} {after} {at} {middle} {end} h f g =
     rest = drop at before
 
     there : between ≡ front ++ drop (length xs) rest
-    there = f .buffer-is ∙ sym (append-assoc (take at before) xs (drop (length xs) rest))
+    there = f .lies ∙ sym (append-assoc (take at before) xs (drop (length xs) rest))
 
     size : length front ≡ middle
-    size = omega (arith, length-append (take at before) xs, length-take-le at before h, f .end-is)
+    size = omega (arith, length-append (take at before) xs, length-take-le at before h, f .ends)
 
--- a number in decimal and a byte: its digits in a part of k bytes that was lent, and the byte behind it
+-- A number in decimal and a byte are laid. The digits stand in k bytes that were lent, and the byte behind them.
 pub added-number : {part : List ℕ} {k m : ℕ} (before : List ℕ) (at n then : ℕ) → k ≡ places n → m ≡ k
     → at + k + 1 ≤ length before
     → part ≡ shown (digits 10 (length (take m (drop at before))) n)
-    → Added (decimal n ++ (then ∷ [])) before at
+    → Laid at (decimal n ++ (then ∷ [])) before
     (set (take at before ++ (part ++ drop m (drop at before))) (at + k) then) (at + k + 1)
 unfolding decimal
 added-number {part} {k} {m} before at n then e d h p =
@@ -84,7 +85,7 @@ added-number {part} {k} {m} before at n then e d h p =
     same : part ≡ decimal n
     same = p ∙ ap (λ (j : ℕ). shown (digits 10 j n)) size
 
-    digits-added : Added (decimal n) before at (take at before ++ (part ++ drop k (drop at before))) (at + k)
+    digits-added : Laid at (decimal n) before (take at before ++ (part ++ drop k (drop at before))) (at + k)
     digits-added = added-part before at same (e ∙ sym (length-decimal n))
 
     within : at + k < length (take at before ++ (part ++ drop k (drop at before)))
@@ -102,16 +103,16 @@ added-number {part} {k} {m} before at n then e d h p =
 
 -- ---- a buffer that starts with a text
 
--- bytes added to it
+-- bytes that are laid behind the text make the text longer
 pub told-more : {size at end : ℕ} {text bytes before after : List ℕ} → TellsIn size text at before
-    → Added bytes before at after end
+    → Laid at bytes before after end
     → TellsIn size (text ++ bytes) end after
 unfolding overlaid
 told-more {size} {at} {end} {text} {bytes} {before} {after} t f =
     record {
-      bytes-are = omega (arith, length-append text bytes, t .bytes-are, f .end-is);
+      bytes-are = omega (arith, length-append text bytes, t .bytes-are, f .ends);
       text-is =
-          f .buffer-is
+          f .lies
           ∙ ap₂ (λ (p q : List ℕ). p ++ overlaid bytes q)
           (ap (take at) (t .text-is) ∙ take-at text (drop (length text) zeros) at (sym (t .bytes-are)))
           (ap (drop at) (t .text-is) ∙ drop-at text (drop (length text) zeros) at (sym (t .bytes-are)))
@@ -121,21 +122,21 @@ told-more {size} {at} {end} {text} {bytes} {before} {after} t f =
     zeros : List ℕ
     zeros = replicate size 0
 
--- the bytes counted lie within the buffer
+-- a text is no longer than its buffer
 pub told-within : {size bytes : ℕ} {text buffer : List ℕ} → TellsIn size text bytes buffer → bytes ≤ length buffer
 unfolding overlaid
 told-within t = rw (t .bytes-are, t .text-is) (simp length-append (omega arith))
 
 -- ---- lines
 
--- a word and a space, before the rest of a line
+-- a line of two words or more is its first word, a space, and the line of the other words
 line-word : (w v : List ℕ) (ws : List (List ℕ)) → (w ++ (32 ∷ [])) ++ line (v ∷ ws) ≡ line (w ∷ v ∷ ws)
 unfolding line
 line-word w v ws = append-assoc w (32 ∷ []) (line (v ∷ ws))
 
--- a line word by word
+-- a word and a space are laid, and then the rest of the line
 pub added-word : {before between after : List ℕ} {at middle end : ℕ} (w v : List ℕ) (ws : List (List ℕ))
     → at ≤ length before
-    → Added (w ++ (32 ∷ [])) before at between middle → Added (line (v ∷ ws)) between middle after end
-    → Added (line (w ∷ v ∷ ws)) before at after end
+    → Laid at (w ++ (32 ∷ [])) before between middle → Laid middle (line (v ∷ ws)) between after end
+    → Laid at (line (w ∷ v ∷ ws)) before after end
 added-word w v ws h f g = rw (← line-word w v ws) (added-then h f g)

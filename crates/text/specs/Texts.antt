@@ -1,8 +1,8 @@
--- Texts: lines of words, a buffer that starts with a text, and bytes that are added to it.
-use Prim.Native.Nat.{ℕ, _+_}
+-- Texts: lines of words, and a buffer that starts with a text.
+use Prim.Native.Nat.{ℕ}
 use mathlib.Core.Path.{_≡_}
 use mathlib.Core.List.{List, [], _∷_, _++_}
-use lib.ListN.{length, take, drop, replicate}
+use lib.ListN.{length, replicate}
 use Rattle.base.specs.Lists.{overlaid}
 
 -- a line: words with a space (32) between them, and a line end (10)
@@ -15,8 +15,3 @@ line (w ∷ v ∷ ws) = w ++ (32 ∷ line (v ∷ ws))
 pub record TellsIn (size : ℕ) (text : List ℕ) (bytes : ℕ) (buffer : List ℕ) : Type 0 where
   pub bytes-are : bytes ≡ length text
   pub text-is : buffer ≡ overlaid text (replicate size 0)
-
--- bytes are stored in a buffer behind its first `at`, and the rest of it is as it was; they end at `end`
-pub record Added (bytes before : List ℕ) (at : ℕ) (after : List ℕ) (end : ℕ) : Type 0 where
-  pub end-is : end ≡ at + length bytes
-  pub buffer-is : after ≡ take at before ++ overlaid bytes (drop at before)

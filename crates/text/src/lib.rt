@@ -14,7 +14,7 @@ fn least(a: usize, b: usize) -> usize
     if a < b { a } else { b }
 }
 
-// Up to `most` bytes from a place on: fewer, or none, where the buffer ends before.
+// Up to `most` bytes of a buffer, starting at place `at`. If the buffer ends earlier, the part is shorter or empty.
 pub fn part(bytes: &[u8], at: usize, most: usize) -> &[u8]
     ensures { λ r. ⌜ now r ≡ partOf at most (now (bytes .entry)) ⌝ }
 {

@@ -1,12 +1,12 @@
-// Numbers in decimal, added to a text.
+// Writes numbers in decimal behind a text.
 ghost use Prim.Native.Nat.{_+_, _≤_};
 ghost use mathlib.Core.Path.{_≡_};
 ghost use mathlib.Core.List.{[], _∷_, _++_};
 ghost use lib.IntN.{natAbs};
 ghost use lib.ListN.{length};
+ghost use Rattle.base.specs.steps.Laying.{Laid};
 ghost use Rattle.base.specs.Digits.{digits};
 ghost use Rattle.text.specs.Decimal.{places, shown, decimal, signedText};
-ghost use Rattle.text.specs.Texts.{Added};
 
 // How many digits a number has.
 fn places(n: u32) -> usize
@@ -21,7 +21,7 @@ fn places(n: u32) -> usize
     k
 }
 
-// The last digits of a number, as many as there is room for, as the bytes that show them.
+// Writes the last digits of a number, as many as `part` has places, as the bytes that show them.
 fn spell(part: &mut [u8], n: u32)
     ensures { λ _. ⌜ now (part .exit) ≡ shown (digits 10 (length (now (part .entry))) n) ⌝ }
 {
@@ -34,10 +34,10 @@ fn spell(part: &mut [u8], n: u32)
     }
 }
 
-// A number in decimal, and a byte after it, behind the first `at` bytes of a text: where they end.
+// Writes a number in decimal, and the byte `then`, behind the first `at` bytes of a text. Returns the place after them.
 pub fn decimal(text: &mut [u8], at: usize, n: u32, then: u8) -> usize
     requires { ⌜ at + (length (decimal n) + 1) ≤ length (now text) ⌝ }
-    ensures { λ r. ⌜ Added (decimal n ++ (then ∷ [])) (now (text .entry)) at (now (text .exit)) r ⌝ }
+    ensures { λ r. ⌜ Laid at (decimal n ++ (then ∷ [])) (now (text .entry)) (now (text .exit)) r ⌝ }
 {
     let end = at + places(n);
     spell(&mut text[at..end], n);
@@ -55,10 +55,10 @@ fn size(n: i32) -> u32
     n as u32
 }
 
-// An integer in decimal, with a minus sign before one that is below zero, and a byte after it.
+// Writes an integer in decimal and the byte `then`, like `decimal`. An integer below zero has a minus sign in front.
 pub fn signed(text: &mut [u8], at: usize, n: i32, then: u8) -> usize
     requires { ⌜ at + (length (signedText n) + 1) ≤ length (now text) ⌝ }
-    ensures { λ r. ⌜ Added (signedText n ++ (then ∷ [])) (now (text .entry)) at (now (text .exit)) r ⌝ }
+    ensures { λ r. ⌜ Laid at (signedText n ++ (then ∷ [])) (now (text .entry)) (now (text .exit)) r ⌝ }
 {
     let size = size(n);
     if 0 <= n {

@@ -12,12 +12,13 @@ use lib.Dec.{eqb, ltb, lit<}
 use lib.ListN.{length, take, drop, getD, length-drop, take-append-drop}
 use lib.Seq.{length-take-le, take-at, ext-getD}
 use Rattle.base.specs.Questions.{Question, firstNo}
-use Rattle.base.specs.Lists.{every, overlaid}
+use Rattle.base.specs.Lists.{every, Bytes, overlaid}
 use Rattle.base.specs.Digits.{value, digits, halves}
 use Rattle.base.specs.Packing.{Below, rowBytes, packedRow, rowFiller}
 use Rattle.base.proofs.QuestionLaws.{passed-answers, answers-passed, granted-zero, granted-either}
 use Rattle.base.proofs.ListLaws.{take-overlaid, drop-overlaid}
 use Rattle.base.proofs.DigitLaws.{length-digits, value-digits-below, digits-value, take-below, drop-below}
+use Rattle.base.proofs.DigitLaws.{below-all, append-below, digits-below}
 use Rattle.base.proofs.RowLaws.{length-packed-row, packed-below, unpacked-packed, filler-packed, packed-unpacked}
 use Rattle.base.proofs.RowLaws.{halves-row, halves-filler}
 use Rattle.word.specs.Letters.{isLetter}
@@ -36,7 +37,7 @@ module _ (cs : List ℕ) (few : length cs ≤ 10000) where
       ap (value 256) (take-at (digits 256 2 (length cs)) (packed cs) 2 (length-digits 256 2 (length cs)))
       ∙ value-digits-below 256 2 (length cs) (lit< tt) (omega arith)
 
-  -- letters are numbers of 4 bits, so the file packs them as a row of such numbers
+  -- Letters are numbers of 4 bits, so the file packs them as a row of such numbers. The file consists of bytes.
   module _ (e : every isLetter cs ≡ true) where
     below : Below 16 cs
     below k = omega (arith, letters-below cs e k)
@@ -50,6 +51,13 @@ module _ (cs : List ℕ) (few : length cs ≤ 10000) where
         ap₂ (λ (n : ℕ) (l : List ℕ). take n (halves l)) stated-wordFile row
         ∙ halves-row (length cs) (packedRow 4 cs) (packed-below 4 cs) (length-packed-row 4 cs)
         ∙ unpacked-packed 4 cs below
+
+    pub wordFile-bytes : Bytes (wordFile cs)
+    unfolding wordFile
+    wordFile-bytes =
+        below-all 256 (wordFile cs)
+        (λ k h. append-below (digits 256 2 (length cs)) (packed cs) (digits-below 256 2 (length cs) (lit< tt))
+        (λ j. rw (packed-row cs below) (packed-below 4 cs j)) k)
 
     filler-wordFile : every (λ h. eqb h 0) (filler (wordFile cs)) ≡ true
     unfolding filler

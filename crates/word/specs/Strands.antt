@@ -1,5 +1,5 @@
--- Strand orders, the paper's lists: the label at each of the eight places, and how a letter changes the list. Places
--- count from 0; the paper's positions count from 1.
+-- Lists of labels, which document 01 calls strand orders: the label at each of the eight places, and how a letter
+-- changes the list. Places count from 0; the paper's positions count from 1.
 use Prim.Native.Nat.{ℕ, _+_}
 use mathlib.Core.Bool.{Bool}
 use mathlib.Core.List.{List, [], _∷_}

@@ -3,7 +3,7 @@
 use crate::Letter;
 use crate::MAX_LETTERS;
 use crate::Word;
-ghost use Prim.Native.Nat.{_+_, _*_, _/_, _%_, _≤_};
+ghost use Prim.Native.Nat.{_+_, _*_, _/_, _%_, _≤_, _<_};
 ghost use mathlib.Core.Path.{_≡_};
 ghost use mathlib.Core.Bool.{_&&_};
 ghost use lib.Dec.{eqb};
@@ -44,7 +44,7 @@ pub fn inverse(c: u8) -> u8
 // The number of letters that a file states in its first two bytes.
 pub fn stated(file: &[u8]) -> usize
     requires { ⌜ 2 ≤ length (now file) ⌝ }
-    ensures { λ r. ⌜ r ≡ stated (now (file .entry)) ⌝ }
+    ensures { λ r. ⌜ (r ≡ stated (now (file .entry))) × (r < 65536) ⌝ }
 {
     base::two_bytes(file, 0)
 }

@@ -1,5 +1,5 @@
--- The 28 numbers together are positive letters less inverse ones: each letter of a word swaps just one pair of labels.
--- It holds from any list of the labels 0 to 7, each once, and so from the starting list.
+-- The 28 numbers sum to the positive letters less the inverse ones, because each letter of a word swaps just one pair
+-- of labels. This holds from any list of the labels 0 to 7, each once, and so from the starting list.
 use Prim.Native.Nat.{ℕ, suc, _+_, _≤_, _<_}
 use mathlib.Core.Path.{_≡_, refl, sym, ap, ap₂, _∙_}
 use mathlib.Core.Bool.{Bool, true, false, cond}
@@ -46,7 +46,7 @@ unfolding sum
 sum-zero [] = refl
 sum-zero (p ∷ ps) = omega (arith, sum-zero ps)
 
--- differences, summed
+-- the sum of differences is the difference of the sums
 together-difference : (f g : Two → ℕ) (ps : List Two)
     → together (λ p. pos (f p) -ℤ pos (g p)) ps ≡ pos (sum f ps) -ℤ pos (sum g ps)
 unfolding sum together
@@ -57,7 +57,7 @@ together-difference f g (p ∷ ps) =
 
 -- ---- one letter
 
--- two different labels are just one of the pairs: one test over all two labels
+-- Two different labels are just one of the 28 pairs. The proof tests every two labels.
 pairRule : ℕ → ℕ → Bool
 pairRule x y = cond (eqb x y) true (eqb (sum (λ p. share (both (p .smaller) (p .larger) x y) true) allPairs) 1)
 
@@ -112,7 +112,7 @@ module _ (f : ℕ → Bool) where
       more true n = omega arith
       more false n = omega arith
 
--- ---- the 28 together
+-- ---- the sum of the 28 numbers
 
 module _ (labels : List ℕ) (size : length labels ≡ 8) (order : isOrder labels ≡ true) where
   labelled : Labelled labels
@@ -145,13 +145,13 @@ module _ (labels : List ℕ) (size : length labels ≡ 8) (order : isOrder label
       ∙ ap₂ (λ (m n : ℕ). pos m -ℤ pos n) (all-tallied isPositive labels w labelled once e)
       (all-tallied isInverse labels w labelled once e)
 
--- of an accepted word, from the starting list
+-- the sum of the 28 numbers of an accepted word, from the starting list
 pub all-crossings : (word : List ℕ) → wordAnswer word ≡ 0
     → together (λ p. crossings (p .smaller) (p .larger) (codes word)) allPairs ≡ exponentSum (codes word)
 unfolding crossings eachOnce every tally valuesFrom
 all-crossings word e = together-from inOrder refl refl (codes word) (accepted-word word e .lettered)
 
--- there are 28 of them
+-- there are 28 pairs
 pub twenty-eight : length allPairs ≡ 28
 unfolding withEach pairsFrom
 twenty-eight = refl

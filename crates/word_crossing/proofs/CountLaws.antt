@@ -1,5 +1,5 @@
--- Laws of the table that counts all pairs in one walk: one letter more, and what it has of two labels once all letters
--- are counted: as many as swap just these two.
+-- Laws of the table that counts all pairs in one walk: one letter more, and the table after all letters. It then has,
+-- for every two labels, the number of letters that swap just these two.
 use Prim.Native.Nat.{ℕ, suc, _+_, _/_, _≤_, _<_}
 use mathlib.Core.Path.{_≡_, refl, sym, ap, ap₂, _∙_}
 use mathlib.Core.Bool.{Bool, true, false, cond, _&&_, _||_, Bool·beq}
@@ -71,11 +71,11 @@ module _ (counts labels : List ℕ) (c : ℕ) (w : List ℕ) (h : slotOf labels 
           let t = ne-eqb at k (λ e. n (sym e)) in
           rw t (omega (arith, getD-set-other counts at k (getD counts at 0 + 1) 0 n))
 
--- 1 where a test is passed
+-- 1 if a test is passed, and 0 if not
 abbrev tick : Bool → ℕ
 tick b = cond b 1 0
 
--- the first of a list counted by itself
+-- the first element of a list is counted by itself
 count-first : (k x : ℕ) (xs : List ℕ) → count k (x ∷ xs) ≡ tick (eqb x k) + count k xs
 unfolding tally
 count-first k x xs = go (eqb x k)
@@ -86,7 +86,7 @@ count-first k x xs = go (eqb x k)
 
 -- ---- two labels in the table
 
--- two places of the table are one where sign and labels are
+-- two places of the table are the same just if sign and labels are the same
 slot-equal : (s t p q a b : ℕ) → p < 8 → q < 8 → a < 8 → b < 8
     → eqb (slot s p q) (slot t a b) ≡ eqb s t && (eqb p a && eqb q b)
 slot-equal s t p q a b hp hq ha hb = go (ℕ-discrete s t) (ℕ-discrete p a) (ℕ-discrete q b)
@@ -101,7 +101,7 @@ slot-equal s t p q a b hp hq ha hb = go (ℕ-discrete s t) (ℕ-discrete p a) (�
         ne-eqb (slot s p q) (slot t a b) (λ g. e (omega arith)) ∙ sym (rw (eq-eqb s t d, ne-eqb p a e))
     go (no d) e f = ne-eqb (slot s p q) (slot t a b) (λ g. d (omega arith)) ∙ sym (rw (ne-eqb s t d))
 
--- the signs by the high bit: one test over the sixteen
+-- The high bit of a code is its sign. The proof tests all sixteen codes.
 abbrev signRule : ℕ → Bool
 signRule c = cond (isLetter c) (Bool·beq (isPositive c) (eqb (c / 8) 0) && Bool·beq (isInverse c) (eqb (c / 8) 1)) true
 
@@ -125,7 +125,7 @@ module _ (c : ℕ) (letter : isLetter c ≡ true) where
 -- the letters with a sign that swap just a and b are those counted at the two places of a and b
 module _ (a b : ℕ) (ha : a < 8) (hb : b < 8) (n : a ≡ b → ⊥) (f : ℕ → Bool) (s : ℕ)
     (sign : (c : ℕ) → isLetter c ≡ true → f c ≡ eqb (c / 8) s) where
-  -- one letter, at one of the two places at most
+  -- one letter is counted at no more than one of the two places
   one-place : (p q : ℕ) (d : Bool)
       → share (both a b p q) d ≡ tick (d && (eqb p a && eqb q b)) + tick (d && (eqb p b && eqb q a))
   one-place p q d = go d (eqb p a) refl (eqb p b) refl (eqb q b) (eqb q a)
@@ -171,14 +171,14 @@ module _ (a b : ℕ) (ha : a < 8) (hb : b < 8) (n : a ≡ b → ⊥) (f : ℕ �
 
 -- ---- the whole walk
 
--- what is counted before any letter, and once all are
+-- the table before any letter, and after all letters
 pub none-counted : (w : List ℕ) (k : ℕ)
     → getD (replicate 128 0) k 0 + count k (slots inOrder w) ≡ count k (slots inOrder w)
 unfolding every
 none-counted w k =
     omega (arith, eqb-true (getD (replicate 128 0) k 0) 0 (every-all (λ x. eqb x 0) refl (replicate 128 0) refl k))
 
--- as many places as letters
+-- a word has as many places in the table as letters
 length-slots : (labels w : List ℕ) → length (slots labels w) ≡ length w
 unfolding slots
 length-slots labels [] = refl

@@ -1,5 +1,5 @@
--- Laws of the questions of crossings: the word's come first, and 27 after them; and what is given on each answer, of
--- two labels and of all pairs.
+-- Laws of the questions of crossings: the word's questions come first, and 27 after them. Then what the operations give
+-- on each answer, for two labels and for all pairs.
 use Prim.Native.Nat.{ℕ, _<_}
 use mathlib.Core.Path.{_≡_, sym, _∙_}
 use mathlib.Core.Bool.{Bool, true, false, not, _&&_}
@@ -24,7 +24,7 @@ module _ (word : List ℕ) (a b : ℕ) where
   unfolding wordAnswer
   word-before-27 h = refused-there (wordQuestions word) ((twoLabels a b else 27) ∷ []) tt h
 
-  -- of an accepted word the labels alone decide
+  -- for an accepted word the labels alone decide
   pub past-word : wordAnswer word ≡ 0 → firstNo (crossingQuestions word a b) ≡ firstNo ((twoLabels a b else 27) ∷ [])
   unfolding wordAnswer
   past-word e = all-passed (wordQuestions word) ((twoLabels a b else 27) ∷ []) tt e
@@ -47,7 +47,7 @@ module _ (word : List ℕ) (a b : ℕ) where
       → Crosses word a b 0 number
   answered e v = record { answer-is = sym e; number-is = v ∙ sym (granted-zero (crossings a b (codes word)) (pos 0) e) }
 
--- of all pairs
+-- the operation that gives the numbers of all pairs
 module _ (word : List ℕ) where
   pub all-refused : {answer : ℕ} {numbers : List ℤ} → answer ≡ wordAnswer word → (answer ≡ 0 → ⊥)
       → numbers ≡ replicate 28 (pos 0)
@@ -66,7 +66,7 @@ module _ (word : List ℕ) where
         numbers-are = v ∙ sym (granted-zero (allCrossings (codes word)) (replicate 28 (pos 0)) e);
       }
 
--- what the test tells
+-- two labels that pass question 27 are below 8, and different
 module _ (a b : ℕ) (t : twoLabels a b ≡ true) where
   below : ltb a 8 && ltb b 8 ≡ true
   below = and-left _ (not (eqb a b)) t

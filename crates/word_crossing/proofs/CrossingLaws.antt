@@ -1,5 +1,5 @@
--- Laws of crossings: a word in two parts, one letter more, the two labels the other way round, from any list and of any
--- two numbers; and how large the number of an accepted word is.
+-- Laws of crossings, from any list and for any two numbers as labels: a word in two parts, one letter more, the two
+-- labels the other way round. Then: how large the number of an accepted word is.
 use Prim.Native.Nat.{ℕ, suc, _+_, _≤_}
 use mathlib.Core.Path.{_≡_, refl, ap, ap₂, _∙_}
 use mathlib.Core.Bool.{Bool, true, false, cond, _&&_, _||_, and-comm, or-comm}
@@ -36,7 +36,7 @@ swapping-exchanged a b (c ∷ w) labels =
     (both-exchanged a b (getD labels (generator c) 0) (getD labels (generator c + 1) 0))
     (swapping-exchanged a b w (swapped (generator c) labels))
 
--- symmetric in the two labels
+-- the number is symmetric in the two labels
 pub crossings-symmetric : (labels : List ℕ) (a b : ℕ) (w : List ℕ)
     → crossingsFrom labels b a w ≡ crossingsFrom labels a b w
 unfolding crossingsFrom
@@ -55,7 +55,7 @@ module _ (a b : ℕ) where
       go true s u e = ap (λ (l : List ℕ). c ∷ l) e
       go false s u e = e
 
-  -- its numbers add up, the second part's from the list that the first leaves
+  -- the number of the word is the sum of its parts' numbers, the second from the list that the first part leaves
   pub crossings-append : (labels v w : List ℕ)
       → crossingsFrom labels a b (v ++ w) ≡ crossingsFrom labels a b v +ℤ crossingsFrom (listAfter labels v) a b w
   unfolding crossingsFrom
@@ -65,7 +65,7 @@ module _ (a b : ℕ) where
 
 -- ---- one letter more
 
--- what a letter adds to a count: 1 where it is counted and passes a test
+-- what a letter adds to a count: 1 if it is counted and passes a test
 abbrev pub share : Bool → Bool → ℕ
 share t passed = cond t (cond passed 1 0) 0
 

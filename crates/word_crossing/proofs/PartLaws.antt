@@ -1,6 +1,6 @@
--- Parts of a word that cross every two labels alike, from any list: a letter and its inverse and nothing, two far
--- letters in either order, j k j and k j k. No more is asked of the list than that it has eight places: labels may be
--- any numbers, and may occur more than once.
+-- Parts of a word in which every two labels cross equally often, from any list of eight labels: a letter with its
+-- inverse and the empty word; two far letters in either order; j k j and k j k. The labels may be any numbers, and may
+-- occur more than once.
 use Prim.Native.Nat.{ℕ, _+_, _≤_, _<_}
 use mathlib.Core.Path.{_≡_, refl, sym, ap, ap₂, _∙_}
 use mathlib.Core.Bool.{Bool, true, false, cond}
@@ -29,7 +29,7 @@ abbrev sign : ℕ → ℤ
 sign c = exponentSum (c ∷ [])
 
 module _ (a b : ℕ) where
-  -- what a letter of sign s adds that finds the labels p and q
+  -- what a letter of sign s adds if it finds the labels p and q
   abbrev adds : ℤ → ℕ → ℕ → ℤ
   adds s p q = cond (both a b p q) s (pos 0)
 
@@ -71,7 +71,7 @@ module _ (a b : ℕ) where
         go true = opposite c e
         go false = refl
 
-    -- ---- far letters find what they found
+    -- ---- far letters find the same labels in either order
 
     stays : (c d k : ℕ) → Apart c d → generator d ≤ k → k ≤ generator d + 1
         → getD (swapped (generator c) labels) k 0 ≡ getD labels k 0
@@ -89,7 +89,7 @@ module _ (a b : ℕ) where
         (stays c d (generator d + 1) f (omega arith) (omega arith))
         ∙ sym (last labels d (generator d) refl))
 
-    -- ---- three letters of two neighbours: the labels p q r come to stand r q p, and each two of them meet once
+    -- ---- three letters of two neighbours: the labels p q r become r q p, and every two of them cross once
 
     module _ (j k : ℕ) (n : generator j + 1 ≡ generator k) (h : generator j + 1 + 1 < length labels) where
       abbrev g : ℕ

@@ -1,4 +1,4 @@
--- The difference of two numbers: how large it is, and of two up to 20,000 as a signed number of 32 bits.
+-- The difference of two numbers: how large it is, and that the difference of numbers up to 20,000 fits 32 bits.
 use Prim.Native.Nat.{ℕ, zero, suc, _-_, _≤_, _<_, _^_}
 use mathlib.Core.Path.{_≡_, ap₂, _∙_}
 use mathlib.Core.Bool.{Bool, true, false, cond}

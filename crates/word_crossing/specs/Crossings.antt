@@ -1,5 +1,5 @@
--- How often two strands cross (document 02, §2): the signed number of a word's letters that swap just two labels, and
--- the 28 pairs of labels. Places count from 0 here.
+-- How often two strands cross (document 02, §2): the signed number of the letters of a word that swap just these two
+-- labels. Then the 28 pairs of labels. Places count from 0 here.
 use Prim.Native.Nat.{ℕ, zero, suc, _+_}
 use mathlib.Core.Path.{_≡_}
 use mathlib.Core.Bool.{Bool, cond, not, _&&_, _||_}
@@ -22,17 +22,18 @@ both a b p q = (eqb p a && eqb q b) || (eqb p b && eqb q a)
 unfoldable pub swaps : ℕ → ℕ → List ℕ → ℕ → Bool
 swaps a b labels c = both a b (getD labels (generator c) 0) (getD labels (generator c + 1) 0)
 
--- the letters that swap just a and b: a word's letters one by one, each on the list that the last one left
+-- the letters of a word that swap just a and b. Each letter acts on the list that the letter before it left
 unfoldable pub swapping : ℕ → ℕ → List ℕ → List ℕ → List ℕ
 swapping a b labels [] = []
 swapping a b labels (c ∷ w) =
     let rest : List ℕ = swapping a b (swapped (generator c) labels) w in cond (swaps a b labels c) (c ∷ rest) rest
 
--- their signed number, from any list: plus 1 for a generator, minus 1 for an inverse
+-- the signed number of the letters that swap just a and b, from any list: plus 1 for a generator, minus 1 for an
+-- inverse
 unfoldable pub crossingsFrom : List ℕ → ℕ → ℕ → List ℕ → ℤ
 crossingsFrom labels a b w = exponentSum (swapping a b labels w)
 
--- from the starting list
+-- the signed number of these letters from the starting list
 unfoldable pub crossings : ℕ → ℕ → List ℕ → ℤ
 crossings a b w = crossingsFrom inOrder a b w
 
@@ -45,7 +46,7 @@ pub record Crosses (word : List ℕ) (a b answer : ℕ) (number : ℤ) : Type 0 
   pub answer-is : answer ≡ firstNo (crossingQuestions word a b)
   pub number-is : number ≡ granted (firstNo (crossingQuestions word a b)) (crossings a b (codes word)) (pos 0)
 
--- a label with each of n labels from b on
+-- the pairs of label a with each of the n labels from b on
 unfoldable pub withEach : ℕ → ℕ → ℕ → List Two
 withEach a b zero = []
 withEach a b (suc n) = record { smaller = a; larger = b } ∷ withEach a (suc b) n
@@ -59,11 +60,7 @@ pairsFrom a (suc n) = withEach a (suc a) n ++ pairsFrom (suc a) n
 abbrev pub allPairs : List Two
 allPairs = pairsFrom 0 8
 
--- pair k of them; past the last, no labels
-abbrev pub pairAt : ℕ → Two
-pairAt k = getD allPairs k (record { smaller = 0; larger = 0 })
-
--- how often the labels of each of them cross
+-- how often the labels of each pair cross
 unfoldable pub allCrossings : List ℕ → List ℤ
 allCrossings w = map (λ p. crossings (p .smaller) (p .larger) w) allPairs
 
@@ -72,7 +69,7 @@ pub record CrossesAll (word : List ℕ) (answer : ℕ) (numbers : List ℤ) : Ty
   pub answer-is : answer ≡ wordAnswer word
   pub numbers-are : numbers ≡ granted (wordAnswer word) (allCrossings (codes word)) (replicate 28 (pos 0))
 
--- the numbers of some pairs together
+-- the sum of the numbers of some pairs
 unfoldable pub together : (Two → ℤ) → List Two → ℤ
 together f [] = pos 0
 together f (p ∷ ps) = f p +ℤ together f ps

@@ -4,9 +4,10 @@ ghost use mathlib.Core.Bool.{not, _&&_};
 ghost use lib.Dec.{ltb, eqb};
 ghost use lib.IntN.{pos};
 ghost use lib.ListN.{replicate};
-ghost use Rattle.word_crossing.specs.Crossings.{pairAt, Crosses, CrossesAll};
+ghost use Rattle.word_crossing.specs.Crossings.{Crosses, CrossesAll};
+ghost use Rattle.word_crossing.specs.steps.Pairs.{pairAt};
 
-mod walk; // walk.rt: all pairs counted in one walk
+mod walk; // walk.rt: counts all pairs in one walk
 
 // The number of the first question answered no, 0 if there is none; and how often the two labels cross, 0 on a refusal.
 #[repr(C)]
@@ -17,7 +18,7 @@ pub struct Crossing {
 
 impl Crossing {
     // A refusal: its number, and 0.
-    fn refusal(answer: u8) -> Crossing
+    fn refused(answer: u8) -> Crossing
         ensures { λ r. ⌜ (r .answer ≡ answer) × (r .crossings ≡ pos 0) ⌝ }
     {
         Crossing {
@@ -35,7 +36,7 @@ pub struct AllCrossings {
 
 impl AllCrossings {
     // A refusal: its number, and zeros.
-    fn refusal(answer: u8) -> AllCrossings
+    fn refused(answer: u8) -> AllCrossings
         ensures { λ r. ⌜ (r .answer ≡ answer) × (r .numbers ≡ replicate 28 (pos 0)) ⌝ }
     {
         AllCrossings {
@@ -51,8 +52,8 @@ pub struct Two {
     pub larger: u8,
 }
 
-// The labels of pair k of all, in increasing order of the pairs; zeros past the last. The low half of the byte that
-// shows a digit is that digit.
+// The labels of pair k, counted from 0, in increasing order of the pairs; past the last pair, zeros. The low half of
+// the byte that shows a digit is that digit.
 pub fn pair_at(k: usize) -> Two
     ensures { λ r. ⌜ r ≡ pairAt k ⌝ }
 {
@@ -84,13 +85,12 @@ pub fn crossings(word: &[u8], a: u8, b: u8) -> Crossing
     let w = word::read_word(word);
     let refused = w.answer;
     if refused != 0 {
-        return Crossing::refusal(refused);
+        return Crossing::refused(refused);
     }
     if !two_labels(a, b) {
-        return Crossing::refusal(27);
+        return Crossing::refused(27);
     }
-    let n = w.letters;
-    let counts = walk::counted(word, n);
+    let counts = walk::counted(word);
     let number = walk::number(&counts, a, b);
     Crossing {
         answer: 0,
@@ -105,9 +105,8 @@ pub fn all_crossings(word: &[u8]) -> AllCrossings
     let w = word::read_word(word);
     let refused = w.answer;
     if refused != 0 {
-        return AllCrossings::refusal(refused);
+        return AllCrossings::refused(refused);
     }
-    let n = w.letters;
-    let numbers = walk::numbers(word, n);
+    let numbers = walk::numbers(word);
     AllCrossings { answer: 0, numbers }
 }

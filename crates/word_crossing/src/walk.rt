@@ -1,5 +1,5 @@
-// All pairs of labels counted in one walk over a word. The table has a place for each sign and each two labels in
-// order, so that a letter adds 1 at one place, with nothing to decide.
+// Counts all pairs of labels in one walk over a word. The table has a counter for each sign and each two labels in
+// order. Each letter increments exactly one counter, with no branch.
 use crate::pair_at;
 ghost use Prim.Native.Nat.{_+_, _≤_, _<_};
 ghost use mathlib.Core.Path.{_≡_};
@@ -9,7 +9,7 @@ ghost use lib.ListN.{length};
 ghost use Rattle.base.specs.Lists.{every};
 ghost use Rattle.word.specs.Letters.{isLetter};
 ghost use Rattle.word.specs.Strands.{inOrder};
-ghost use Rattle.word.specs.Words.{codes, letters, wordAnswer};
+ghost use Rattle.word.specs.Words.{codes, wordAnswer};
 ghost use Rattle.word_crossing.specs.steps.Counting.{slot, OneCounted, Labelled, Table, Counts, found};
 ghost use Rattle.word_crossing.specs.Crossings.{allCrossings};
 
@@ -21,7 +21,7 @@ fn slot(sign: u8, p: u8, q: u8) -> usize
     (sign as usize) * 64 + (p as usize) * 8 + (q as usize)
 }
 
-// One letter: it is counted by its sign and the labels that it finds, and these change places.
+// Counts one letter by its sign and the two labels that it finds. The two labels then change places.
 fn letter(labels: &mut [u8; 8], counts: &mut [u32; 128], code: u8)
     requires { ⌜ Labelled (now labels) × Table (now counts) × (isLetter code ≡ true) ⌝ }
     ensures { λ _.
@@ -38,7 +38,7 @@ fn letter(labels: &mut [u8; 8], counts: &mut [u32; 128], code: u8)
     labels[at + 1] = own;
 }
 
-// The letters of a row, first to last, from the starting list on.
+// Counts the letters of a row, first to last, from the starting list on.
 fn walk(codes: &[u8]) -> [u32; 128]
     requires { ⌜ (length (now codes) ≤ 10000) × (every isLetter (now codes) ≡ true) ⌝ }
     ensures { λ r. ⌜ Counts inOrder (now (codes .entry)) r ⌝ }
@@ -54,11 +54,12 @@ fn walk(codes: &[u8]) -> [u32; 128]
     counts
 }
 
-// The table of an accepted word of n letters.
-pub(crate) fn counted(word: &[u8], n: usize) -> [u32; 128]
-    requires { ⌜ (wordAnswer (now word) ≡ 0) × (n ≡ length (letters (now word))) ⌝ }
+// The table of an accepted word.
+pub(crate) fn counted(word: &[u8]) -> [u32; 128]
+    requires { ⌜ wordAnswer (now word) ≡ 0 ⌝ }
     ensures { λ r. ⌜ Counts inOrder (codes (now (word .entry))) r ⌝ }
 {
+    let n = word::stated(word);
     let mut row = [0u8; word::MAX_LETTERS];
     word::unpack(&word[2..], &mut row);
     walk(&row[..n])
@@ -74,8 +75,7 @@ fn less(a: u32, b: u32) -> i32
     x - y
 }
 
-// Generators less inverses that swap two labels: the letters that find the first before the second, and those that find
-// them the other way round.
+// The generators that swap two labels less the inverses that do. A letter finds the labels either way round.
 pub(crate) fn number(counts: &[u32; 128], a: u8, b: u8) -> i32
     requires { ⌜ Table (now counts) × (a < 8) × (b < 8) ⌝ }
     ensures { λ r. ⌜ r ≡ found (now (counts .entry)) a b ⌝ }
@@ -85,12 +85,12 @@ pub(crate) fn number(counts: &[u32; 128], a: u8, b: u8) -> i32
     less(generators, inverses)
 }
 
-// The numbers of all pairs of an accepted word of n letters.
-pub(crate) fn numbers(word: &[u8], n: usize) -> [i32; 28]
-    requires { ⌜ (wordAnswer (now word) ≡ 0) × (n ≡ length (letters (now word))) ⌝ }
+// The numbers of all pairs of an accepted word.
+pub(crate) fn numbers(word: &[u8]) -> [i32; 28]
+    requires { ⌜ wordAnswer (now word) ≡ 0 ⌝ }
     ensures { λ r. ⌜ r ≡ allCrossings (codes (now (word .entry))) ⌝ }
 {
-    let counts = counted(word, n);
+    let counts = counted(word);
     let mut numbers = [0i32; 28];
     let mut k = 0;
     while k < 28 {

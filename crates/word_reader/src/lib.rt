@@ -2,24 +2,16 @@
 // plain slice and a number do the work. The functions over the reader only take it apart, call one of the plain
 // functions, and put a reader together again.
 use word::Letter;
-ghost use Prim.Native.Nat.{_≤_, _<_};
+ghost use Prim.Native.Nat.{_<_};
 ghost use mathlib.Core.Path.{_≡_};
 ghost use lib.ListN.{length};
-ghost use Rattle.word.specs.Words.{stated, codes, LetterAt};
+ghost use Rattle.word.specs.Words.{codes, LetterAt};
 ghost use Rattle.word_reader.specs.Reader.{opened, readAt, nextPlace};
 
 // `file` is an accepted word file, or the empty part of a refused one, which has no letters.
 pub struct WordReader<'a> {
     pub(crate) file: &'a [u8],
     pub(crate) at: usize,
-}
-
-// The number of letters that a file states in its first two bytes.
-fn number(file: &[u8]) -> usize
-    requires { ⌜ 2 ≤ length (now file) ⌝ }
-    ensures { λ r. ⌜ (r ≡ stated (now (file .entry))) × (r < 65536) ⌝ }
-{
-    base::two_bytes(file, 0)
 }
 
 // The number of codes of a file: as many as it states, or all its half bytes if there are fewer.
@@ -29,7 +21,7 @@ fn count(file: &[u8]) -> usize
     if file.len() < 2 {
         return 0;
     }
-    let n = number(file);
+    let n = word::stated(file);
     let bytes = file.len() - 2;
     if bytes < (n + 1) / 2 {
         return 2 * bytes;

@@ -20,10 +20,14 @@ half-of-parts {digest = digest} {k = k} {answer = answer} {half = half} e f m =
 
 returns : tie.Need-returns
 returns c =
-    let d = c .before in
+    let b = c .before in
+    let d = b .before in
     let k = d .before .before in
     let a = k .before .before .args in (
-      half-of-parts (k .part .ensures) (d .part2 .ensures) (c .first-half .ensures),
+      record {
+        both-read = b .both .ensures;
+        half-is = half-of-parts (k .part .ensures) (d .part2 .ensures) (c .first-half .ensures);
+      },
       enough-of-files (length (a .key .now)) (length (a .digest .now)) 5003
           (omega (arith, k .before .part-arg .given .0))
           (omega (arith, d .before .part-arg2 .given .0)) (omega arith),
@@ -32,4 +36,4 @@ returns c =
 pub first-half-spec : {M : Type 1} → statement M
 first-half-spec =
     tie.close
-    (tie.spec (λ c κs. search needs) (λ c κs. search needs) (λ c κs. search needs) returns)
+    (tie.spec (λ c κs. search needs) (λ c κs. search needs) (λ c κs. search needs) (λ c κs. search needs) returns)

@@ -5,6 +5,7 @@ use mathlib.Core.Path.{_≡_, ap, _∙_}
 use mathlib.Core.Bool.{true, false, not}
 use mathlib.Core.List.{List, [], _∷_}
 use native.Mathlib.Omega.{arith}
+use borrow.Author.Needs.{needs}
 use borrow.Author.Tests.{eq-eqb, ne-eqb, lt-ltb, le-ltb}
 use lib.Dec.{eqb}
 use lib.ListN.{length}
@@ -31,19 +32,23 @@ within f table a e h = let size = reciprocals-size (bits f) (modulus f) table e 
 
 returns : tie.Need-returns
 returns c =
-    let s = c .before .before in
+    let t = c .before in
+    let s = t .before .before in
     let x = s .args in
-    refused (reciprocalQuestions (x .f) (x .a)) 16
-    (fails 17 ((not (eqb (x .a) 0) else 4) ∷ []) (past (x .f) (x .table .now) (x .a) (s .pre) (c .if1 .taken)))
+    rw (c .refused .ensures .0, c .refused .ensures .1)
+    (refused (reciprocalQuestions (x .f) (x .a)) 16
+    (fails 17 ((not (eqb (x .a) 0) else 4) ∷ []) (past (x .f) (x .table .now) (x .a) (s .pre) (t .if1 .taken))))
 
 returns-2 : tie.Need-returns-2
 returns-2 c =
-    let first = c .before in
+    let t = c .before in
+    let first = t .before in
     let s = first .before .before in
     let x = s .args in
-    refused (reciprocalQuestions (x .f) (x .a)) 3
+    rw (c .refused2 .ensures .0, c .refused2 .ensures .1)
+    (refused (reciprocalQuestions (x .f) (x .a)) 3
     (passes 17 ((not (eqb (x .a) 0) else 4) ∷ []) (within (x .f) (x .table .now) (x .a) (s .pre) (first .if1 .left))
-    ∙ fails 4 [] (ap not (eq-eqb (x .a) 0 (c .if2 .taken))))
+    ∙ fails 4 [] (ap not (eq-eqb (x .a) 0 (t .if2 .taken)))))
 
 inverse-requires : tie.Need-inverse-requires
 inverse-requires c κs =
@@ -64,4 +69,6 @@ returns-3 c =
     (c .inverse .ensures ∙ inverse-at (degree (x .f)) (x .table .now) (s .pre) (x .a))
 
 pub reciprocal-by-spec : {M : Type 1} → statement M
-reciprocal-by-spec = tie.close (tie.spec returns returns-2 inverse-requires returns-3)
+reciprocal-by-spec =
+    tie.close
+    (tie.spec (λ c κs. search needs) returns (λ c κs. search needs) returns-2 inverse-requires returns-3)

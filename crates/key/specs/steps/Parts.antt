@@ -4,7 +4,7 @@ use mathlib.Core.Path.{_≡_}
 use mathlib.Core.List.{List}
 use lib.ListN.{length}
 use Rattle.base.specs.Packing.{Below}
-use Rattle.key.specs.Keys.{fileBytes}
+use Rattle.key.specs.steps.Places.{fileBytes}
 
 -- T-values and entries fit b bits, labels fit 3 bits
 pub record Parts (b : ℕ) (ts labels first second : List ℕ) : Type 0 where

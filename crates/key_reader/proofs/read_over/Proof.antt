@@ -11,7 +11,8 @@ use Rattle.base.proofs.QuestionLaws.{all-passed, refused-there, passes, fails}
 use Rattle.field.specs.Fields.{bits, keyBytes}
 use Rattle.field.specs.declared.Field.{Field}
 use Rattle.key.specs.declared.Key.{Key}
-use Rattle.key.specs.Keys.{keyField, fileBytes, entries, firstBytes, secondBytes, wholeMatrix, bothInvertible}
+use Rattle.key.specs.Keys.{keyField, entries, firstBytes, secondBytes, wholeMatrix, bothInvertible}
+use Rattle.key.specs.steps.Places.{fileBytes}
 use Rattle.key.specs.Keys.{partQuestions, keyQuestionsOver, keyAnswer, keyParts, keyOf}
 use Rattle.key.proofs.Widths.{told-narrow, told-bytes, eitherLength, length-passes}
 use Rattle.key.proofs.KeyFacts.{reads-refused, reads-accepted}

@@ -12,7 +12,8 @@ use Rattle.base.proofs.QuestionLaws.{passes, fails}
 use Rattle.field.specs.Fields.{keyBytes}
 use Rattle.pair_operands.specs.Operands.{elements}
 use Rattle.pair_operands.specs.steps.Fitting.{fit}
-use Rattle.key.specs.Keys.{fileBytes, wholeMatrix, bothInvertible, keyWriterQuestions}
+use Rattle.key.specs.Keys.{wholeMatrix, bothInvertible, keyWriterQuestions}
+use Rattle.key.specs.steps.Places.{fileBytes}
 use Rattle.key.proofs.Widths.{file-bytes, told-narrow}
 use Rattle.key_writer.proofs.answer.Statement.{statement}
 use Rattle.key_writer.proofs.answer.Tie as tie

@@ -11,7 +11,8 @@ use Rattle.base.specs.Digits.{digits}
 use Rattle.base.specs.Packing.{rowBytes, packedRow}
 use Rattle.base.proofs.RowLaws.{length-packed-row}
 use Rattle.base.proofs.FileLaws.{laid-next}
-use Rattle.key.specs.Keys.{keyPlace, keyFile}
+use Rattle.key.specs.Keys.{keyFile}
+use Rattle.key.specs.steps.Places.{keyPlace}
 use borrow.Author.Needs.{needs}
 use Rattle.key_writer.proofs.fill.Statement.{statement}
 use Rattle.key_writer.proofs.fill.Tie as tie

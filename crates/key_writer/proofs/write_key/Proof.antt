@@ -7,7 +7,8 @@ use lib.ListN.{length}
 use Rattle.base.specs.Lists.{overlaid}
 use Rattle.base.proofs.QuestionLaws.{granted-zero, granted-refused}
 use Rattle.field.specs.Fields.{bits}
-use Rattle.key.specs.Keys.{fileBytes, keyFile}
+use Rattle.key.specs.Keys.{keyFile}
+use Rattle.key.specs.steps.Places.{fileBytes}
 use Rattle.key.specs.steps.Parts.{Parts}
 use Rattle.key.proofs.Widths.{file-bytes, told-narrow}
 use Rattle.key.proofs.KeyFacts.{writable, parts}

@@ -5,12 +5,9 @@ use mathlib.Core.Path.{_≡_}
 use mathlib.Core.List.{List}
 use mathlib.Core.Logic.{_⊎_}
 use lib.ListN.{length, getD}
+use Rattle.base.specs.Packing.{Below}
 use Rattle.field.specs.Binary.{Operations}
 use Rattle.field.specs.Polynomial.{polynomials, Degree}
-
--- every number of the list is a byte
-abbrev pub Bytes : List ℕ → Type 0
-Bytes xs = (k : ℕ) → getD xs k 0 < 256
 
 -- from place `at` on, the list holds the products of t and x^i, for each bit i of an entry
 abbrev pub Multiples : Operations → ℕ → List ℕ → ℕ → ℕ → Type 0
@@ -18,7 +15,7 @@ Multiples F bits cs at t = (i : ℕ) → i < bits → getD cs (at + i) 0 ≡ F .
 
 -- from place 8 a on, the list holds the products of label a's T-value; from place 64 + 8 a on, those of its reciprocal
 pub record Constants (F : Operations) (bits : ℕ) (ts cs : List ℕ) : Type 0 where
-  pub bytes : Bytes cs
+  pub bytes : Below 256 cs
   pub of-value : (a : ℕ) → a < 8 → Multiples F bits cs (8 * a) (getD ts a 0)
   pub of-reciprocal : (a : ℕ) → a < 8 → Multiples F bits cs (64 + 8 * a) (F .inv (getD ts a 0))
 
@@ -32,7 +29,7 @@ OverFields bits cs P =
 -- unchanged
 pub record Filled (F : Operations) (bits number at n : ℕ) (before after : List ℕ) : Type 0 where
   pub size : length after ≡ length before
-  pub bytes : Bytes after
+  pub bytes : Below 256 after
   pub there : Multiples F n after at number
   pub elsewhere : (k : ℕ) → (k < at) ⊎ (at + bits ≤ k) → getD after k 0 ≡ getD before k 0
 
@@ -41,7 +38,7 @@ pub record Filled (F : Operations) (bits number at n : ℕ) (before after : List
 -- the list is unchanged
 pub record AllFilled (F : Operations) (bits : ℕ) (numbers : List ℕ) (from n : ℕ) (before after : List ℕ) : Type 0 where
   pub size : length after ≡ 128
-  pub bytes : Bytes after
+  pub bytes : Below 256 after
   pub there : (a : ℕ) → a < n → Multiples F bits after (from + 8 * a) (getD numbers a 0)
   pub elsewhere : (k : ℕ) → (k < from) ⊎ (from + 64 ≤ k) → getD after k 0 ≡ getD before k 0
 

@@ -7,12 +7,13 @@ use mathlib.Core.List.{List}
 use mathlib.Core.Logic.{_⊎_}
 use lib.Bits.{bitXor}
 use lib.ListN.{length, take, getD}
+use Rattle.base.specs.Packing.{Below}
 use Rattle.base.specs.Lists.{values}
 use Rattle.base.specs.Digits.{halves}
 use Rattle.field.specs.Binary.{Operations}
 use Rattle.field.specs.Polynomial.{Degree, polynomials}
 use Rattle.matrix_columns.specs.steps.Lanes.{columnsMatrix}
-use Rattle.matrix_columns.specs.steps.Constants.{Bytes, Multiples, OverFields}
+use Rattle.matrix_columns.specs.steps.Constants.{Multiples, OverFields}
 use Rattle.word.specs.Strands.{swapped}
 use Rattle.pair.specs.declared.Pair.{Pair}
 use Rattle.pair.specs.Action.{Share, tValue, positiveShare, inverseShare, rowsOn, pairOf, wordOn}
@@ -33,7 +34,7 @@ valuesAt ts labels = values (tValue ts labels) 8
 -- What the loop needs: entries of at most 8 bits, constants of one byte each, nine columns, and eight labels below 8.
 pub record Held (bits : ℕ) (constants columns labels : List ℕ) : Type 0 where
   pub small : bits ≤ 8
-  pub bytes : Bytes constants
+  pub bytes : Below 256 constants
   pub nine : length columns ≡ 9
   pub eight : length labels ≡ 8
   pub below : (k : ℕ) → getD labels k 0 < 8

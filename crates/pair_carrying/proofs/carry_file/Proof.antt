@@ -25,7 +25,7 @@ file p = start p .args .file .now
 
 -- the number that the file states is its number of letters
 counted : (p : tie.After-part) → p .before .stated .result ≡ length (letters (file p))
-counted p = p .before .stated .ensures ∙ sym (count-stated (file p) (start p .pre) refl)
+counted p = p .before .stated .ensures .0 ∙ sym (count-stated (file p) (start p .pre) refl)
 
 stated-requires : tie.Need-stated-requires
 stated-requires c κs = accepted-word (c .before .args .file .now) (c .before .pre) .long

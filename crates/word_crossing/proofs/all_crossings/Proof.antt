@@ -9,9 +9,9 @@ use Rattle.word_crossing.proofs.all_crossings.Tie as tie
 returns : tie.Need-returns
 returns c =
     let r = c .before .before in
-    rw (c .refusal .ensures .0)
+    rw (c .refused .ensures .0)
     (all-refused (r .before .before .args .word .now) (r .read-word .ensures .answer-is) (c .before .if1 .taken)
-    (c .refusal .ensures .1))
+    (c .refused .ensures .1))
 
 returns-2 : tie.Need-returns-2
 returns-2 c =

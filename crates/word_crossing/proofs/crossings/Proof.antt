@@ -45,14 +45,14 @@ returns c =
     let s = r .before .before in
     let e = r .read-word .ensures .answer-is in
     let h = c .before .if1 .taken in
-    rw (c .refusal .ensures .0, c .refusal .ensures .1)
+    rw (c .refused .ensures .0, c .refused .ensures .1)
     (refused (word s) (a s) (b s) (word-before-27 (word s) (a s) (b s) (λ z. h (e ∙ z)) ∙ sym e) h)
 
 returns-2 : tie.Need-returns-2
 returns-2 c =
     let t = c .before .before in
     let s = at-1 (t .before) in
-    rw (c .refusal2 .ensures .0, c .refusal2 .ensures .1)
+    rw (c .refused2 .ensures .0, c .refused2 .ensures .1)
     (refused (word s) (a s) (b s)
     (labels-27 (word s) (a s) (b s) (word-passed (t .before))
     (sym (t .two-labels .ensures) ∙ not-true _ (c .before .if2 .taken)))

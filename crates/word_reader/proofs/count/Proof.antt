@@ -10,13 +10,13 @@ returns c = (omega (arith, count-is (c .before .before .args .file .now)), omega
 
 returns-2 : tie.Need-returns-2
 returns-2 c = (
-  omega (arith, count-is (c .before .before .before .before .args .file .now), c .before .number .ensures .0),
+  omega (arith, count-is (c .before .before .before .before .args .file .now), c .before .stated .ensures .0),
   omega arith,
 )
 
 returns-3 : tie.Need-returns-3
 returns-3 c = (
-  omega (arith, count-is (c .before .before .before .before .args .file .now), c .before .number .ensures .0),
+  omega (arith, count-is (c .before .before .before .before .args .file .now), c .before .stated .ensures .0),
   omega arith,
 )
 

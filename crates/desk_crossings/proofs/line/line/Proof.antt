@@ -8,7 +8,7 @@ use lib.ListN.{length, length-append}
 use mir.Syntax.{w32}
 use mir.Val.{toZ, ofZ}
 use Rattle.text.specs.Decimal.{decimal, signedText}
-use Rattle.word_crossing.specs.Crossings.{pairAt}
+use Rattle.word_crossing.specs.steps.Pairs.{pairAt}
 use Rattle.word_crossing.specs.declared.Two.{Two}
 use Rattle.desk_crossings.proofs.LineLaws.{smaller-short, larger-short, number-short, line-added, read-back}
 use Rattle.desk_crossings.proofs.line.line.Statement.{statement}
@@ -30,7 +30,7 @@ first-end : (c : tie.After-decimal) → c .decimal .result ≤ start (c .before)
 first-end c =
     omega (
       arith,
-      c .decimal .ensures .end-is,
+      c .decimal .ensures .ends,
       length-append (decimal (c .before .wide .result)) (32 ∷ []),
       smaller-fits (c .before),
     )
@@ -50,7 +50,7 @@ second-end : (c : tie.After-decimal2) → c .decimal2 .result ≤ start (one (c 
 second-end c =
     omega (
       arith,
-      c .decimal2 .ensures .end-is,
+      c .decimal2 .ensures .ends,
       length-append (decimal (c .before .wide2 .result)) (32 ∷ []),
       larger-fits (c .before),
       first-end (one (c .before)),

@@ -54,7 +54,7 @@ loop-again c =
     let here : l .k < 28 = omega arith in
     let line = rw (number-is n) at (d .line .ensures) in (
       omega arith,
-      omega (arith, line .end-is, line-short (l .k) here (number n) (small n)),
+      omega (arith, line .ends, line-short (l .k) here (number n) (small n)),
       d .line .kept .0 ∙ l .inv .2,
       rw (lines-more (s .args .numbers .now) (l .k) here (omega (arith, s .pre .size))) (told-more (l .inv .3) line),
     )

@@ -13,17 +13,21 @@ use Rattle.field.proofs.small.small_product.Tie as tie
 
 returns : tie.Need-returns
 returns c =
-    let x = c .before .args in
-    refused (productQuestions Gf32 (x .a) (x .b)) 16
-    (fails 17 ((isElement Gf32 (x .b) else 17) ∷ []) (le-ltb (x .a) 32 (c .if1 .taken)))
+    let t = c .before in
+    let x = t .before .args in
+    rw (c .refused .ensures .0, c .refused .ensures .1)
+    (refused (productQuestions Gf32 (x .a) (x .b)) 16
+    (fails 17 ((isElement Gf32 (x .b) else 17) ∷ []) (le-ltb (x .a) 32 (t .if1 .taken))))
 
 returns-2 : tie.Need-returns-2
 returns-2 c =
-    let first = c .before in
+    let t = c .before in
+    let first = t .before in
     let x = first .before .args in
-    refused (productQuestions Gf32 (x .a) (x .b)) 16
+    rw (c .refused2 .ensures .0, c .refused2 .ensures .1)
+    (refused (productQuestions Gf32 (x .a) (x .b)) 16
     (passes 17 ((isElement Gf32 (x .b) else 17) ∷ []) (lt-ltb (x .a) 32 (first .if1 .left))
-    ∙ fails 17 [] (le-ltb (x .b) 32 (c .if2 .taken)))
+    ∙ fails 17 [] (le-ltb (x .b) 32 (t .if2 .taken))))
 
 returns-3 : tie.Need-returns-3
 returns-3 c =
@@ -36,4 +40,6 @@ returns-3 c =
     (c .product .ensures)
 
 pub small-product-spec : {M : Type 1} → statement M
-small-product-spec = tie.close (tie.spec returns returns-2 (λ c κs. search needs) returns-3)
+small-product-spec =
+    tie.close
+    (tie.spec (λ c κs. search needs) returns (λ c κs. search needs) returns-2 (λ c κs. search needs) returns-3)

@@ -46,14 +46,16 @@ returns-2 c =
 
 returns-3 : tie.Need-returns-3
 returns-3 c =
-    let i = c .before .before in
+    let q = c .before in
+    let i = q .before .before in
     let h = i .if2 .taken in
     let e = i .before in
     let s = at-1 e in
     let a = s .args in
-    unknown-21 (a .kind) (a .place) (s .pre .0) (e .if1 .left) (high h (lit< tt)) (high h (lit< tt))
-    (ap (λ (l : Bool). leb 16 (a .kind) && l) (sym (c .before .is-letter .ensures) ∙ c .if3 .left)
-    ∙ and-false (leb 16 (a .kind)))
+    rw (c .refused .ensures .0, c .refused .ensures .1)
+    (unknown-21 (a .kind) (a .place) (s .pre .0) (e .if1 .left) (high h (lit< tt)) (high h (lit< tt))
+    (ap (λ (l : Bool). leb 16 (a .kind) && l) (sym (q .before .is-letter .ensures) ∙ q .if3 .left)
+    ∙ and-false (leb 16 (a .kind))))
 
 returns-4 : tie.Need-returns-4
 returns-4 c =
@@ -71,16 +73,19 @@ returns-5 c =
 
 returns-6 : tie.Need-returns-6
 returns-6 c =
-    let f = c .before in
+    let q = c .before in
+    let f = q .before in
     let l = f .before in
     let s = at-1 (l .before) in
     let a = s .args in
-    unknown-21 (a .kind) (a .place) (s .pre .0) (l .before .if1 .left) (f .if4 .left) (c .if5 .left)
-    (low (a .kind) (l .if2 .left))
+    rw (c .refused2 .ensures .0, c .refused2 .ensures .1)
+    (unknown-21 (a .kind) (a .place) (s .pre .0) (l .before .if1 .left) (f .if4 .left) (q .if5 .left)
+    (low (a .kind) (l .if2 .left)))
 
 pub one-move-spec : {M : Type 1} → statement M
 one-move-spec =
     tie.close
     (tie.spec (λ c κs. search needs) (λ c. search needs) returns (λ c κs. search needs) (λ c κs. search needs)
-    (λ c. search needs) returns-2 returns-3
-    (λ c κs. search needs) (λ c. search needs) returns-4 (λ c κs. search needs) (λ c. search needs) returns-5 returns-6)
+    (λ c. search needs) returns-2 (λ c κs. search needs) returns-3
+    (λ c κs. search needs) (λ c. search needs) returns-4 (λ c κs. search needs) (λ c. search needs) returns-5
+    (λ c κs. search needs) returns-6)

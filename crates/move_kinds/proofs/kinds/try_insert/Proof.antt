@@ -15,16 +15,20 @@ at-1 c = c .before .before
 
 returns : tie.Need-returns
 returns c =
-    let s = c .before .before in
-    refused-22 (s .pre .0) (insertion (s .args .c) (s .args .place)) (s .args .place) refl (c .if1 .taken)
+    let t = c .before in
+    let s = t .before .before in
+    rw (c .refused .ensures .0, c .refused .ensures .1)
+    (refused-22 (s .pre .0) (insertion (s .args .c) (s .args .place)) (s .args .place) refl (t .if1 .taken))
 
 returns-2 : tie.Need-returns-2
 returns-2 c =
-    let t = c .before in
+    let q = c .before in
+    let t = q .before in
     let s = at-1 t in
     let a = s .args in
-    refused-then (s .pre .0) (insertion (a .c) (a .place)) (a .place) refl (omega arith) (t .if1 .left)
-    (no-room-for (s .pre .0) (c .if2 .taken))
+    rw (c .refused2 .ensures .0, c .refused2 .ensures .1)
+    (refused-then (s .pre .0) (insertion (a .c) (a .place)) (a .place) refl (omega arith) (t .if1 .left)
+    (no-room-for (s .pre .0) (q .if2 .taken)))
 
 returns-3 : tie.Need-returns-3
 returns-3 c =
@@ -41,5 +45,6 @@ returns-3 c =
 pub try-insert-spec : {M : Type 1} → statement M
 try-insert-spec =
     tie.close
-    (tie.spec returns (λ c. search needs) returns-2 (λ c κs. search needs) (λ c κs. search needs) (λ c. search needs)
+    (tie.spec (λ c κs. search needs) returns (λ c. search needs) (λ c κs. search needs) returns-2
+    (λ c κs. search needs) (λ c κs. search needs) (λ c. search needs)
     (λ c. search needs) returns-3)

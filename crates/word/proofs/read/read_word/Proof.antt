@@ -21,7 +21,7 @@ returns-2 : tie.Need-returns-2
 returns-2 c =
     read-accepted (c .before .before .before .before .args .file .now)
     (sym (c .before .before .word-answer .ensures) ∙ c .before .if1 .left) _
-    (c .stated .ensures)
+    (c .stated .ensures .0)
 
 pub read-word-spec : {M : Type 1} → statement M
 read-word-spec = tie.close (tie.spec (λ c κs. search needs) (λ c κs. search needs) returns stated-requires returns-2)

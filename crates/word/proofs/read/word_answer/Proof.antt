@@ -49,14 +49,14 @@ lettered : (c : tie.After-all-letters) (b : Bool) → c .all-letters .result ≡
     → every isLetter (codes (file (at-3 (at-lettered c)))) ≡ b
 lettered c b e =
     let n = at-lettered c .before .before .stated in
-    ap (every isLetter) (sym (codes-there (file (at-3 (at-lettered c))) (n .ensures))) ∙ sym (c .all-letters .ensures)
-    ∙ e
+    ap (every isLetter) (sym (codes-there (file (at-3 (at-lettered c))) (n .ensures .0)))
+    ∙ sym (c .all-letters .ensures) ∙ e
 
 filled : (c : tie.After-is-filled) (b : Bool) → c .is-filled .result ≡ b
     → every (λ h. eqb h 0) (filler (file (at-4 (at-filled c)))) ≡ b
 filled c b e =
     let n = at-lettered (at-filled c .before) .before .before .stated in
-    ap (every (λ h. eqb h 0)) (sym (filler-there (file (at-4 (at-filled c))) (n .ensures)))
+    ap (every (λ h. eqb h 0)) (sym (filler-there (file (at-4 (at-filled c))) (n .ensures .0)))
     ∙ sym (c .is-filled .ensures) ∙ e
 
 past-1 : (c : tie.Else1) → wordAnswer (file (at-1 c)) ≡ firstNo (rest 1 (at-1 c))
@@ -91,7 +91,7 @@ returns-3 c =
     let n = c .before .before .stated in
     sym (past-2 (c .before)
     ∙ fails 11 (rest 3 s)
-    (ne-eqb (length (file s)) (needed (stated (file s))) (λ e. c .if3 .taken (rw (n .ensures) e))))
+    (ne-eqb (length (file s)) (needed (stated (file s))) (λ e. c .if3 .taken (rw (n .ensures .0) e))))
 
 returns-4 : tie.Need-returns-4
 returns-4 c =

@@ -9,7 +9,8 @@ use mir.Syntax.{w32}
 use mir.Facts.{toZ-ofZ}
 use Rattle.word.specs.Words.{codes}
 use Rattle.word.proofs.ReadLaws.{accepted-word}
-use Rattle.word_crossing.specs.Crossings.{Two, pairAt, crossings}
+use Rattle.word_crossing.specs.Crossings.{Two, crossings}
+use Rattle.word_crossing.specs.steps.Pairs.{pairAt}
 use Rattle.word_crossing.specs.steps.Counting.{found}
 use Rattle.word_crossing.proofs.PairLaws.{in-order, larger-below, number-more, all-numbers}
 use Rattle.word_crossing.proofs.CountLaws.{number-is}
@@ -17,12 +18,12 @@ use Rattle.word_crossing.proofs.walk.numbers.Statement.{statement}
 use Rattle.word_crossing.proofs.walk.numbers.Tie as tie
 
 abbrev Inv-loop : tie.InvT-loop
-Inv-loop word n counts numbers₀ k₀ numbers k =
+Inv-loop word counts numbers₀ k₀ numbers k =
     (length numbers ≡ 28)
     × ((j : ℕ) → j < k → getD numbers j (pos 0) ≡ crossings (pairAt j .smaller) (pairAt j .larger) (codes word))
 
 abbrev μ-loop : tie.MeasureT-loop
-μ-loop word n counts numbers₀ k₀ numbers k = 28 - k
+μ-loop word counts numbers₀ k₀ numbers k = 28 - k
 
 number-requires : tie.Need-number-requires Inv-loop μ-loop
 number-requires c κs =
@@ -51,7 +52,7 @@ loop-again c =
     ∙ ap (λ (t : Two). found (d .counted .result) (t .smaller) (t .larger)) two
     ∙ number-is (pairAt k .smaller) (pairAt k .larger) (omega (arith, in-order k here, larger-below k here))
     (larger-below k here)
-    (λ e. omega (arith, in-order k here)) (accepted-word word (s .pre .0) .lettered) (d .counted .ensures) in (
+    (λ e. omega (arith, in-order k here)) (accepted-word word (s .pre) .lettered) (d .counted .ensures) in (
       simp length-set (l .inv .0),
       number-more (codes word) (l .numbers) k _ (omega arith) (l .inv .1) number,
     )
