@@ -411,11 +411,12 @@ unsigned plain_cloaks(const uint8_t *file, size_t kn, const uint8_t *labels, siz
     return memcmp(&before, &after, sizeof before) == 0;
 }
 
-/* One letter on a lent pair, its matrix row by row and then its labels, with the multiplier's questions over the
-   smaller field. */
+/* One letter on a lent pair, its matrix row by row, then its labels and their positions, with the multiplier's
+   questions over the smaller field. */
 uint8_t plain_multiply(uint8_t *lent, const uint8_t *t_values, uint8_t letter)
 {
     pair *p = (pair *)lent;
+    uint8_t *positions = lent + 72;
     rows r;
     for (int i = 0; i < 8; i++)
         if (t_values[i] > 31)
@@ -425,12 +426,15 @@ uint8_t plain_multiply(uint8_t *lent, const uint8_t *t_values, uint8_t letter)
             return 17;
     if (memchr(t_values, 0, 8))
         return 4;
-    if (!is_order(p->labels))
-        return 6;
+    for (int i = 0; i < 8; i++)
+        if (p->labels[i] > 7 || positions[p->labels[i]] != i + 1)
+            return 6;
     if (letter > 15 || (letter & 7) == 7)
         return 12;
     rows_of(&small, t_values, &r);
     letter_on(p, &r, letter);
+    positions[p->labels[letter & 7]] = (letter & 7) + 1;
+    positions[p->labels[(letter & 7) + 1]] = (letter & 7) + 2;
     return 0;
 }
 

@@ -71,7 +71,7 @@ extern "C" {
 
 /* The version of this header and of its library. The first number is also the number after libwalnut.so. */
 #define WALNUT_VERSION_MAJOR 0
-#define WALNUT_VERSION_MINOR 2
+#define WALNUT_VERSION_MINOR 3
 #define WALNUT_VERSION_PATCH 0
 
 /* Marks a function whose result must be used. A compiler that knows the mark warns if a caller drops the result. */
@@ -126,7 +126,7 @@ static inline const char *walnut_text(uint8_t answer)
     case 3: return "the key names the wrong field: 83 bytes need q = 32, 128 bytes need q = 256";
     case 4: return "a T-value is zero, or the reciprocal of zero was asked for";
     case 5: return "the first two T-values are not both 1";
-    case 6: return "the list of labels is not 0 to 7, each once";
+    case 6: return "the list of labels is not 0 to 7, each once, or a pair's positions do not match its list";
     case 7: return "the key's filler bits are not all zero";
     case 8: return "the digest has the wrong length: an 83-byte key needs 32 bytes, a 128-byte key 64";
     case 9: return "the word has fewer than 2 bytes";
@@ -189,8 +189,10 @@ typedef struct { uint8_t answer; int32_t crossings; } walnut_crossing;
    first. */
 #define WALNUT_PLACE(row, column) (8 * ((column) - 1) + ((row) - 1))
 
-/* A matrix, with its entries as WALNUT_PLACE says, and a list of labels. */
-typedef struct { uint8_t matrix[64]; uint8_t labels[8]; } walnut_pair;
+/* A matrix, with its entries as WALNUT_PLACE says, a list of labels, and the inverse list: positions[a] is the position
+   of label a in the list, counted from 1. In a pair of the caller's own, positions[labels[i]] must be i + 1 for each i
+   from 0 to 7. */
+typedef struct { uint8_t matrix[64]; uint8_t labels[8]; uint8_t positions[8]; } walnut_pair;
 
 /* A key: its field, its T-values, the pair Pub(S), and `second`, the matrix of Pub(S'). On a refusal the field is the
    one with 32 elements, and all numbers are 0. */

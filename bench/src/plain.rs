@@ -102,17 +102,24 @@ impl Pair {
 /// A row of the table for each label.
 type Rows<'a, const SIZE: usize> = [&'a [u8; SIZE]; 8];
 
-/// One letter on a lent pair, its matrix row by row and then its labels, with the multiplier's questions over
-/// the smaller field.
-pub fn multiply(lent: &mut [u8; 72], t_values: &Eight, letter: u8) -> Result<(), u8> {
-    let (entries, labels) = lent.split_at(64);
+/// Is each label's position where it stands, counted from 1? Then the labels are 0 to 7, each once.
+fn are_inverse(labels: &[u8], positions: &[u8]) -> bool {
+    let position = |label: &u8| positions.get(usize::from(*label)).copied();
+    labels.iter().zip(1..).all(|(label, place)| position(label) == Some(place))
+}
+
+/// One letter on a lent pair, its matrix row by row, then its labels and their positions, with the multiplier's
+/// questions over the smaller field.
+pub fn multiply(lent: &mut [u8; 80], t_values: &Eight, letter: u8) -> Result<(), u8> {
+    let (entries, lists) = lent.split_at(64);
+    let (labels, positions) = lists.split_at(8);
     if t_values.iter().chain(entries).any(|number| *number > 31) {
         return Err(17);
     }
     if t_values.contains(&0) {
         return Err(4);
     }
-    if !is_order(labels) {
+    if !are_inverse(labels, positions) {
         return Err(6);
     }
     if letter > 15 || letter & 7 == 7 {
@@ -124,7 +131,11 @@ pub fn multiply(lent: &mut [u8; 72], t_values: &Eight, letter: u8) -> Result<(),
     let inverses = t_values.map(|value| SMALL.row(SMALL.reciprocal(value)));
     pair.letter(&values, &inverses, letter);
     lent[..64].copy_from_slice(pair.matrix.as_flattened());
-    lent[64..].copy_from_slice(&pair.labels);
+    lent[64..72].copy_from_slice(&pair.labels);
+    let place = usize::from(letter & 7);
+    for (label, position) in pair.labels[place..place + 2].iter().zip((letter & 7) + 1..) {
+        lent[72 + usize::from(*label)] = position;
+    }
     Ok(())
 }
 

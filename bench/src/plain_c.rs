@@ -71,8 +71,8 @@ pub fn cloaks(key: &[u8], labels: &[u8], word: &[u8], by_columns: bool) -> u32 {
     unsafe { plain_cloaks(file, bytes, list, n, word.as_ptr(), word.len(), by_columns) }
 }
 
-/// The pair is its matrix, row by row, and then its labels.
-pub fn multiply(pair: &mut [u8; 72], t_values: &[u8; 8], letter: u8) -> u8 {
+/// The pair is its matrix, row by row, then its labels and their positions.
+pub fn multiply(pair: &mut [u8; 80], t_values: &[u8; 8], letter: u8) -> u8 {
     // SAFETY: see above.
     unsafe { plain_multiply(pair.as_mut_ptr(), t_values.as_ptr(), letter) }
 }

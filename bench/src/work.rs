@@ -138,9 +138,10 @@ fn by_halves(who: Who, slip: &Slip, words: &[Vec<u8>]) -> u32 {
     }
 }
 
-/// A pair's matrix, row by row, and then its labels.
-fn by_rows(pair: &walnut::Pair) -> [u8; 72] {
+/// A pair's matrix, row by row, then its labels and their positions.
+fn by_rows(pair: &walnut::Pair) -> [u8; 80] {
     std::array::from_fn(|at| match at {
+        72.. => pair.positions[at - 72],
         64.. => pair.labels[at - 64],
         _ => pair.matrix[walnut::place(at / 8 + 1, at % 8 + 1)],
     })

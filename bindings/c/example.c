@@ -150,6 +150,8 @@ static int keys(uint8_t key[WALNUT_KEY_BYTES])
     print_decimal("T-values", held.t_values, 8);
     print_row("row 3 of Pub(S):", held.pair.matrix, 3);
     print_decimal("list of Pub(S):", held.pair.labels, 8);
+    print_decimal("positions of its labels:", held.pair.positions, 8);
+    printf("strand 2 is at position %u\n", held.pair.positions[2]);
     print_row("row 3 of Pub(S'):", held.second, 3);
     if (held.answer != 0 || write_key(held.large, held.t_values, &held.pair, held.second, back, sizeof back) != 0)
         return 1;

@@ -139,6 +139,19 @@ class Letters(Case):
         self.refused(12, by_text.multiply, GF32, T_VALUES, 7)
         self.assertEqual(by_text, by_code)
 
+    def test_where_a_strand_is(self):
+        pair = Pair.start()
+        self.assertEqual([pair.position(label) for label in range(8)], [1, 2, 3, 4, 5, 6, 7, 8])
+        for letter in ("b3^-1", "b6", "b4", "b1^-1", "b2"):
+            pair.multiply(GF32, T_VALUES, letter)
+        self.assertEqual(list(pair.labels), [1, 3, 0, 4, 2, 6, 5, 7])
+        self.assertEqual([pair.position(label) for label in range(8)], [3, 1, 5, 2, 4, 7, 6, 8])
+        self.assertEqual(Pair(pair.matrix, pair.labels), pair)
+        stale = Pair(pair.matrix, pair.labels, Pair.start().positions)
+        self.refused(6, stale.multiply, GF32, T_VALUES, "b1")
+        self.assertEqual(stale.positions, Pair.start().positions)
+        self.raised(ValueError, "labels are 0 to 7, not 8", pair.position, 8)
+
 
 class Crossings(Case):
     def test_by_sign(self):

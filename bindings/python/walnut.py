@@ -15,9 +15,9 @@ import ctypes
 import enum
 import operator
 import os
-from typing import Any, Iterable, List, Tuple, Union
+from typing import Any, Iterable, List, Optional, Tuple, Union
 
-__version__ = "0.2.0"
+__version__ = "0.3.0"
 
 # walnut.h: begin; tools/interface writes these lines
 from ctypes import POINTER, Structure, c_bool, c_char_p, c_int32, c_size_t, c_uint8
@@ -73,9 +73,11 @@ class _Crossing(Structure):
 
 
 class _Pair(Structure):
-    """A matrix, with its entries as WALNUT_PLACE says, and a list of labels."""
+    """A matrix, with its entries as WALNUT_PLACE says, a list of labels, and the inverse list: positions[a] is the
+    position of label a in the list, counted from 1. In a pair of the caller's own, positions[labels[i]] must be i + 1
+    for each i from 0 to 7."""
 
-    _fields_ = [("matrix", c_uint8 * 64), ("labels", c_uint8 * 8)]
+    _fields_ = [("matrix", c_uint8 * 64), ("labels", c_uint8 * 8), ("positions", c_uint8 * 8)]
 
 
 class _Key(Structure):
@@ -196,7 +198,7 @@ TEXTS = {
     3: "the key names the wrong field: 83 bytes need q = 32, 128 bytes need q = 256",
     4: "a T-value is zero, or the reciprocal of zero was asked for",
     5: "the first two T-values are not both 1",
-    6: "the list of labels is not 0 to 7, each once",
+    6: "the list of labels is not 0 to 7, each once, or a pair's positions do not match its list",
     7: "the key's filler bits are not all zero",
     8: "the digest has the wrong length: an 83-byte key needs 32 bytes, a 128-byte key 64",
     9: "the word has fewer than 2 bytes",
@@ -445,11 +447,15 @@ def place(row: int, column: int) -> int:
 
 
 class Pair:
-    """A matrix of 64 entries, column by column (see place), and a list of eight labels."""
+    """A matrix of 64 entries, column by column (see place), a list of eight labels, and its inverse list: for each
+    label its position, counted from 1. Positions that are not given are made from the labels."""
 
-    def __init__(self, matrix: Bytes, labels: Bytes) -> None:
+    def __init__(self, matrix: Bytes, labels: Bytes, positions: Optional[Bytes] = None) -> None:
         self.matrix = _fixed(matrix, 64, "matrix")
         self.labels = _fixed(labels, 8, "labels")
+        if positions is None:
+            positions = [self.labels.rfind(label) + 1 for label in range(8)]
+        self.positions = _fixed(positions, 8, "positions")
 
     @classmethod
     def start(cls) -> "Pair":
@@ -458,27 +464,35 @@ class Pair:
 
     @classmethod
     def _of(cls, pair: _Pair) -> "Pair":
-        return cls(bytes(pair.matrix), bytes(pair.labels))
+        return cls(bytes(pair.matrix), bytes(pair.labels), bytes(pair.positions))
 
     def _lent(self) -> _Pair:
         matrix, labels = _fixed(self.matrix, 64, "matrix"), _fixed(self.labels, 8, "labels")
-        return _Pair((c_uint8 * 64)(*matrix), (c_uint8 * 8)(*labels))
+        positions = _fixed(self.positions, 8, "positions")
+        return _Pair((c_uint8 * 64)(*matrix), (c_uint8 * 8)(*labels), (c_uint8 * 8)(*positions))
+
+    def position(self, label: int) -> int:
+        """Where is strand `label`? Its position in the list, from 1 to 8."""
+        label = _index(label, "label")
+        if not 0 <= label <= 7:
+            raise ValueError(f"labels are 0 to 7, not {label}")
+        return self.positions[label]
 
     def multiply(self, field: Field, t_values: Bytes, letter: Letter) -> None:
         """Multiplies a letter into the pair, over a field. On a refusal the pair is as it was."""
         lent = self._lent()
         _granted(_lib.walnut_multiply(lent, _large(field), _fixed(t_values, 8, "t_values"), letter_code(letter)))
-        self.matrix, self.labels = bytes(lent.matrix), bytes(lent.labels)
+        self.matrix, self.labels, self.positions = bytes(lent.matrix), bytes(lent.labels), bytes(lent.positions)
 
     def __eq__(self, other: object) -> bool:
         if not isinstance(other, Pair):
             return NotImplemented
-        return (self.matrix, self.labels) == (other.matrix, other.labels)
+        return vars(self) == vars(other)
 
     __hash__ = None  # type: ignore[assignment]
 
     def __repr__(self) -> str:
-        return f"walnut.Pair({_shown(self.matrix)}, {_shown(self.labels)})"
+        return f"walnut.Pair({_shown(self.matrix)}, {_shown(self.labels)}, {_shown(self.positions)})"
 
 
 class Key:

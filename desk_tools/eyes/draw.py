@@ -7,7 +7,7 @@ from itertools import combinations
 import walnut
 
 import files
-from show import word
+from show import strands, word
 from walnut import letter_text
 
 COLOURS = ["#1f77b4", "#d62728", "#2ca02c", "#9467bd", "#ff7f0e", "#17a2b8", "#8c564b", "#e0559f"]
@@ -33,12 +33,7 @@ def main(path, picture):
 
 def orders(codes):
     """The list of labels before each letter and after the last one."""
-    pair = walnut.Pair.start()
-    lists = [list(pair.labels)]
-    for code in codes:
-        pair.multiply(walnut.GF32, bytes([1] * STRANDS), code)
-        lists.append(list(pair.labels))
-    return lists
+    return [list(pair.labels) for pair in strands(codes)]
 
 
 def crossings(file):

@@ -30,6 +30,18 @@ def show_word(path):
     width = len(str(len(codes)))
     for place in range(0, len(codes), ROW):
         print(f"{place:{width}}: " + " ".join(letter_text(code) for code in codes[place : place + ROW]))
+    *_, positions = (pair.positions for pair in strands(codes))
+    print(f"# strands 0 to 7 end at positions {numbers(positions)}; positions count from 1")
+
+
+def strands(codes):
+    """The pair before each letter and after the last one, from the start. The T-values are 1, since only the lists are
+    looked at."""
+    pair = walnut.Pair.start()
+    yield pair
+    for code in codes:
+        pair.multiply(walnut.GF32, bytes([1] * 8), code)
+        yield pair
 
 
 def word(path):

@@ -21,7 +21,7 @@ fn list_answer(labels: &[u8]) -> u8 {
 /// Does the word with these letters bring the identity matrix with this list back unchanged, list included, over the
 /// key's field?
 fn leaves_unchanged(key: &Key, labels: Labels, codes: &[u8]) -> bool {
-    let pair = Pair { matrix: identity(), labels };
+    let pair = Pair::of(identity(), labels);
     carried(key.field, &pair, &key.t_values, codes) == pair
 }
 

@@ -11,7 +11,7 @@ use crate::field::Field;
 use crate::key::{read_key, Key};
 use crate::matrix::{identity, is_invertible, matrix_product, Matrix};
 use crate::pair::{carried, start, Pair, TValues};
-use crate::questions::{first_no, first_refusal, is_each_label_once, Question};
+use crate::questions::{first_no, first_refusal, Question};
 use crate::verdict::equality_answer;
 use crate::word::{letters, word_answer};
 use crate::STRANDS;
@@ -76,7 +76,7 @@ const QUESTIONS: [Question<Half>; 4] = [
         half.t_values.iter().chain(matrices).all(|number| half.field.has(*number))
     }),
     (4, |half| !half.t_values.contains(&0)),
-    (6, |half| is_each_label_once(&half.pair.labels)),
+    (6, |half| half.pair.has_inverse_lists()),
     (26, |half| [half.pair.matrix, half.target].iter().all(|matrix| is_invertible(half.field, matrix))),
 ];
 

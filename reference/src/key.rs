@@ -174,7 +174,7 @@ pub fn read_key(file: &[u8]) -> Key {
         return Key::refusal(answer);
     }
     let [first, second] = matrices(file);
-    let pair = Pair { matrix: first, labels: eight(&labels(file)) };
+    let pair = Pair::of(first, eight(&labels(file)));
     Key { answer, field: field_of(file), t_values: eight(&t_values(file)), pair, second }
 }
 

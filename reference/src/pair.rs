@@ -3,6 +3,9 @@
 //! Source 003 gives each letter an 8 by 8 coloured Burau matrix in the variables t_1 to t_8. A pair (M, σ)
 //! times a letter is (M · CB, σ · σ_i), where CB is the letter's matrix with t_k taken as the T-value of the
 //! label σ(k), and σ_i changes i and i + 1. Document 01 says the same by columns.
+//!
+//! The third part of a pair (document 02, section 5) is found by scanning the list, where a pair is made of a matrix and
+//! a list. A letter then moves the two strands that stand at positions i and i + 1, and no list is looked at.
 
 use crate::field::Field;
 use crate::letter::{is_letter, letters_of, Letter};
@@ -13,24 +16,43 @@ use crate::STRANDS;
 /// A list of eight labels, one for each position.
 pub type Labels = [u8; STRANDS];
 
+/// The position of each label, counted from 1.
+pub type Positions = [u8; STRANDS];
+
 /// T-values by label.
 pub type TValues = [u8; STRANDS];
 
-/// An 8 by 8 matrix and a list of labels.
+/// An 8 by 8 matrix, a list of labels, and the inverse list.
 #[derive(Clone, Copy, Debug, PartialEq, Eq)]
 pub struct Pair {
     pub matrix: Matrix,
     pub labels: Labels,
+    pub positions: Positions,
 }
 
 impl Pair {
     /// The pair of a refusal: all zeros.
-    pub const ZEROS: Pair = Pair { matrix: [0; 64], labels: [0; STRANDS] };
+    pub const ZEROS: Pair = Pair { matrix: [0; 64], labels: [0; STRANDS], positions: [0; STRANDS] };
+
+    /// The pair of a matrix and a list.
+    pub fn of(matrix: Matrix, labels: Labels) -> Pair {
+        let scanned = |label: u8| labels.iter().zip(1..).find(|(there, _)| **there == label);
+        let positions =
+            [0, 1, 2, 3, 4, 5, 6, 7].map(|label| scanned(label).map_or(0, |(_, position)| position));
+        Pair { matrix, labels, positions }
+    }
+
+    /// Is the list 0 to 7, each once, and does each label stand at its position?
+    pub fn has_inverse_lists(&self) -> bool {
+        let at = |position: u8| self.labels.get(usize::from(position).checked_sub(1)?).copied();
+        is_each_label_once(&self.labels)
+            && self.positions.iter().zip(0..).all(|(p, label)| at(*p) == Some(label))
+    }
 }
 
 /// The starting pair: the identity matrix with the list 0 to 7.
 pub fn start() -> Pair {
-    Pair { matrix: identity(), labels: [0, 1, 2, 3, 4, 5, 6, 7] }
+    Pair::of(identity(), [0, 1, 2, 3, 4, 5, 6, 7])
 }
 
 /// The T-values by position: that of the label which stands there.
@@ -71,12 +93,22 @@ fn composed(labels: &Labels, places: [usize; STRANDS]) -> Labels {
     places.map(|place| labels[place])
 }
 
+/// The position of a strand after a letter: i and i + 1 change, counted from 1.
+fn moved(position: u8, i: usize) -> u8 {
+    match usize::from(position) {
+        before if before == i => position + 1,
+        before if before == i + 1 => position - 1,
+        _ => position,
+    }
+}
+
 /// A pair times one letter.
 pub fn e_multiplied(field: Field, pair: &Pair, t_values: &TValues, letter: Letter) -> Pair {
     let burau = coloured_burau(field, letter, &permuted(t_values, &pair.labels));
     Pair {
         matrix: matrix_product(field, &pair.matrix, &burau),
         labels: composed(&pair.labels, transposition(letter.generator)),
+        positions: pair.positions.map(|position| moved(position, letter.generator)),
     }
 }
 
@@ -103,7 +135,7 @@ struct Step {
 const QUESTIONS: [Question<Step>; 4] = [
     (17, |step| step.t_values.iter().chain(&step.pair.matrix).all(|n| step.field.has(*n))),
     (4, |step| !step.t_values.contains(&0)),
-    (6, |step| is_each_label_once(&step.pair.labels)),
+    (6, |step| step.pair.has_inverse_lists()),
     (12, |step| is_letter(step.letter)),
 ];
 

@@ -39,7 +39,7 @@ fn sevens(letters: u16) -> Vec<u8> {
 
 /// The zeros of a refusal, which name the field with 32 elements.
 fn refused(answer: u8) -> Halved {
-    let pair = Pair { matrix: [0; 64], labels: [0; 8] };
+    let pair = Pair::ZEROS;
     Halved { answer, half: Half { field: Gf32, t_values: [0; 8], pair, target: [0; 64] } }
 }
 
@@ -81,7 +81,7 @@ fn second_matrix_stands_at_the_right() {
     target[at(7, 1)..=at(7, 8)].copy_from_slice(&[9, 30, 0, 0, 0, 0, 0, 22]);
     let first = with_row(1, [1, 2, 3, 4, 5, 6, 7, 8]);
     let half = first_half(&key_with_matrices(Gf32, &first, &turned), &[0; 32]).half;
-    assert_eq!(half.pair, Pair { matrix: first, labels: PLAIN_LIST });
+    assert_eq!(half.pair, Pair::of(first, PLAIN_LIST));
     assert_eq!(half.target, target);
 }
 
@@ -311,7 +311,7 @@ fn copies_are_judged_alike() {
     for round in 0..2 * ROUNDS {
         let field = Field::BOTH[round % 2];
         let (t_values, codes) = (random.t_values(field), random.tangled_word(round));
-        let pair = Pair { matrix: random.invertible_matrix(field), labels: random.labels() };
+        let pair = Pair::of(random.invertible_matrix(field), random.labels());
         let target = carried(field, &pair, &t_values, &codes).matrix;
         let half = Half { field, t_values, pair, target };
         let judged = if round % 4 < 2 { codes } else { random.tangled_word(round) };

@@ -98,7 +98,7 @@ fn half_powers_are_the_least() {
     for round in 0..400 {
         let (field, i) = (Field::BOTH[round % 2], random.below(7));
         let t_values = random.cloaking_t_values(field);
-        let from = Pair { labels: random.labels(), ..start() };
+        let from = Pair::of(start().matrix, random.labels());
         let [a, b] = [i, i + 1].map(|place| t_values[usize::from(from.labels[place])]);
         let (mut pair, mut letters) = (from, 0);
         while letters == 0 || pair != from {
@@ -119,7 +119,7 @@ fn power_cloaks_cloak() {
             let (t_values, labels) = (random.cloaking_t_values(field), random.labels());
             let conjugating = random.within(0, 8);
             let word = random.power_cloak(field, &t_values, &labels, conjugating);
-            for pair in [Pair { labels, ..start() }, Pair { labels, ..random.pair(field) }] {
+            for pair in [Pair::of(start().matrix, labels), Pair::of(random.pair(field).matrix, labels)] {
                 assert_eq!(carried(field, &pair, &t_values, &word), pair);
             }
             halves.insert(word.len() / 2 - conjugating);

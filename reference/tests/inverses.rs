@@ -117,7 +117,7 @@ fn answer(field: Field, first: &Matrix, second: &Matrix) -> u8 {
     let answer = write_key(field, &PLAIN_T_VALUES, &PLAIN_LIST, &entries, &others, &mut out);
     let read = read_key(&key);
     if answer == 0 {
-        let pair = Pair { matrix: *first, labels: PLAIN_LIST };
+        let pair = Pair::of(*first, PLAIN_LIST);
         assert_eq!(read, Key { answer, field, t_values: PLAIN_T_VALUES, pair, second: *second });
         assert_eq!(out, key);
     } else {

@@ -70,7 +70,7 @@ fn powers_of_x_are_all_elements() {
 
 /// The starting pair with row 3 and the list replaced.
 fn start_with_row_3(entries: [u8; 8], labels: [u8; 8]) -> Pair {
-    let mut pair = Pair { labels, ..start() };
+    let mut pair = Pair::of(start().matrix, labels);
     pair.matrix[16..24].copy_from_slice(&entries);
     pair
 }

@@ -144,6 +144,7 @@ fn by_columns(field: Field, pair: &Pair, t_values: &[u8; 8], i: usize, inverse: 
         result.matrix[at(row, i)] = times(field, middle, old);
     }
     result.labels.swap(i - 1, i);
+    result.positions = Pair::of(result.matrix, result.labels).positions;
     result
 }
 
@@ -157,8 +158,27 @@ fn letters_change_columns_as_document_01_says() {
                 let expected = by_columns(field, &pair, &t_values, i, inverse);
                 assert_eq!(multiply(&mut pair, field, &t_values, letter(i, inverse)), 0);
                 assert_eq!(pair, expected);
+                assert!(pair.has_inverse_lists());
             }
         }
+    }
+}
+
+/// Document 02, section 5: the label at the position of a is a, and the position of the label at position i is i, after
+/// every word and in every key and half.
+#[test]
+fn lists_stay_inverse() {
+    let mut random = Random(31);
+    for round in 0..2 * ROUNDS {
+        let field = Field::BOTH[round % 2];
+        let (pair, t_values, word) = (random.pair(field), random.t_values(field), random.word(40));
+        let after = carried(field, &pair, &t_values, &word);
+        for (label, place) in (0..8).zip(0..) {
+            let position = usize::from(after.positions[place]);
+            assert_eq!(after.labels[position - 1], label);
+            assert_eq!(usize::from(after.positions[usize::from(after.labels[place])]), place + 1);
+        }
+        assert!(after.has_inverse_lists());
     }
 }
 
@@ -371,7 +391,7 @@ fn keys_come_back() {
         assert_eq!(write_key(field, &t_values, &labels, &entries[0], &entries[1], &mut file), 0);
         assert_eq!(file[bytes..], [0x55, 0x55]);
         let key = read_key(&file[..bytes]);
-        assert_eq!(key, Key { answer: 0, field, t_values, pair: Pair { matrix: first, labels }, second });
+        assert_eq!(key, Key { answer: 0, field, t_values, pair: Pair::of(first, labels), second });
         assert!([first, second].iter().all(|matrix| matrix[56..63] == [0; 7]));
     }
 }
@@ -475,7 +495,7 @@ fn cloaking_elements() {
     let mut found = 0;
     while found < 20 {
         let (list, w, i) = (random.labels(), random.word(10), random.below(7) as u8);
-        let reached = carried(Gf32, &Pair { labels: list, ..reference::start() }, &[1; 8], &w).labels;
+        let reached = carried(Gf32, &Pair::of(reference::start().matrix, list), &[1; 8], &w).labels;
         if reached[usize::from(i)] > 1 || reached[usize::from(i) + 1] > 1 {
             continue;
         }

@@ -111,12 +111,29 @@ fn starting_pair() {
         [0, 0, 0, 0, 0, 0, 1, 0],
         [0, 0, 0, 0, 0, 0, 0, 1],
     ]);
-    assert_eq!(start(), Pair { matrix: expected, labels: PLAIN_LIST });
+    let positions = [1, 2, 3, 4, 5, 6, 7, 8];
+    assert_eq!(start(), Pair { matrix: expected, labels: PLAIN_LIST, positions });
+}
+
+/// Document 02, section 5, on document 01's list 1 3 0 4 2 6 5 7: label 0 stands at position 3, label 1 at 1, label 2 at
+/// 5, label 3 at 2, label 4 at 4, label 5 at 7, label 6 at 6, label 7 at 8. Then wrong positions are refused.
+#[test]
+fn where_each_strand_is() {
+    let pair = carried(&PLAIN_T_VALUES, &[-3, 6, 4, -1, 2]);
+    assert_eq!((pair.labels, pair.positions), ([1, 3, 0, 4, 2, 6, 5, 7], [3, 1, 5, 2, 4, 7, 6, 8]));
+    for positions in
+        [[1, 2, 3, 4, 5, 6, 7, 8], [2, 0, 4, 1, 3, 6, 5, 7], [1, 3, 5, 2, 4, 7, 6, 8], [0; 8], [9; 8]]
+    {
+        let stale = Pair { positions, ..pair };
+        let mut lent = stale;
+        assert_eq!(multiply(&mut lent, Gf32, &PLAIN_T_VALUES, 0), 6);
+        assert_eq!(lent, stale, "a refusal changed the pair");
+    }
 }
 
 /// The starting pair with one row and the list replaced: a word in one generator changes no other row.
 fn start_with_row(row: usize, entries: [u8; 8], labels: [u8; 8]) -> Pair {
-    let mut pair = Pair { labels, ..start() };
+    let mut pair = Pair::of(start().matrix, labels);
     pair.matrix[8 * (row - 1)..8 * row].copy_from_slice(&entries);
     pair
 }
@@ -154,7 +171,7 @@ fn permutations_of_source_004() {
 #[test]
 fn e_multiplication_of_source_004() {
     let t_values = [14, 1, 8, 1, 9, 9, 9, 9];
-    let mut expected = Pair { labels: [1, 0, 3, 2, 4, 5, 6, 7], ..start() };
+    let mut expected = Pair::of(start().matrix, [1, 0, 3, 2, 4, 5, 6, 7]);
     expected.matrix[..8].copy_from_slice(&[1, 1, 0, 0, 0, 0, 0, 0]);
     expected.matrix[16..24].copy_from_slice(&[0, 8, 8, 1, 0, 0, 0, 0]);
     assert_eq!(carried(&t_values, &[3, -1]), expected);
@@ -188,8 +205,8 @@ fn matrix_of_source_004() {
         [0, 0, 0, 0, 0, 0, 0, 1],
     ]);
     let braid = [-3, 6, 4, -1, 2];
-    assert_eq!(carried(&[22, 3, 12, 1, 1, 8, 15, 9], &braid), Pair { matrix: like_004, labels });
-    assert_eq!(carried(&PLAIN_T_VALUES, &braid), Pair { matrix: plain, labels });
+    assert_eq!(carried(&[22, 3, 12, 1, 1, 8, 15, 9], &braid), Pair::of(like_004, labels));
+    assert_eq!(carried(&PLAIN_T_VALUES, &braid), Pair::of(plain, labels));
 }
 
 /// Source 003, section 2: the matrix of b3 b3 is the letter's matrix at t3 = 2 times the one at t3 = 3, since
@@ -688,7 +705,7 @@ fn list_counts_in_cloaking() {
     let twice = hex(&format!("00 3E {}", "22 ".repeat(31)));
     assert!(!yes(&key, PLAIN_LIST, &once));
     assert!(yes(&key, PLAIN_LIST, &twice));
-    let swapped = Pair { labels: [0, 1, 3, 2, 4, 5, 6, 7], ..start() };
+    let swapped = Pair::of(start().matrix, [0, 1, 3, 2, 4, 5, 6, 7]);
     assert_eq!(carried(&[1, 1, 2, 2, 4, 5, 6, 7], &[3; 31]), swapped);
 }
 

@@ -82,6 +82,8 @@ fn keys() -> Result<Vec<u8>, Refusal> {
     println!("T-values {}", decimal(&held.t_values));
     println!("row 3 of Pub(S): {}", row(&held.pair.matrix, 3));
     println!("list of Pub(S): {}", decimal(&held.pair.labels));
+    println!("positions of its labels: {}", decimal(&held.pair.positions));
+    println!("strand 2 is at position {}", held.pair.position(2).unwrap_or(0));
     println!("row 3 of Pub(S'): {}", row(&held.second, 3));
     let back = key_file(held.field, &held.t_values, &held.pair, &held.second)?;
     println!("that key, read and written back, is the same: {}", yes_or_no(back == file));

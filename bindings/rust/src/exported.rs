@@ -41,12 +41,15 @@ pub struct Crossing {
     pub crossings: i32,
 }
 
-/// A matrix, with its entries as WALNUT_PLACE says, and a list of labels.
+/// A matrix, with its entries as WALNUT_PLACE says, a list of labels, and the inverse list: positions[a] is the
+/// position of label a in the list, counted from 1. In a pair of the caller's own, positions[labels[i]] must be i + 1
+/// for each i from 0 to 7.
 #[repr(C)]
 #[derive(Clone, Copy, Debug, PartialEq, Eq)]
 pub struct Pair {
     pub matrix: [u8; 64],
     pub labels: [u8; 8],
+    pub positions: [u8; 8],
 }
 
 /// A key: its field, its T-values, the pair Pub(S), and `second`, the matrix of Pub(S'). On a refusal the field is the

@@ -113,6 +113,22 @@ impl Pair {
         unsafe { walnut_start() }
     }
 
+    /// The pair of a matrix and a list of labels. Its positions are the inverse list; a label over 7 has no position.
+    pub fn with(matrix: [u8; 64], labels: [u8; 8]) -> Pair {
+        let mut positions = [0; 8];
+        for (&label, position) in labels.iter().zip(1..) {
+            if let Some(place) = positions.get_mut(usize::from(label)) {
+                *place = position;
+            }
+        }
+        Pair { matrix, labels, positions }
+    }
+
+    /// Where is strand `label`? Its position in the list, from 1 to 8. A label over 7 has none.
+    pub fn position(&self, label: u8) -> Option<u8> {
+        self.positions.get(usize::from(label)).copied()
+    }
+
     /// Multiplies a letter, given by its code, into the pair, over a field.
     pub fn multiply(&mut self, field: Field, t_values: &[u8; 8], letter: u8) -> Result<(), Refusal> {
         // SAFETY: see above.

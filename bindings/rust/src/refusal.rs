@@ -12,7 +12,7 @@ fn text(number: u8) -> &'static str {
         3 => "the key names the wrong field: 83 bytes need q = 32, 128 bytes need q = 256",
         4 => "a T-value is zero, or the reciprocal of zero was asked for",
         5 => "the first two T-values are not both 1",
-        6 => "the list of labels is not 0 to 7, each once",
+        6 => "the list of labels is not 0 to 7, each once, or a pair's positions do not match its list",
         7 => "the key's filler bits are not all zero",
         8 => "the digest has the wrong length: an 83-byte key needs 32 bytes, a 128-byte key 64",
         9 => "the word has fewer than 2 bytes",
@@ -56,7 +56,7 @@ impl Refusal {
     pub const ZERO: Refusal = Refusal(4);
     /// The first two T-values are not both 1.
     pub const FIRST_T_VALUES: Refusal = Refusal(5);
-    /// The list of labels is not 0 to 7, each once.
+    /// The list of labels is not 0 to 7, each once, or a pair's positions do not match its list.
     pub const LABELS: Refusal = Refusal(6);
     /// The key's filler bits are not all zero.
     pub const KEY_FILLER: Refusal = Refusal(7);

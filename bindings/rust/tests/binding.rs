@@ -79,6 +79,25 @@ fn refusals_are_errors_with_number_and_text() {
 }
 
 #[test]
+fn where_a_strand_is() {
+    let positions = |pair: &Pair| [0, 1, 2, 3, 4, 5, 6, 7].map(|label| pair.position(label));
+    let mut pair = Pair::start();
+    assert_eq!(positions(&pair), [1, 2, 3, 4, 5, 6, 7, 8].map(Some));
+    assert_eq!(pair.position(8), None);
+    // b3^-1 b6 b4 b1^-1 b2
+    for letter in [10, 5, 3, 8, 1] {
+        pair.multiply(Gf32, &T_VALUES, letter).unwrap();
+    }
+    assert_eq!(pair.labels, [1, 3, 0, 4, 2, 6, 5, 7]);
+    assert_eq!(positions(&pair), [3, 1, 5, 2, 4, 7, 6, 8].map(Some));
+    assert_eq!(Pair::with(pair.matrix, pair.labels), pair);
+    let mut stale = Pair { positions: Pair::start().positions, ..pair };
+    let before = stale;
+    assert_eq!(stale.multiply(Gf32, &T_VALUES, 0), Err(Refusal::LABELS));
+    assert_eq!(stale, before);
+}
+
+#[test]
 fn nothing_lent_changes_on_a_refusal() {
     let mut pair = Pair::start();
     assert_eq!(pair.multiply(Gf32, &T_VALUES, 7), Err(Refusal::NO_LETTER));

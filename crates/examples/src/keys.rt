@@ -40,10 +40,8 @@ fn is_zeros(key: Key) -> bool {
     let f = key.field;
     let t_values = key.t_values;
     let pair = key.pair;
-    let matrix = pair.matrix;
-    let labels = pair.labels;
     let second = key.second;
-    !field::is_large(f) && show::is_zeros(&matrix, &labels) && show::is_zeros(&second, &t_values)
+    !field::is_large(f) && show::is_zero_pair(pair) && show::is_zeros(&second, &t_values)
 }
 
 pub(crate) fn read(file: &[u8]) {

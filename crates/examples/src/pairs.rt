@@ -34,12 +34,29 @@ fn matrix_of(entries: &[u8]) -> [u8; 64] {
     laid_out(&rows)
 }
 
-// The pair of labels and a matrix. If there are no labels, or no entries, those of the starting pair stand in their
-// place.
-fn pair_of(labels: &[u8], entries: &[u8]) -> Pair {
+// The same matrix and list with other positions, if any are given.
+fn with_positions(pair: Pair, given: &[u8]) -> Pair {
+    let matrix = pair.matrix;
+    let labels = pair.labels;
+    let mut positions = pair.positions;
+    base::put(&mut positions, given);
+    Pair {
+        matrix,
+        labels,
+        positions,
+    }
+}
+
+// The pair of lists and a matrix. The lists are eight labels, and then eight positions, if these are not the inverse
+// list. If there are no labels, or no entries, those of the starting pair stand in their place.
+fn pair_of(lists: &[u8], entries: &[u8]) -> Pair {
     let mut eight = [0, 1, 2, 3, 4, 5, 6, 7];
-    base::put(&mut eight, labels);
-    Pair::with(matrix_of(entries), eight)
+    base::put(&mut eight, lists);
+    let pair = Pair::with(matrix_of(entries), eight);
+    if lists.len() <= 8 {
+        return pair;
+    }
+    with_positions(pair, &lists[8..])
 }
 
 // Multiplies letters into a pair, one by one, and returns what the last one gives.
@@ -60,18 +77,16 @@ fn show_pair(found: Multiplied) {
     if found.answer == 0 {
         show::pair(pair);
     } else {
-        let matrix = pair.matrix;
-        let labels = pair.labels;
-        show::zeros(show::is_zeros(&matrix, &labels));
+        show::zeros(show::is_zero_pair(pair));
     }
 }
 
 // Multiplies letters into a pair and prints the result. If no T-values are given, those of the plain key stand in their
 // place.
-pub(crate) fn letters(codes: &[u8], t_values: &[u8], labels: &[u8], entries: &[u8]) {
+pub(crate) fn letters(codes: &[u8], t_values: &[u8], lists: &[u8], entries: &[u8]) {
     let mut ts = [1, 1, 2, 3, 4, 5, 6, 7];
     base::put(&mut ts, t_values);
-    show_pair(after(pair_of(labels, entries), &ts, codes));
+    show_pair(after(pair_of(lists, entries), &ts, codes));
 }
 
 pub(crate) fn matrices(first: &[u8], second: &[u8]) {

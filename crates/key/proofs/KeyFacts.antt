@@ -20,7 +20,8 @@ use Rattle.field.specs.Fields.{bits, operations, keyBytes}
 use Rattle.field.specs.declared.Field.{Field}
 use Rattle.pair_operands.specs.Operands.{elements, nonzero}
 use Rattle.pair.specs.Good.{TValues, GoodPair}
-use Rattle.pair.proofs.GoodLaws.{tested-values, order-below}
+use Rattle.word.proofs.PositionLaws.{order-below}
+use Rattle.pair.proofs.GoodLaws.{tested-values}
 use Rattle.matrix.specs.Layout.{Matrix}
 use Rattle.matrix.proofs.LayoutLaws.{matrixOf-good}
 use Rattle.key.specs.declared.Key.{Key}
@@ -161,6 +162,7 @@ key-pair file =
       entry-below = m .below;
       strands = labels-size (bits f) file;
       label-below = labels-below (bits f) file;
+      positions-are = refl;
     }
 
 -- the key's field is the one that goes with the file's length

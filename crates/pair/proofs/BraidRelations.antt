@@ -2,7 +2,7 @@
 -- commute, whatever their signs. For neighbouring letters of one sign, j k j does what k j k does. Only cancellation
 -- assumes that the T-values are not zero. No relation assumes that each label occurs once.
 use Prim.Native.Nat.{ℕ, _+_, _<_, _≤_}
-use mathlib.Core.Path.{_≡_, sym, ap, ap₂, _∙_}
+use mathlib.Core.Path.{_≡_, refl, sym, ap, ap₂, _∙_}
 use mathlib.Core.Bool.{Bool, true}
 use mathlib.Core.List.{List}
 use mathlib.Core.Logic.{inl, inr}
@@ -24,6 +24,11 @@ use Rattle.word.proofs.LetterLaws.{Apart, Neighbours, generator-below, inverse-
 pub good-matrix : {F : Operations} {p : Pair} → GoodPair F p → Matrix (F .size) (p .matrix)
 good-matrix good = record { size = good .entries; below = good .entry-below }
 
+-- a good pair is the pair of its matrix and its list
+pub good-pair : {F : Operations} {p : Pair} → GoodPair F p → pairOf (p .matrix) (p .labels) ≡ p
+good-pair {F} {p} good =
+    λ j. record { matrix = p .matrix; labels = p .labels; positions = sym (good .positions-are) j }
+
 module _ {F : Operations} (L : BinaryField F) (ts : List ℕ) where
   -- every code, letter or not, keeps a pair good
   pub letter-good : (c : ℕ) (p : Pair) → GoodPair F p → GoodPair F (letterOn F ts c p)
@@ -39,6 +44,7 @@ module _ {F : Operations} (L : BinaryField F) (ts : List ℕ) where
         entry-below = m .below;
         strands = length-swapped g l ∙ good .strands;
         label-below = swapped-below g l (good .label-below);
+        positions-are = refl;
       }
 
   -- A letter, then its inverse. c may be an inverse letter, so the law covers both orders.
@@ -58,6 +64,7 @@ module _ {F : Operations} (L : BinaryField F) (ts : List ℕ) where
       (rows-undone (share-undone L ts l (isInverse c) g n tv (good .label-below)) g (p .matrix) (omega arith)
       (good-matrix good))
       (swapped-twice g l n)
+      ∙ good-pair good
 
   -- far letters commute, whatever their signs
   far-up : (c d : ℕ) (p : Pair) → isLetter d ≡ true → generator c + 2 ≤ generator d → GoodPair F p

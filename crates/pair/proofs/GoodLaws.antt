@@ -5,35 +5,29 @@ use mathlib.Core.Bool.{true, not}
 use mathlib.Core.List.{List}
 use native.Mathlib.Omega.{arith}
 use borrow.Author.Tests.{eqb-false, not-true}
-use lib.Dec.{eqb, ltb}
+use lib.Dec.{eqb}
 use lib.ListN.{length, getD}
-use Rattle.base.proofs.ListLaws.{and-left, every-getD}
+use Rattle.base.proofs.ListLaws.{every-getD}
 use Rattle.base.proofs.DigitLaws.{all-below}
-use Rattle.base.specs.Lists.{every, count, values, eachOnce}
 use Rattle.field.specs.Fields.{operations}
 use Rattle.field.specs.declared.Field.{Field}
 use Rattle.field.proofs.Fields.{binary}
 use Rattle.pair.specs.declared.Pair.{Pair}
-use Rattle.word.specs.Strands.{isOrder}
+use Rattle.word.specs.Strands.{areInverse}
+use Rattle.word.proofs.PositionLaws.{order-below, inverse-order, inverse-is}
 use Rattle.pair_operands.specs.Operands.{elements, nonzero}
 use Rattle.pair.specs.Good.{TValues, GoodPair}
 
--- a list that passes `isOrder` has labels below 8
-pub order-below : (labels : List ℕ) → isOrder labels ≡ true → (k : ℕ) → getD labels k 0 < 8
-unfolding eachOnce
-order-below labels e =
-    all-below 8 labels (omega arith)
-    (and-left (every (λ x. ltb x 8) labels) (every (λ a. eqb (count a labels) 1) (values (λ a. a) 8)) e)
-
 pub tested-pair : (f : Field) (p : Pair) → length (p .matrix) ≡ 64 → length (p .labels) ≡ 8
-    → elements f (p .matrix) ≡ true → isOrder (p .labels) ≡ true
+    → elements f (p .matrix) ≡ true → areInverse (p .labels) (p .positions) ≡ true
     → GoodPair (operations f) p
-tested-pair f p m l e o =
+tested-pair f p m l e i =
     record {
       entries = m;
       entry-below = all-below (operations f .size) (p .matrix) (binary f .zero-below) e;
       strands = l;
-      label-below = order-below (p .labels) o;
+      label-below = order-below (p .labels) (inverse-order (p .labels) (p .positions) l i);
+      positions-are = inverse-is (p .labels) (p .positions) l i;
     }
 
 pub tested-values : (f : Field) (ts : List ℕ) → length ts ≡ 8 → elements f ts ≡ true → nonzero ts ≡ true

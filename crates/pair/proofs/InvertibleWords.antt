@@ -20,7 +20,7 @@ use Rattle.pair.specs.Action.{pairOf, identityWith, letterOn, wordOn}
 use Rattle.pair.specs.Good.{TValues, GoodPair}
 use Rattle.pair.proofs.LinearLaws.{letter-product}
 use Rattle.pair.proofs.BraidRelations.{good-matrix, letter-good, letter-inverse}
-use Rattle.pair.proofs.WordLaws.{codes-good}
+use Rattle.pair.proofs.WordLaws.{letter-reads, codes-good}
 
 -- a good pair stays good with another matrix of elements
 good-with : {F : Operations} {p : Pair} → GoodPair F p → (m : List ℕ) → Matrix (F .size) m
@@ -31,6 +31,7 @@ good-with good m elements =
       entry-below = elements .below;
       strands = good .strands;
       label-below = good .label-below;
+      positions-are = refl;
     }
 
 -- the labels after a letter do not depend on the matrix
@@ -79,7 +80,10 @@ module _ {F : Operations} (L : BinaryField F) (ts : List ℕ) (tv : TValues F ts
         b = h .inverse
 
         after : letterOn F ts c (pairOf (matrixProduct F b (p .matrix)) (p .labels)) .matrix ≡ identity
-        after = letter-product L ts c b (p .matrix) (p .labels) e ∙ h .inverts .gives-identity
+        after =
+            letter-product L ts c b (p .matrix) (p .labels) e
+            ∙ ap (λ (q : Pair). matrixProduct F b (q .matrix)) (letter-reads F ts c p)
+            ∙ h .inverts .gives-identity
 
         reached : matrixProduct F b (p .matrix) ≡ back
         reached =

@@ -4,6 +4,7 @@ pub mod ShareLaws
 pub mod BraidRelations
 pub mod WordLaws
 pub mod GoodLaws
+pub mod ListsInverse
 pub mod CarryLaws
 pub mod ColumnLaws
 pub mod NamedLabels

@@ -1,6 +1,6 @@
 -- E-multiplication over any field in which a + a = 0: letters and words multiplied into a pair of a matrix and a list
--- of labels (source 003, in document 01's form). Rows, columns and places count from 0 here, so column g is the own
--- column of the letter with generator number g + 1.
+-- of labels, which carries the inverse list too (source 003, in document 01's form, and document 02 §5). Rows, columns
+-- and places count from 0 here, so column g is the own column of the letter with generator number g + 1.
 use Prim.Native.Nat.{ℕ, _+_}
 use mathlib.Core.Bool.{Bool, cond}
 use mathlib.Core.List.{List, [], _∷_}
@@ -11,7 +11,7 @@ use Rattle.matrix.specs.Layout.{entry, matrixOf}
 use Rattle.matrix.specs.Product.{identity}
 use Rattle.word.specs.Letters.{generator, isInverse}
 use Rattle.pair.specs.declared.Pair.{Pair}
-use Rattle.word.specs.Strands.{inOrder, swapped}
+use Rattle.word.specs.Strands.{inOrder, swapped, inverseList}
 
 -- The share of a letter: three functions of an entry of the letter's own column. `before` is what the column before
 -- gains, `own` is what the own column becomes, `after` is what the column after gains.
@@ -52,11 +52,12 @@ rowAfter F s g row c =
 abbrev pub rowsOn : Operations → Share → ℕ → List ℕ → List ℕ
 rowsOn F s g m = matrixOf (λ r. rowAfter F s g (entry m r))
 
+-- The pair of a matrix and a list. Its positions are the inverse list of the list.
 abbrev pub pairOf : List ℕ → List ℕ → Pair
-pairOf matrix labels = record { matrix = matrix; labels = labels }
+pairOf matrix labels = record { matrix = matrix; labels = labels; positions = inverseList labels }
 
 -- One letter multiplied into a pair. Every row changes by the letter's share. After either letter the labels at
--- positions i and i + 1 change places.
+-- positions i and i + 1 change places, and the positions follow.
 unfoldable pub letterOn : Operations → List ℕ → ℕ → Pair → Pair
 letterOn F ts c p =
     pairOf

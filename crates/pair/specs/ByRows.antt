@@ -9,9 +9,9 @@ use Rattle.word.specs.Strands.{swapped}
 use Rattle.pair.specs.declared.Pair.{Pair}
 use Rattle.pair.specs.Action.{shareOf, rowAfter, pairOf}
 
--- the change of layout of a pair: the matrix changes its layout, the list stays
+-- the change of layout of a pair: the matrix changes its layout, both lists stay
 unfoldable pub turnedPair : Pair → Pair
-turnedPair p = record { matrix = turned (p .matrix); labels = p .labels }
+turnedPair p = record { matrix = turned (p .matrix); labels = p .labels; positions = p .positions }
 
 -- one letter multiplied into a pair held by rows
 unfoldable pub letterByRows : Operations → List ℕ → ℕ → Pair → Pair

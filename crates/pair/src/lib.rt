@@ -1,6 +1,7 @@
 // Pairs, one letter on a pair, the braid relations.
 ghost use mathlib.Core.Path.{_≡_};
 ghost use lib.ListN.{length, getD};
+ghost use Rattle.word.specs.Strands.{inverseList};
 ghost use Rattle.pair.specs.Action.{pairOf, start};
 ghost use Rattle.pair.specs.PairQuestions.{zeroPair};
 
@@ -11,11 +12,13 @@ pub use letter::multiply_columns;
 pub use letter::one_letter;
 pub use questions::pair_answer;
 
-// A pair is an 8 by 8 matrix, stored column by column, and a list of eight labels.
+// A pair is an 8 by 8 matrix, stored column by column, a list of eight labels, and the inverse list: for each label,
+// its position in the list, counted from 1.
 #[repr(C)]
 pub struct Pair {
     pub matrix: [u8; 64],
     pub labels: [u8; 8],
+    pub positions: [u8; 8],
 }
 
 impl Pair {
@@ -28,7 +31,12 @@ impl Pair {
     pub fn with(matrix: [u8; 64], labels: [u8; 8]) -> Pair
         ensures { λ r. ⌜ r ≡ pairOf matrix labels ⌝ }
     {
-        Pair { matrix, labels }
+        let positions = positions_of(&labels);
+        Pair {
+            matrix,
+            labels,
+            positions,
+        }
     }
 
     // The pair of a refusal: all zeros.
@@ -37,7 +45,12 @@ impl Pair {
     {
         let matrix = [0u8; 64];
         let labels = [0u8; 8];
-        Pair { matrix, labels }
+        let positions = [0u8; 8];
+        Pair {
+            matrix,
+            labels,
+            positions,
+        }
     }
 
     // The starting pair is the identity matrix with the list 0 to 7.
@@ -55,6 +68,23 @@ impl Pair {
         matrix[63] = 1;
         Pair::with(matrix, [0, 1, 2, 3, 4, 5, 6, 7])
     }
+}
+
+// The inverse list: for each label 0 to 7, its position, counted from 1, or 0 for a label that is not in the list. A
+// label over 7 has no position.
+fn positions_of(labels: &[u8; 8]) -> [u8; 8]
+    ensures { λ r. ⌜ r ≡ inverseList (now (labels .entry)) ⌝ }
+{
+    let mut positions = [0u8; 8];
+    let mut i: u8 = 0;
+    while i < 8 {
+        let label = labels[i as usize];
+        if label < 8 {
+            positions[label as usize] = i + 1;
+        }
+        i += 1;
+    }
+    positions
 }
 
 // The T-value of a label, or 0 for a label over 7.

@@ -1,4 +1,5 @@
-// A word on a pair.
+// A word on a pair. These functions read a pair's matrix and list, and not its positions. The pair that they give has
+// the inverse list of its list.
 use field::Field;
 use field::LARGE_BITS;
 use field::LARGE_MODULUS;
@@ -17,7 +18,7 @@ ghost use Rattle.field.specs.steps.Reciprocals.{LentField};
 ghost use Rattle.field.specs.Fields.{operations};
 ghost use Rattle.word.specs.Letters.{isLetter};
 ghost use Rattle.word.specs.Words.{codes, wordAnswer};
-ghost use Rattle.pair.specs.Action.{wordOn};
+ghost use Rattle.pair.specs.Action.{pairOf, wordOn};
 ghost use Rattle.pair.specs.steps.Columns.{Held, Carried, PackedCarried, WholeCarried};
 
 mod held; // held.rt: a pair as the loop over letters holds it
@@ -115,7 +116,12 @@ fn row(
     modulus: u64,
 ) -> Pair
     requires { ⌜ LentField bits modulus (now table) × (every isLetter (now codes) ≡ true) ⌝ }
-    ensures { λ r. ⌜ r ≡ wordOn (polynomials bits modulus) (now («t_values» .entry)) (now (codes .entry)) pair ⌝ }
+    ensures { λ r.
+        ⌜
+        r
+        ≡ wordOn (polynomials bits modulus) (now («t_values» .entry)) (now (codes .entry))
+        (pairOf (pair .matrix) (pair .labels))
+        ⌝ }
 {
     let matrix = pair.matrix;
     let labels = pair.labels;
@@ -129,7 +135,11 @@ fn row(
 // Multiplies letters, one code to a byte, first to last, into the pair.
 pub fn carry_letters(pair: Pair, t_values: &[u8; 8], codes: &[u8], f: Field) -> Pair
     requires { ⌜ every isLetter (now codes) ≡ true ⌝ }
-    ensures { λ r. ⌜ r ≡ wordOn (operations f) (now («t_values» .entry)) (now (codes .entry)) pair ⌝ }
+    ensures { λ r.
+        ⌜
+        r
+        ≡ wordOn (operations f) (now («t_values» .entry)) (now (codes .entry)) (pairOf (pair .matrix) (pair .labels))
+        ⌝ }
 {
     match f {
         Field::Gf32 => {
@@ -160,7 +170,9 @@ fn packed(
         ⌝ }
     ensures { λ r.
         ⌜
-        r ≡ wordOn (polynomials bits modulus) (now («t_values» .entry)) (take n (halves (now (part .entry)))) pair
+        r
+        ≡ wordOn (polynomials bits modulus) (now («t_values» .entry)) (take n (halves (now (part .entry))))
+        (pairOf (pair .matrix) (pair .labels))
         ⌝ }
 {
     let matrix = pair.matrix;
@@ -175,7 +187,12 @@ fn packed(
 // Multiplies the letters of an accepted word file, first to last, into the pair.
 pub fn carry_file(pair: Pair, t_values: &[u8; 8], file: &[u8], f: Field) -> Pair
     requires { ⌜ wordAnswer (now file) ≡ 0 ⌝ }
-    ensures { λ r. ⌜ r ≡ wordOn (operations f) (now («t_values» .entry)) (codes (now (file .entry))) pair ⌝ }
+    ensures { λ r.
+        ⌜
+        r
+        ≡ wordOn (operations f) (now («t_values» .entry)) (codes (now (file .entry)))
+        (pairOf (pair .matrix) (pair .labels))
+        ⌝ }
 {
     let n = word::stated(file);
     let part = &file[2..];

@@ -1,8 +1,9 @@
 // Tests of T-values, entries and labels.
 ghost use mathlib.Core.Path.{_≡_};
 ghost use lib.Dec.{eqb, ltb};
+ghost use lib.ListN.{length};
 ghost use Rattle.base.specs.Lists.{every, count, values};
-ghost use Rattle.word.specs.Strands.{isOrder};
+ghost use Rattle.word.specs.Strands.{isOrder, areInverse};
 ghost use Rattle.pair_operands.specs.Operands.{nonzero};
 ghost use Rattle.pair_operands.specs.steps.Fitting.{fit};
 
@@ -76,4 +77,25 @@ pub fn is_order(labels: &[u8]) -> bool
         return false;
     }
     once_each(labels)
+}
+
+// Are a list and its positions inverse to each other? The test goes place by place: each label is below 8, and its
+// position is where it stands, counted from 1. Then no two labels are equal, so they are 0 to 7, each once.
+pub fn are_inverse(labels: &[u8], positions: &[u8]) -> bool
+    requires { ⌜ (length (now labels) ≡ 8) × (length (now positions) ≡ 8) ⌝ }
+    ensures { λ r. ⌜ r ≡ areInverse (now (labels .entry)) (now (positions .entry)) ⌝ }
+{
+    let mut i: u8 = 0;
+    while i < 8 {
+        let label = labels[i as usize];
+        if 8 <= label {
+            return false;
+        }
+        let position = positions[label as usize];
+        if position != i + 1 {
+            return false;
+        }
+        i += 1;
+    }
+    true
 }

@@ -1,7 +1,7 @@
 -- What cloaking says: yes exactly if the key, the list and the word are accepted and the identity matrix with the list
 -- comes back from the word unchanged, list included.
 use Prim.Native.Nat.{ℕ}
-use mathlib.Core.Path.{_≡_, sym, ap, _∙_}
+use mathlib.Core.Path.{_≡_, refl, sym, ap, _∙_}
 use mathlib.Core.Bool.{Bool, true, false, false≢true}
 use mathlib.Core.List.{List, _∷_}
 use mathlib.Core.Logic.{_↔_}
@@ -12,26 +12,31 @@ use Rattle.base.proofs.ListLaws.{and-left, and-right, and-both, equal-true, equ
 use Rattle.field.specs.Binary.{Operations}
 use Rattle.field.specs.Fields.{operations}
 use Rattle.word.specs.Words.{codes, wordQuestions, wordAnswer}
+use Rattle.word.specs.Strands.{inverseList}
 use Rattle.pair.specs.declared.Pair.{Pair}
 use Rattle.pair.specs.Action.{wordOn, identityWith}
+use Rattle.pair.proofs.WordLaws.{positions-follow}
 use Rattle.key.specs.Keys.{keyField, keyQuestions, keyAnswer, keyOf}
 use Rattle.slip_cloaking.specs.Cloaking.{samePair, comesBack, isList, cloakQuestions, Cloaks}
 use Rattle.slip_cloaking.proofs.CloakLaws.{past-list}
 
--- the comparison of pairs says yes exactly if matrix and list are equal
-same-pair : (p q : Pair) → samePair p q ≡ true → p ≡ q
+-- The comparison of pairs looks at matrix and list. It says yes exactly if the pairs are equal, where the positions of
+-- both are the inverse lists.
+same-pair : (p q : Pair) → p .positions ≡ inverseList (p .labels) → q .positions ≡ inverseList (q .labels)
+    → samePair p q ≡ true → p ≡ q
 unfolding samePair
-same-pair p q e =
+same-pair p q ip iq e =
     let m =
     equal-true (p .matrix) (q .matrix) (and-left (equal (p .matrix) (q .matrix)) (equal (p .labels) (q .labels)) e) in
     let l =
     equal-true (p .labels) (q .labels) (and-right (equal (p .matrix) (q .matrix)) (equal (p .labels) (q .labels)) e) in
-    λ j. record { matrix = m j; labels = l j }
+    λ j. record { matrix = m j; labels = l j; positions = (ip ∙ ap inverseList l ∙ sym iq) j }
 
-pub same-pair-iff : (p q : Pair) → (samePair p q ≡ true) ↔ (p ≡ q)
+pub same-pair-iff : (p q : Pair) → p .positions ≡ inverseList (p .labels) → q .positions ≡ inverseList (q .labels)
+    → (samePair p q ≡ true) ↔ (p ≡ q)
 unfolding samePair
-same-pair-iff p q = (
-  same-pair p q,
+same-pair-iff p q ip iq = (
+  same-pair p q ip iq,
   λ e. and-both (equal-of (ap (λ (r : Pair). r .matrix) e)) (equal-of (ap (λ (r : Pair). r .labels) e)),
 )
 
@@ -39,7 +44,9 @@ same-pair-iff p q = (
 pub comes-back-iff : (F : Operations) (ts labels w : List ℕ)
     → (comesBack F ts labels w ≡ true) ↔ (wordOn F ts w (identityWith labels) ≡ identityWith labels)
 unfolding comesBack
-comes-back-iff F ts labels w = same-pair-iff (wordOn F ts w (identityWith labels)) (identityWith labels)
+comes-back-iff F ts labels w =
+    same-pair-iff (wordOn F ts w (identityWith labels)) (identityWith labels)
+    (positions-follow F ts w (identityWith labels) refl) refl
 
 module _ (key labels word : List ℕ) where
   -- the pair that comes back under the key, over its own field

@@ -14,7 +14,7 @@ use Rattle.word.proofs.LetterLaws.{Lettered, lettered-cons}
 use Rattle.pair.specs.declared.Pair.{Pair}
 use Rattle.pair.specs.Action.{pairOf, identityWith, letterOn, wordOn}
 use Rattle.pair.specs.Good.{GoodPair}
-use Rattle.pair.proofs.BraidRelations.{good-matrix}
+use Rattle.pair.proofs.BraidRelations.{good-matrix, good-pair}
 use Rattle.pair.proofs.LinearLaws.{letter-product}
 use Rattle.pair.proofs.WordLaws.{wordOn-append, codes-good}
 use Rattle.slip_insertion.specs.Insertion.{insertedAt}
@@ -39,10 +39,12 @@ module _ {F : Operations} (L : BinaryField F) (ts : List ℕ) where
       let m : List ℕ = p .matrix in
       let labels : List ℕ = p .labels in
       let one : matrixProduct F m identity ≡ m = identity-right L m (good-matrix good) in
-      ap (λ (t : List ℕ). wordOn F ts w (pairOf t labels)) (sym one)
+      sym (ap (wordOn F ts w) (good-pair good))
+      ∙ ap (λ (t : List ℕ). wordOn F ts w (pairOf t labels)) (sym one)
       ∙ word-product w m identity labels e
       ∙ ap (λ (q : Pair). pairOf (matrixProduct F m (q .matrix)) (q .labels)) back
       ∙ ap (λ (t : List ℕ). pairOf t labels) one
+      ∙ good-pair good
 
   -- a word v brings back the list that w reaches from p at a place: with v inserted there, w carries p where it did
   pub inserted-carries : (place : ℕ) (v w : List ℕ) → Lettered v → (p : Pair) → GoodPair F p

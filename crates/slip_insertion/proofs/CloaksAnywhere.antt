@@ -25,7 +25,7 @@ use Rattle.word.proofs.RoundTrip.{codes-wordFile, wordFile-accepted, wrote-file
 use Rattle.pair.specs.declared.Pair.{Pair}
 use Rattle.pair.specs.Action.{identityWith, wordOn}
 use Rattle.pair.specs.Good.{GoodPair}
-use Rattle.pair.proofs.GoodLaws.{order-below}
+use Rattle.word.proofs.PositionLaws.{order-below}
 use Rattle.word.specs.Strands.{isOrder}
 use Rattle.key.specs.Keys.{keyField, keyAnswer, keyOf}
 use Rattle.key.proofs.KeyFacts.{key-values, key-pair}
@@ -56,6 +56,7 @@ list-good {key} {labels} c =
       entry-below = one .below;
       strands = eqb-true (length labels) 8 (and-left (eqb (length labels) 8) (isOrder labels) (c .list-accepted));
       label-below = order-below labels (and-right (eqb (length labels) 8) (isOrder labels) (c .list-accepted));
+      positions-are = refl;
     }
 
 -- ---- a word inserted

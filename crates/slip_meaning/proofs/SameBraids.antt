@@ -8,6 +8,7 @@ use mathlib.Core.List.{List}
 use lib.ListN.{length}
 use Rattle.base.specs.Questions.{firstNo}
 use Rattle.base.specs.Lists.{valuesFrom}
+use Rattle.field.specs.Binary.{Operations, BinaryField}
 use Rattle.field.specs.Fields.{operations}
 use Rattle.field.specs.declared.Field.{Field}
 use Rattle.field.proofs.Fields.{binary}
@@ -15,8 +16,12 @@ use Rattle.word.specs.Words.{codes, wordAnswer, wordFile}
 use Rattle.word.specs.Strands.{inOrder, isOrder}
 use Rattle.word.proofs.ReadLaws.{accepted-word}
 use Rattle.word.proofs.RoundTrip.{wordFile-accepted, codes-wordFile}
+use Rattle.word.proofs.PositionLaws.{order-inverse}
+use Rattle.pair.specs.declared.Pair.{Pair}
 use Rattle.pair.specs.Action.{pairOf, wordOn}
+use Rattle.pair.specs.Good.{TValues, GoodPair}
 use Rattle.pair.proofs.GoodLaws.{tested-pair, tested-values}
+use Rattle.pair.proofs.WordLaws.{matrix-alone, list-alone}
 use Rattle.word_crossing.specs.Crossings.{crossings}
 use Rattle.pair_operands.specs.Operands.{elements, nonzero}
 use Rattle.braid_same.specs.SameBraid.{SameBraid}
@@ -78,7 +83,19 @@ pub carried-alike : {word new : List ℕ} → SameMeaning word new → (f : Fiel
     → wordOn (operations f) ts (codes new) (pairOf m labels) ≡ wordOn (operations f) ts (codes word) (pairOf m labels)
 carried-alike s f ts m labels l e n lm em lo o =
     s .carried (operations f) (binary f) ts (tested-values f ts l e n) (pairOf m labels)
-    (tested-pair f (pairOf m labels) lm lo em o)
+    (tested-pair f (pairOf m labels) lm lo em (order-inverse labels o))
+
+-- Whatever positions a pair has, both words take its matrix and list to the same matrix and list.
+pub any-positions : {word new : List ℕ} → SameMeaning word new → (F : Operations) → BinaryField F → (ts : List ℕ)
+    → TValues F ts
+    → (p : Pair) → GoodPair F (pairOf (p .matrix) (p .labels))
+    → (wordOn F ts (codes new) p .matrix ≡ wordOn F ts (codes word) p .matrix)
+    × (wordOn F ts (codes new) p .labels ≡ wordOn F ts (codes word) p .labels)
+any-positions {word} {new} s F L ts tv p good =
+    let e = s .carried F L ts tv (pairOf (p .matrix) (p .labels)) good in (
+      sym (matrix-alone F ts (codes new) p) ∙ ap (λ (q : Pair). q .matrix) e ∙ matrix-alone F ts (codes word) p,
+      sym (list-alone F ts (codes new) p) ∙ ap (λ (q : Pair). q .labels) e ∙ list-alone F ts (codes word) p,
+    )
 
 -- from the starting list, the signed number of crossings of every two labels is the same in both words
 pub crossings-alike : {word new : List ℕ} → SameMeaning word new → (a b : ℕ)

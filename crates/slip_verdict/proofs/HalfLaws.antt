@@ -10,7 +10,7 @@ use Rattle.base.proofs.QuestionLaws.{passes, fails, passed-answers, answers-pas
 use Rattle.base.proofs.QuestionLaws.{granted-zero, granted-refused}
 use Rattle.base.proofs.ListLaws.{and-left, and-right, and-both}
 use Rattle.field.specs.Fields.{operations}
-use Rattle.word.specs.Strands.{isOrder}
+use Rattle.word.specs.Strands.{areInverse}
 use Rattle.matrix.specs.Layout.{entry}
 use Rattle.matrix.specs.Elimination.{invertible}
 use Rattle.pair_operands.specs.Operands.{elements, nonzero}
@@ -70,7 +70,7 @@ module _ (h : Half) where
     pub pair-elements : elements (h .field) (h .pair .matrix) ≡ true
     pub target-elements : elements (h .field) (h .target) ≡ true
     pub no-zero : nonzero (h .«t_values») ≡ true
-    pub order : isOrder (h .pair .labels) ≡ true
+    pub inverse-lists : areInverse (h .pair .labels) (h .pair .positions) ≡ true
     pub pair-inverse : invertible (operations (h .field)) 8 (entry (h .pair .matrix)) ≡ true
     pub target-inverse : invertible (operations (h .field)) 8 (entry (h .target)) ≡ true
 
@@ -86,7 +86,7 @@ module _ (h : Half) where
         pair-elements = and-right (elements f (h .«t_values»)) (elements f (h .pair .matrix)) e;
         target-elements = and-right two (elements f (h .target)) (p .0);
         no-zero = p .1 .0;
-        order = p .1 .1 .0;
+        inverse-lists = p .1 .1 .0;
         pair-inverse =
             and-left (invertible (operations f) 8 (entry (h .pair .matrix)))
             (invertible (operations f) 8 (entry (h .target))) i;
@@ -99,7 +99,7 @@ module _ (h : Half) where
   accepted-answers a =
       passed-answers (halfQuestions h) (
         and-both (and-both (a .ts-elements) (a .pair-elements)) (a .target-elements),
-        (a .no-zero, (a .order, (and-both (a .pair-inverse) (a .target-inverse), tt))),
+        (a .no-zero, (a .inverse-lists, (and-both (a .pair-inverse) (a .target-inverse), tt))),
       )
 
   -- its T-values and its pair, as the laws of pairs ask them
@@ -107,7 +107,7 @@ module _ (h : Half) where
   half-values s a = tested-values (h .field) (h .«t_values») (s .values) (a .ts-elements) (a .no-zero)
 
   pub half-pair : Sized h → Accepted → GoodPair (operations (h .field)) (h .pair)
-  half-pair s a = tested-pair (h .field) (h .pair) (s .entries) (s .labels) (a .pair-elements) (a .order)
+  half-pair s a = tested-pair (h .field) (h .pair) (s .entries) (s .labels) (a .pair-elements) (a .inverse-lists)
 
   module _ (word : List ℕ) where
     -- a half that fails a question is answered with its number, whatever the word

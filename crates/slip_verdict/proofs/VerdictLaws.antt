@@ -7,20 +7,22 @@ use Rattle.field.specs.Binary.{Operations}
 use Rattle.field.specs.Fields.{operations}
 use Rattle.matrix.specs.Product.{matrixProduct}
 use Rattle.pair.specs.declared.Pair.{Pair}
-use Rattle.pair.specs.Action.{wordOn, start}
+use Rattle.pair.specs.Action.{pairOf, wordOn, start}
 use Rattle.pair.specs.Good.{GoodPair}
+use Rattle.pair.proofs.WordLaws.{matrix-alone}
 use Rattle.key.specs.declared.Key.{Key}
 use Rattle.slip_digest.specs.Digest.{encoded}
 use Rattle.slip_verdict.specs.declared.Half.{Half}
 use Rattle.slip_verdict.specs.Verdict.{signedOver, targetOver, target}
 use Rattle.slip_verdict.specs.Halves.{signedBy}
 
--- the matrix of the pair that the word reaches
+-- the matrix of the pair that the word reaches from the half's matrix and list
 pub signed-is : (h : Half) (w : List ℕ) (reached : Pair)
-    → reached ≡ wordOn (operations (h .field)) (h .«t_values») w (h .pair)
+    → reached ≡ wordOn (operations (h .field)) (h .«t_values») w (pairOf (h .pair .matrix) (h .pair .labels))
     → reached .matrix ≡ signedBy h w
 unfolding signedOver
-signed-is h w reached e = ap (λ (p : Pair). p .matrix) e
+signed-is h w reached e =
+    ap (λ (p : Pair). p .matrix) e ∙ matrix-alone (operations (h .field)) (h .«t_values») w (h .pair)
 
 -- two words that carry each good pair alike reach the same matrix
 pub signed-alike : {F : Operations} (ts v w : List ℕ)

@@ -24,10 +24,11 @@ use Rattle.pair_operands.specs.Operands.{elements}
 use Rattle.pair.specs.Action.{wordOn, start}
 use Rattle.pair.specs.Good.{TValues, GoodPair}
 use Rattle.pair.proofs.BraidRelations.{good-matrix}
-use Rattle.pair.proofs.GoodLaws.{order-below}
+use Rattle.word.proofs.PositionLaws.{order-below, order-inverse}
 use Rattle.pair.proofs.WordLaws.{codes-good}
 use Rattle.pair.proofs.InvertibleWords.{word-invertible}
-use Rattle.key.specs.Keys.{keyField, firstBytes, secondBytes, entries, wholeMatrix, keyQuestions, keyAnswer, keyOf}
+use Rattle.key.specs.Keys.{keyField, keyLabels, firstBytes, secondBytes, entries, wholeMatrix, keyQuestions}
+use Rattle.key.specs.Keys.{keyAnswer, keyOf}
 use Rattle.key.proofs.KeyFacts as key-facts
 use Rattle.slip_digest.specs.Digest.{digestQuestions, encoded}
 use Rattle.slip_digest.proofs.Encoded.{encoded-letters}
@@ -43,7 +44,13 @@ start-good : (f : Field) → GoodPair (operations f) start
 unfolding start tally every eachOnce valuesFrom
 start-good f =
     let m = identity-elements (binary f) in
-    record { entries = m .size; entry-below = m .below; strands = refl; label-below = order-below inOrder refl }
+    record {
+      entries = m .size;
+      entry-below = m .below;
+      strands = refl;
+      label-below = order-below inOrder refl;
+      positions-are = refl;
+    }
 
 -- what a digest's braid reaches from the identity has an inverse, under T-values other than zero, and so has its
 -- product with a matrix that has one
@@ -78,7 +85,7 @@ module _ (key digest : List ℕ) (k : keyAnswer key ≡ 0) where
         pair-elements = tested f first (key-facts.matrix-good f (firstBytes (bits f) key));
         target-elements = tested f _ (product-elements (binary f) _ second);
         no-zero = a .no-zero;
-        order = a .is-order;
+        inverse-lists = order-inverse (keyLabels (bits f) key) (a .is-order);
         pair-inverse =
             and-left (invertible (operations f) 8 (entry first))
             (invertible (operations f) 8 (entry second)) (a .inverses);

@@ -8,7 +8,7 @@ use mathlib.Core.List.{List, [], _∷_}
 use native.Mathlib.Omega.{arith}
 use lib.ListN.{length, getD, replicate}
 use Rattle.base.specs.Questions.{_else_, firstNo}
-use Rattle.base.specs.Lists.{valuesFrom, every, Bytes, tally, eachOnce}
+use Rattle.base.specs.Lists.{valuesFrom, every, Bytes, tally, equal, eachOnce}
 use Rattle.base.specs.Digits.{value, halves}
 use Rattle.base.proofs.QuestionLaws.{fails, all-passed, granted-refused}
 use Rattle.base.proofs.ListLaws.{and-false, equal-of, equal-false}
@@ -22,7 +22,7 @@ use Rattle.matrix.specs.Layout.{place, rowOf, columnOf, entry, matrixOf}
 use Rattle.matrix.specs.Product.{identity}
 use Rattle.matrix.specs.Elimination.{invertible}
 use Rattle.matrix.proofs.Invertible.{identity-invertible, zero-not-invertible}
-use Rattle.word.specs.Strands.{swapped}
+use Rattle.word.specs.Strands.{isOrder, swapped, inverseList, lastPosition}
 use Rattle.word.specs.Words.{codes, filler, wordAnswer}
 use Rattle.pair_operands.specs.Operands.{elements, nonzero}
 use Rattle.pair.specs.Action.{pairOf, tValue, shareOf, rowAfter, letterOn, wordOn}
@@ -51,6 +51,7 @@ pub record Held (h : Half) : Type 0 where
   pub t-values : Array 8 (h .«t_values»)
   pub matrix : Array 64 (h .pair .matrix)
   pub labels : Array 8 (h .pair .labels)
+  pub positions : Array 8 (h .pair .positions)
   pub target : Array 64 (h .target)
 
 -- ---- halves with the T-values 1 1 2 3 4 5 6 7 and the identity matrix
@@ -58,9 +59,11 @@ pub record Held (h : Half) : Type 0 where
 abbrev halfWith : Field → List ℕ → List ℕ → Half
 halfWith f labels target = record { field = f; «t_values» = plain; pair = pairOf identity labels; target = target }
 
-held : (f : Field) (labels target : List ℕ) → Array 8 labels → Array 64 target → Held (halfWith f labels target)
+held : (f : Field) (labels target : List ℕ) → Array 8 labels → Array 8 (inverseList labels) → Array 64 target
+    → Held (halfWith f labels target)
 unfolding every identity matrixOf valuesFrom rowOf columnOf
-held f labels target l t = record { t-values = (refl, refl); matrix = (refl, refl); labels = l; target = t }
+held f labels target l p t =
+    record { t-values = (refl, refl); matrix = (refl, refl); labels = l; positions = p; target = t }
 
 abbrev ordered : List ℕ
 ordered = 0 ∷ 1 ∷ 2 ∷ 3 ∷ 4 ∷ 5 ∷ 6 ∷ 7 ∷ []
@@ -70,8 +73,8 @@ abbrev blank : Half
 blank = halfWith Gf32 ordered (replicate 64 0)
 
 blank-held : Held blank
-unfolding every
-blank-held = held Gf32 _ _ (refl, refl) (refl, refl)
+unfolding every inverseList lastPosition valuesFrom
+blank-held = held Gf32 _ _ (refl, refl) (refl, refl) (refl, refl)
 
 no-inverse : bothInvertible Gf32 identity (replicate 64 0) ≡ false
 no-inverse =
@@ -79,7 +82,7 @@ no-inverse =
     ∙ and-false (invertible (operations Gf32) 8 (entry identity))
 
 blank-26 : (word : List ℕ) → firstNo (secondHalfQuestions blank word) ≡ 26
-unfolding firstNo every tally eachOnce identity matrixOf valuesFrom rowOf columnOf
+unfolding firstNo every tally equal eachOnce identity matrixOf valuesFrom rowOf columnOf inverseList lastPosition
 blank-26 word =
     let e : firstNo (halfQuestions blank) ≡ 26 =
     all-passed (pairQuestions Gf32 plain (blank .pair) (blank .target))
@@ -92,20 +95,45 @@ abbrev twice : Half
 twice = halfWith Gf32 (0 ∷ 0 ∷ 2 ∷ 3 ∷ 4 ∷ 5 ∷ 6 ∷ 7 ∷ []) (replicate 64 0)
 
 twice-held : Held twice
-unfolding every
-twice-held = held Gf32 _ _ (refl, refl) (refl, refl)
+unfolding every inverseList lastPosition valuesFrom
+twice-held = held Gf32 _ _ (refl, refl) (refl, refl) (refl, refl)
 
 twice-6 : (word : List ℕ) → firstNo (secondHalfQuestions twice word) ≡ 6
-unfolding firstNo every tally eachOnce identity matrixOf valuesFrom rowOf columnOf
+unfolding firstNo every tally equal eachOnce identity matrixOf valuesFrom rowOf columnOf inverseList lastPosition
 twice-6 word = refl
+
+-- the list 0 to 7, with the positions of a list that begins with labels 1 and 0
+abbrev stale : Half
+stale =
+    record {
+      field = Gf32;
+      «t_values» = plain;
+      pair = record { matrix = identity; labels = ordered; positions = 2 ∷ 1 ∷ 3 ∷ 4 ∷ 5 ∷ 6 ∷ 7 ∷ 8 ∷ [] };
+      target = identity;
+    }
+
+stale-held : Held stale
+unfolding every identity matrixOf valuesFrom rowOf columnOf
+stale-held =
+    record {
+      t-values = (refl, refl);
+      matrix = (refl, refl);
+      labels = (refl, refl);
+      positions = (refl, refl);
+      target = (refl, refl);
+    }
+
+stale-6 : (word : List ℕ) → firstNo (secondHalfQuestions stale word) ≡ 6
+unfolding firstNo every tally equal eachOnce identity matrixOf valuesFrom rowOf columnOf inverseList lastPosition
+stale-6 word = refl
 
 -- a target whose first entry is 32
 abbrev over : Half
 over = halfWith Gf32 ordered (32 ∷ replicate 63 0)
 
 over-held : Held over
-unfolding every
-over-held = held Gf32 _ _ (refl, refl) (refl, refl)
+unfolding every inverseList lastPosition valuesFrom
+over-held = held Gf32 _ _ (refl, refl) (refl, refl) (refl, refl)
 
 over-17 : (word : List ℕ) → firstNo (secondHalfQuestions over word) ≡ 17
 unfolding firstNo every identity matrixOf valuesFrom rowOf columnOf
@@ -138,7 +166,7 @@ unfolding every
 values = tested-values Gf256 plain refl refl refl
 
 begun : GoodPair (operations Gf256) (pairOf identity ordered)
-unfolding every tally eachOnce identity matrixOf valuesFrom rowOf columnOf
+unfolding every tally equal eachOnce identity matrixOf valuesFrom rowOf columnOf inverseList lastPosition
 begun = tested-pair Gf256 (pairOf identity ordered) refl refl refl refl
 
 good : GoodPair (operations Gf256) (wordOn (operations Gf256) plain six (pairOf identity ordered))
@@ -148,11 +176,11 @@ large-elements : elements Gf256 (reached Gf256) ≡ true
 large-elements = below-all 256 (reached Gf256) (λ k h. good .entry-below k)
 
 large-held : Held large
-unfolding every
-large-held = held Gf256 ordered (reached Gf256) (refl, refl) (good .entries, large-elements)
+unfolding every inverseList lastPosition valuesFrom
+large-held = held Gf256 ordered (reached Gf256) (refl, refl) (refl, refl) (good .entries, large-elements)
 
 large-passed : firstNo (halfQuestions large) ≡ 0
-unfolding every tally eachOnce valuesFrom identity matrixOf rowOf columnOf
+unfolding every tally equal eachOnce valuesFrom identity matrixOf rowOf columnOf inverseList lastPosition
 large-passed =
     accepted-answers large
     (record {
@@ -160,7 +188,7 @@ large-passed =
       pair-elements = refl;
       target-elements = large-elements;
       no-zero = refl;
-      order = refl;
+      inverse-lists = refl;
       pair-inverse = identity-invertible (binary Gf256);
       target-inverse =
           word-invertible (binary Gf256) plain values six refl (pairOf identity ordered) begun
@@ -204,7 +232,7 @@ module _ (f : Half → List ℕ → ℕ)
       → firstNo (pairQuestions (h .field) (h .«t_values») (h .pair) (h .target)) ≡ 0
       → invertible (operations (h .field)) 8 (entry (h .pair .matrix)) ≡ true
       → wordAnswer word ≡ 0 → (f h word ≡ 26 → ⊥)) → ⊥
-  unfolding firstNo every tally eachOnce identity matrixOf valuesFrom rowOf columnOf
+  unfolding firstNo every tally equal eachOnce identity matrixOf valuesFrom rowOf columnOf inverseList lastPosition
   no-target-without-inverse wrong =
       wrong blank emptyWord blank-held refl refl (identity-invertible (binary Gf32)) empty-accepted
       (right blank emptyWord blank-held refl ∙ blank-26 emptyWord)
@@ -223,6 +251,13 @@ module _ (f : Half → List ℕ → ℕ)
         right twice emptyWord twice-held refl,
         twice-6 emptyWord,
       )
+
+  -- its 6 looks at the labels alone
+  pub no-6-of-labels-alone : ((h : Half) (word : List ℕ) → Held h → Bytes word → isOrder (h .pair .labels) ≡ true
+      → (f h word ≡ 6 → ⊥)) → ⊥
+  unfolding every tally eachOnce valuesFrom
+  no-6-of-labels-alone wrong =
+      wrong stale emptyWord stale-held refl refl (right stale emptyWord stale-held refl ∙ stale-6 emptyWord)
 
   -- it gives 17 for T-values and Pub(S) alone
   pub no-17-without-target : ((h : Half) (word : List ℕ) → Held h → Bytes word

@@ -8,7 +8,7 @@ use mathlib.Core.List.{List, [], _∷_, _++_}
 use native.Mathlib.Omega.{arith}
 use lib.ListN.{length, replicate}
 use Rattle.base.specs.Questions.{firstNo}
-use Rattle.base.specs.Lists.{valuesFrom, every, Bytes, eachOnce, tally}
+use Rattle.base.specs.Lists.{valuesFrom, every, Bytes, equal, eachOnce, tally}
 use Rattle.base.specs.Digits.{value, digits, halves}
 use Rattle.base.specs.Packing.{unpackedRow, rowFiller}
 use Rattle.field.specs.Polynomial.{timesX, horner, times}
@@ -19,7 +19,7 @@ use Rattle.field.proofs.Fields.{binary}
 use Rattle.word.specs.Words.{codes, filler, wordAnswer}
 use Rattle.matrix.specs.Layout.{place, rowOf, columnOf, entry, matrixOf}
 use Rattle.matrix.specs.Product.{identity, matrixProduct}
-use Rattle.word.specs.Strands.{swapped}
+use Rattle.word.specs.Strands.{swapped, inverseList, lastPosition}
 use Rattle.pair.specs.Action.{tValue, shareOf, rowAfter, letterOn, wordOn, start}
 use Rattle.pair.specs.Good.{GoodPair}
 use Rattle.pair.proofs.GoodLaws.{tested-pair}
@@ -122,7 +122,7 @@ unfolding signedOver wordOn value halves codes start
 empty-signed = ap (λ (k : Key). k .pair .matrix) key-is
 
 good : GoodPair gf32 (wordOn gf32 plain sevenCodes start)
-unfolding every valuesFrom tally eachOnce identity start rowOf columnOf matrixOf
+unfolding every valuesFrom tally equal eachOnce identity start rowOf columnOf matrixOf inverseList lastPosition
 good = codes-good (binary Gf32) plain sevenCodes start (tested-pair Gf32 start refl refl refl refl)
 
 zero-target : target (keyOf plainKey) zeroDigest ≡ reached

@@ -1,1 +1,2 @@
 pub mod OldPromises
+pub mod PairsInverse

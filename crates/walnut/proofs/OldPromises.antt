@@ -3,7 +3,7 @@
 -- about a digest that does not have 64 bytes. For keys see OldKeys in key, for verdicts OldSlips in
 -- slip_verdict, for cloaking OldCloaks in slip_cloaking, for the desk old-input in desk_line.
 use Prim.Native.Nat.{ℕ}
-use mathlib.Core.Path.{_≡_, refl, ap, _∙_}
+use mathlib.Core.Path.{_≡_, refl, ap, ap₂, _∙_}
 use mathlib.Core.Bool.{Bool, not, _&&_, _||_}
 use mathlib.Core.List.{List, [], _∷_}
 use borrow.Author.Tests.{ne-eqb}
@@ -11,15 +11,15 @@ use lib.Dec.{ltb, eqb}
 use lib.ListN.{length}
 use Rattle.base.specs.Questions.{_else_, firstNo}
 use Rattle.base.specs.Lists.{every}
-use Rattle.base.proofs.ListLaws.{and-true}
+use Rattle.base.proofs.ListLaws.{and-true, equal-refl}
 use Rattle.field.specs.Polynomial.{polynomials}
 use Rattle.field.specs.Fields.{operations}
 use Rattle.field.specs.Elements.{productQuestions, reciprocalQuestions}
 use Rattle.field.specs.declared.Field.the-variants.{Gf32}
 use Rattle.word.specs.Letters.{isLetter}
-use Rattle.word.specs.Strands.{isOrder}
+use Rattle.word.specs.Strands.{isOrder, inverseList}
 use Rattle.word.specs.Words.{roomQuestion}
-use Rattle.pair.specs.declared.Pair.{Pair}
+use Rattle.pair.specs.Action.{pairOf}
 use Rattle.pair_multiplier.specs.Multiplier.{multiplierQuestions}
 use Rattle.key.proofs.OldKeys.{or-false}
 use Rattle.slip_digest.specs.Digest.{encoderQuestions}
@@ -33,18 +33,19 @@ old-product a b = refl
 pub old-reciprocal : (a : ℕ) → reciprocalQuestions Gf32 a ≡ (ltb a 32 else 17) ∷ (not (eqb a 0) else 4) ∷ []
 old-reciprocal a = refl
 
-pub old-multiplier : (p : Pair) (ts : List ℕ) (c : ℕ)
-    → multiplierQuestions Gf32 p ts c
-    ≡ (every (λ x. ltb x 32) ts && every (λ x. ltb x 32) (p .matrix) else 17)
+-- A pair of document 01 is a matrix and a list, so this is about a pair whose positions are the inverse list.
+pub old-multiplier : (m labels ts : List ℕ) (c : ℕ)
+    → multiplierQuestions Gf32 (pairOf m labels) ts c
+    ≡ (every (λ x. ltb x 32) ts && every (λ x. ltb x 32) m else 17)
     ∷ (every (λ t. not (eqb t 0)) ts else 4)
-    ∷ (isOrder (p .labels) else 6)
+    ∷ (isOrder labels else 6)
     ∷ (isLetter c else 12)
     ∷ []
 unfolding every
-old-multiplier p ts c =
-    ap (λ (b : Bool). (b else 17) ∷ (every (λ t. not (eqb t 0)) ts else 4) ∷ (isOrder (p .labels) else 6)
-    ∷ (isLetter c else 12) ∷ [])
-    (and-true (every (λ x. ltb x 32) ts && every (λ x. ltb x 32) (p .matrix)))
+old-multiplier m labels ts c =
+    ap₂ (λ (a b : Bool). (a else 17) ∷ (every (λ t. not (eqb t 0)) ts else 4) ∷ (b else 6) ∷ (isLetter c else 12) ∷ [])
+    (and-true (every (λ x. ltb x 32) ts && every (λ x. ltb x 32) m))
+    (ap (λ (b : Bool). isOrder labels && b) (equal-refl (inverseList labels)) ∙ and-true (isOrder labels))
 
 pub old-encoder : (room : ℕ) (digest : List ℕ) → (length digest ≡ 64 → ⊥)
     → firstNo (encoderQuestions room digest) ≡ firstNo (roomQuestion room ∷ (eqb (length digest) 32 else 8) ∷ [])

@@ -10,6 +10,7 @@ pub mod CancellationLaws
 pub mod WrongPrograms
 pub mod WordSlips
 pub mod StrandLaws
+pub mod PositionLaws
 pub mod ExponentLaws
 pub mod SixteenCodes
 pub mod PackedCodes

@@ -1,10 +1,11 @@
--- Lists of labels, which document 01 calls strand orders: the label at each of the eight places, and how a letter
--- changes the list. Places count from 0; the paper's positions count from 1.
-use Prim.Native.Nat.{ℕ, _+_}
-use mathlib.Core.Bool.{Bool}
+-- Lists of labels, which document 01 calls strand orders: the label at each of the eight places, the position of each
+-- label, and how a letter changes the list. Places count from 0. Positions count from 1, as in the paper.
+use Prim.Native.Nat.{ℕ, zero, suc, _+_}
+use mathlib.Core.Bool.{Bool, cond, _&&_}
 use mathlib.Core.List.{List, [], _∷_}
+use lib.Dec.{eqb}
 use lib.ListN.{getD, set}
-use Rattle.base.specs.Lists.{values, eachOnce}
+use Rattle.base.specs.Lists.{values, equal, eachOnce}
 use Rattle.word.specs.Letters.{generator}
 
 -- the starting list, 0 to 7
@@ -14,6 +15,20 @@ inOrder = values (λ a. a) 8
 -- is the list 0 to 7, each once?
 abbrev pub isOrder : List ℕ → Bool
 isOrder labels = eachOnce 8 labels
+
+-- The last of the first n positions of a list at which label a stands. Without such a position it is 0.
+unfoldable pub lastPosition : List ℕ → ℕ → ℕ → ℕ
+lastPosition labels a zero = 0
+lastPosition labels a (suc n) = cond (eqb (getD labels n 0) a) (suc n) (lastPosition labels a n)
+
+-- the inverse list of eight labels: for each label 0 to 7, its position, or 0 for a label that is not in the list
+unfoldable pub inverseList : List ℕ → List ℕ
+inverseList labels = values (λ a. lastPosition labels a 8) 8
+
+-- Are a list and its positions inverse to each other? The list is 0 to 7, each once, and the positions are its inverse
+-- list.
+abbrev pub areInverse : List ℕ → List ℕ → Bool
+areInverse labels positions = isOrder labels && equal positions (inverseList labels)
 
 -- the labels at places g and g + 1 change places
 unfoldable pub swapped : ℕ → List ℕ → List ℕ

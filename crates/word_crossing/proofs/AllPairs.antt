@@ -5,12 +5,12 @@ use mathlib.Core.Path.{_≡_, refl, sym, ap, ap₂, _∙_}
 use mathlib.Core.Bool.{Bool, true, false, cond}
 use mathlib.Core.List.{List, [], _∷_}
 use native.Mathlib.Omega.{arith}
-use borrow.Author.Tests.{ne-eqb, eqb-true, ltb-true}
-use lib.Dec.{eqb, ltb}
+use borrow.Author.Tests.{ne-eqb, eqb-true}
+use lib.Dec.{eqb}
 use lib.ListN.{length, getD}
 use lib.IntN.{ℤ, pos, _+ℤ_, _-ℤ_}
 use Rattle.base.specs.Lists.{every, count, values, valuesFrom, eachOnce, tally}
-use Rattle.base.proofs.ListLaws.{every-values, every-all, and-left, and-right}
+use Rattle.base.proofs.ListLaws.{every-values}
 use Rattle.word.specs.Letters.{isPositive, isInverse, generator}
 use Rattle.word.specs.Exponent.{exponentSum}
 use Rattle.word.specs.Strands.{inOrder, isOrder, swapped}
@@ -19,6 +19,7 @@ use Rattle.word.proofs.LetterLaws.{Lettered, lettered-cons, generator-below}
 use Rattle.word.proofs.ReadLaws.{accepted-word}
 use Rattle.word.proofs.ExponentLaws.{differences-add}
 use Rattle.word.proofs.StrandLaws.{count-swapped, neighbours-differ}
+use Rattle.word.proofs.PositionLaws.{order-below, order-once}
 use Rattle.word_crossing.specs.Crossings.{Two, both, swaps, swapping, crossingsFrom, crossings, withEach}
 use Rattle.word_crossing.specs.Crossings.{pairsFrom, allPairs, together}
 use Rattle.word_crossing.specs.steps.Counting.{Labelled}
@@ -116,25 +117,10 @@ module _ (f : ℕ → Bool) where
 
 module _ (labels : List ℕ) (size : length labels ≡ 8) (order : isOrder labels ≡ true) where
   labelled : Labelled labels
-  unfolding eachOnce
-  labelled =
-      record {
-        strands = size;
-        below = λ k.
-            ltb-true (getD labels k 0) 8
-            (every-all (λ x. ltb x 8) refl labels
-            (and-left _ (every (λ a. eqb (count a labels) 1) (values (λ a. a) 8)) order) k);
-      }
+  labelled = record { strands = size; below = order-below labels order }
 
   once : Once labels
-  unfolding eachOnce
-  once a i =
-      omega (
-        arith,
-        eqb-true (count a labels) 1
-            (every-values (λ a. eqb (count a labels) 1) (λ a. a) 8 (and-right (every (λ x. ltb x 8) labels) _ order)
-            a i),
-      )
+  once a i = omega (arith, order-once labels order a i)
 
   pub together-from : (w : List ℕ) → Lettered w
       → together (λ p. crossingsFrom labels (p .smaller) (p .larger) w) allPairs ≡ exponentSum w

@@ -160,6 +160,6 @@ impl Random {
 
     /// Any pair whose matrix has the shape of a key's and an inverse.
     pub fn invertible_key_pair(&mut self, field: Field) -> Pair {
-        Pair { matrix: self.invertible_key_matrix(field), labels: self.labels() }
+        Pair::of(self.invertible_key_matrix(field), self.labels())
     }
 }

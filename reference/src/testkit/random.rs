@@ -145,7 +145,7 @@ impl Random {
 
     /// Any pair.
     pub fn pair(&mut self, field: Field) -> Pair {
-        Pair { matrix: self.elements(field), labels: self.labels() }
+        Pair::of(self.elements(field), self.labels())
     }
 
     /// Any digest that goes with keys over the field.

@@ -108,9 +108,12 @@ pub fn hex(text: &str) -> Vec<u8> {
     text.split_whitespace().map(|byte| u8::from_str_radix(byte, 16).expect("a byte")).collect()
 }
 
-/// The list 0 to 7, and the list 7 to 0.
+/// The list 0 to 7.
 pub const LIST: [u8; 8] = [0, 1, 2, 3, 4, 5, 6, 7];
-pub const TURNED: [u8; 8] = [7, 6, 5, 4, 3, 2, 1, 0];
+
+/// The list 0 to 7 and the list 7 to 0, each with its inverse list: label a stands at position a + 1, or at 8 - a.
+pub const LISTS: [u8; 16] = [0, 1, 2, 3, 4, 5, 6, 7, 1, 2, 3, 4, 5, 6, 7, 8];
+pub const TURNED_LISTS: [u8; 16] = [7, 6, 5, 4, 3, 2, 1, 0, 8, 7, 6, 5, 4, 3, 2, 1];
 
 /// The T-values of document 01's slips.
 pub const T_VALUES: [u8; 8] = [1, 1, 2, 3, 4, 5, 6, 7];

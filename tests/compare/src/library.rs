@@ -27,12 +27,23 @@ pub fn by_columns(rows: &Matrix) -> [u8; 64] {
 
 /// A pair of the library's.
 pub fn pair_of(pair: exported::Pair) -> Pair {
-    Pair { matrix: by_rows(&pair.matrix), labels: pair.labels }
+    Pair { matrix: by_rows(&pair.matrix), labels: pair.labels, positions: pair.positions }
 }
 
 /// A pair for the library.
 pub fn lent(pair: &Pair) -> exported::Pair {
-    exported::Pair { matrix: by_columns(&pair.matrix), labels: pair.labels }
+    exported::Pair { matrix: by_columns(&pair.matrix), labels: pair.labels, positions: pair.positions }
+}
+
+/// The two lists of a pair end to end: labels, then positions.
+pub fn lists(pair: &Pair) -> Vec<u8> {
+    [pair.labels, pair.positions].concat()
+}
+
+/// The pair of a matrix and the two lists end to end.
+pub fn pair_with(matrix: Matrix, lists: [u8; 16]) -> Pair {
+    let [labels, positions] = [0, 8].map(|from| std::array::from_fn(|place| lists[from + place]));
+    Pair { matrix, labels, positions }
 }
 
 /// A half of the library's.
@@ -47,14 +58,14 @@ pub fn handed(half: &Half) -> exported::Half {
     exported::Half { large, t_values: half.t_values, pair: lent(&half.pair), target }
 }
 
-/// A half's T-values, matrix, labels and target.
+/// A half's T-values, matrix, lists and target.
 pub fn half_parts(half: &Half) -> Vec<Vec<u8>> {
-    [&half.t_values[..], &half.pair.matrix, &half.pair.labels, &half.target].map(<[u8]>::to_vec).to_vec()
+    [&half.t_values[..], &half.pair.matrix, &lists(&half.pair), &half.target].map(<[u8]>::to_vec).to_vec()
 }
 
-/// A matrix and a list as one run of bytes.
+/// A matrix and its lists as one run of bytes.
 pub fn pair_bytes(pair: &Pair) -> Vec<u8> {
-    [&pair.matrix[..], &pair.labels].concat()
+    [&pair.matrix[..], &lists(pair)].concat()
 }
 
 #[cfg(test)]

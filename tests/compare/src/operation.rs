@@ -18,7 +18,8 @@ pub mod prelude {
     pub use crate::case::{Input, Outcome, Parts};
     pub use crate::exported::*;
     pub use crate::fixed::{
-        entries, hex, identity, keys, sevens, with_row, zeros_reach, Fixed, LIST, SEVEN, TURNED, T_VALUES,
+        entries, hex, identity, keys, sevens, with_row, zeros_reach, Fixed, LIST, LISTS, SEVEN, TURNED_LISTS,
+        T_VALUES,
     };
     pub use crate::make::{files, Maker, Size};
     pub use crate::plan::{Checked, Run};
@@ -142,6 +143,8 @@ pub mod parts {
     pub const WORD: Part = Part { name: "word", form: Form::Word };
     pub const MATRIX: Part = Part { name: "matrix", form: Form::Fixed(64) };
     pub const LABELS: Part = Part { name: "labels", form: Form::Fixed(8) };
+    /// The two lists of a pair.
+    pub const LISTS: Part = Part { name: "labels, then positions", form: Form::Fixed(16) };
     pub const T_VALUES: Part = Part { name: "T-values", form: Form::Fixed(8) };
     pub const FIRST: Part = Part { name: "first matrix", form: Form::Fixed(PACKED_ENTRIES) };
     pub const SECOND: Part = Part { name: "second matrix", form: Form::Fixed(PACKED_ENTRIES) };

@@ -177,6 +177,7 @@ fn lower_one<T: Item>(mut items: Vec<T>, place: usize, fails: &dyn Fn(&[T]) -> b
 #[cfg(test)]
 mod tests {
     use super::*;
+    use crate::fixed::TURNED_LISTS;
     use crate::operation::Op;
     use crate::operations::read_word::ReadWord;
     use crate::operations::rewrite::Rewrite;
@@ -227,12 +228,12 @@ mod tests {
     fn bytes_and_fixed_parts() {
         let bytes = input(&ReadWord, vec![vec![9, 9, 9, 7, 9]], 0);
         assert_eq!(smallest(bytes, &|input| input.parts[0].contains(&7)).parts, [[7]]);
-        let parts = vec![vec![9; 64], vec![7, 6, 5, 4, 3, 2, 1, 0], vec![3; 8], vec![14]];
+        let parts = vec![vec![9; 64], TURNED_LISTS.to_vec(), vec![3; 8], vec![14]];
         let pair = input(named("multiply"), parts, 0);
-        let labels = vec![0, 1, 2, 3, 4, 5, 6, 7];
-        let fails = |input: &Input| reference::questions::is_each_label_once(&input.parts[1]);
+        let lists = vec![0, 1, 2, 3, 4, 5, 6, 7, 0, 0, 0, 0, 0, 0, 0, 0];
+        let fails = |input: &Input| reference::questions::is_each_label_once(&input.parts[1][..8]);
         let smallest = smallest(pair, &fails);
-        assert_eq!(smallest.parts, [vec![0; 64], labels, vec![0; 8], vec![0]]);
+        assert_eq!(smallest.parts, [vec![0; 64], lists, vec![0; 8], vec![0]]);
         assert_eq!(smallest.named, Field::Gf32);
     }
 

@@ -13,7 +13,7 @@ use Rattle.field.proofs.TableLaws.{lent}
 use Rattle.word.specs.Letters.{isLetter}
 use Rattle.word.specs.Words.{letters}
 use Rattle.word.proofs.ReadLaws.{accepted-word, count-stated, part-enough, part-codes}
-use Rattle.pair.specs.Action.{wordOn}
+use Rattle.pair.specs.Action.{pairOf, wordOn}
 use Rattle.pair_carrying.proofs.carry_file.Statement.{statement}
 use Rattle.pair_carrying.proofs.carry_file.Tie as tie
 
@@ -59,7 +59,8 @@ returns c =
     let p = told .before .before in
     let a = start p .args in
     c .packed .ensures
-    ∙ ap₂ (λ (f : Field) (w : List ℕ). wordOn (operations f) (a .t-values .now) w (a .pair))
+    ∙ ap₂ (λ (f : Field) (w : List ℕ). wordOn (operations f) (a .t-values .now) w
+    (pairOf (a .pair .matrix) (a .pair .labels)))
     (sym (told .enum-told .given .1)) (part-codes (file p) (start p .pre) _ (counted p))
 
 returns-2 : tie.Need-returns-2
@@ -68,7 +69,8 @@ returns-2 c =
     let p = told .before .before in
     let a = start p .args in
     c .packed2 .ensures
-    ∙ ap₂ (λ (f : Field) (w : List ℕ). wordOn (operations f) (a .t-values .now) w (a .pair))
+    ∙ ap₂ (λ (f : Field) (w : List ℕ). wordOn (operations f) (a .t-values .now) w
+    (pairOf (a .pair .matrix) (a .pair .labels)))
     (sym (told .enum-told2 .given .1)) (part-codes (file p) (start p .pre) _ (counted p))
 
 pub carry-file-spec : {M : Type 1} → statement M

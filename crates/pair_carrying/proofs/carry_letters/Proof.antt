@@ -6,7 +6,7 @@ use Rattle.field.specs.Fields.{operations}
 use Rattle.field.specs.declared.Field.{Field}
 use Rattle.field.specs.declared.Field.the-variants.{Gf32, Gf256}
 use Rattle.field.proofs.TableLaws.{lent}
-use Rattle.pair.specs.Action.{wordOn}
+use Rattle.pair.specs.Action.{pairOf, wordOn}
 use Rattle.pair_carrying.proofs.carry_letters.Statement.{statement}
 use Rattle.pair_carrying.proofs.carry_letters.Tie as tie
 
@@ -25,7 +25,8 @@ returns c =
     let told = c .before .before .before in
     let a = told .before .before .before .args in
     c .row .ensures
-    ∙ ap (λ (f : Field). wordOn (operations f) (a .t-values .now) (a .codes .now) (a .pair))
+    ∙ ap (λ (f : Field). wordOn (operations f) (a .t-values .now) (a .codes .now)
+    (pairOf (a .pair .matrix) (a .pair .labels)))
     (sym (told .enum-told .given .1))
 
 returns-2 : tie.Need-returns-2
@@ -33,7 +34,8 @@ returns-2 c =
     let told = c .before .before .before in
     let a = told .before .before .before .args in
     c .row2 .ensures
-    ∙ ap (λ (f : Field). wordOn (operations f) (a .t-values .now) (a .codes .now) (a .pair))
+    ∙ ap (λ (f : Field). wordOn (operations f) (a .t-values .now) (a .codes .now)
+    (pairOf (a .pair .matrix) (a .pair .labels)))
     (sym (told .enum-told2 .given .1))
 
 pub carry-letters-spec : {M : Type 1} → statement M

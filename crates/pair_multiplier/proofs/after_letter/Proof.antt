@@ -8,6 +8,7 @@ use Rattle.field.specs.Polynomial.{polynomials}
 use Rattle.pair.specs.Action.{pairOf, letterOn}
 use Rattle.pair.proofs.CarryLaws.{column-below}
 use Rattle.pair.proofs.ColumnLaws.{letter-on-columns}
+use Rattle.pair.proofs.WordLaws.{letter-reads}
 use Rattle.pair_multiplier.proofs.after_letter.Statement.{statement}
 use Rattle.pair_multiplier.proofs.after_letter.Tie as tie
 
@@ -43,6 +44,7 @@ returns c =
     (constants .constants-taken .ensures .1) (stored .multiply-columns .ensures)
     ∙ ap (λ (m : List ℕ). letterOn (polynomials (a .bits) (a .modulus)) (a .t-values .now) (a .letter)
     (pairOf m (a .pair .labels))) (columns .columns-of .ensures .1)
+    ∙ letter-reads (polynomials (a .bits) (a .modulus)) (a .t-values .now) (a .letter) (a .pair)
 
 pub after-letter-spec : {M : Type 1} → statement M
 after-letter-spec =

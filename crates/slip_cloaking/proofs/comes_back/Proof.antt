@@ -5,7 +5,8 @@ use borrow.Author.Tests.{not-true, not-false}
 use Rattle.base.specs.Lists.{equal}
 use Rattle.field.specs.Fields.{operations}
 use Rattle.word.specs.Words.{codes}
-use Rattle.pair.specs.Action.{wordOn}
+use Rattle.pair.specs.declared.Pair.{Pair}
+use Rattle.pair.specs.Action.{pairOf, wordOn}
 use Rattle.slip_cloaking.specs.Cloaking.{comesBack}
 use Rattle.slip_cloaking.proofs.CloakLaws.{back}
 use borrow.Author.Needs.{needs}
@@ -29,7 +30,8 @@ module _ (e : tie.After-equal) where
       (k .before .before .eight .result) (t .start .result) (k .carry-file .result)
       (t .start .ensures) (k .before .before .eight .ensures)
       (k .carry-file .ensures
-      ∙ ap (wordOn (operations (a .f)) (a .t-values .now) (codes (a .word .now))) (k .before .with .ensures))
+      ∙ ap (λ (p : Pair). wordOn (operations (a .f)) (a .t-values .now) (codes (a .word .now))
+      (pairOf (p .matrix) (p .labels))) (k .before .with .ensures))
       (sym h ∙ e .equal .ensures)
 
 returns : tie.Need-returns

@@ -8,7 +8,7 @@ use Rattle.base.specs.Lists.{every}
 use Rattle.field.specs.Fields.{operations}
 use Rattle.word.specs.Letters.{isLetter}
 use Rattle.pair.specs.declared.Pair.{Pair}
-use Rattle.pair.specs.Action.{wordOn}
+use Rattle.pair.specs.Action.{pairOf, wordOn, start}
 use Rattle.slip_digest.proofs.Encoded.{encoded-letters}
 use borrow.Author.Needs.{needs}
 use Rattle.slip_verdict.proofs.digest_matrix.Statement.{statement}
@@ -25,6 +25,7 @@ carry-letters-requires c κs =
     ap (every isLetter) (e .encode-into .ensures .1) ∙ encoded-letters (e .before .before .before .args .digest .now)
 
 returns : tie.Need-returns
+unfolding start
 returns c =
     let k = c .before in
     let t = k .before .before in
@@ -32,8 +33,8 @@ returns c =
     let a = e .before .before .before .args in
     ap (λ (p : Pair). p .matrix)
     (k .carry-letters .ensures
-    ∙ ap₂ (λ (w : List ℕ) (p : Pair). wordOn (operations (a .f)) (a .t-values .now) w p) (e .encode-into .ensures .1)
-    (t .start .ensures))
+    ∙ ap₂ (λ (w : List ℕ) (p : Pair). wordOn (operations (a .f)) (a .t-values .now) w (pairOf (p .matrix) (p .labels)))
+    (e .encode-into .ensures .1) (t .start .ensures))
 
 pub digest-matrix-spec : {M : Type 1} → statement M
 digest-matrix-spec =

@@ -7,14 +7,15 @@ use std::ops::Range;
 
 use reference::Field;
 
-use crate::fixed::{entries, hex, identity, with_row, LIST, TURNED, T_VALUES};
+use crate::fixed::{entries, hex, identity, with_row, LISTS, TURNED_LISTS, T_VALUES};
 
 /// A key that is accepted: its parts, the matrices whole and by rows, and its file.
 pub struct Key {
     pub name: &'static str,
     pub field: Field,
     pub t_values: [u8; 8],
-    pub labels: [u8; 8],
+    /// Labels, then positions.
+    pub lists: [u8; 16],
     pub matrices: [Vec<u8>; 2],
     pub file: Vec<u8>,
 }
@@ -99,7 +100,7 @@ fn differing(field: Field) -> Key {
         Field::Gf32 => small(PACKED_T_VALUES, &first, PACKED_TURNED, &second),
         Field::Gf256 => large(T_VALUES, &matrices, PACKED_TURNED),
     };
-    Key { name: "a key whose parts differ", field, t_values: T_VALUES, labels: TURNED, matrices, file }
+    Key { name: "a key whose parts differ", field, t_values: T_VALUES, lists: TURNED_LISTS, matrices, file }
 }
 
 /// Rows 2 to 7 of the identity, then row 1, then row 8; and rows 7 to 1, then row 8. A one in columns 1 to 8 is, in the
@@ -112,7 +113,7 @@ const PACKED_PERMUTATIONS: [&str; 2] = [
 
 /// A key with T-values 1 1 2 3 4 5 6 7 and the list 0 to 7.
 fn listed(name: &'static str, field: Field, matrices: [Vec<u8>; 2], file: Vec<u8>) -> Key {
-    Key { name, field, t_values: T_VALUES, labels: LIST, matrices, file }
+    Key { name, field, t_values: T_VALUES, lists: LISTS, matrices, file }
 }
 
 /// Permutation matrices.

@@ -5,7 +5,7 @@ use reference::bits;
 use reference::key::layout;
 use reference::testkit::Random;
 use reference::word::{word_file, MOST_LETTERS};
-use reference::{file_entries, Field, Matrix};
+use reference::{file_entries, Field, Matrix, Pair};
 
 /// Where N and q stand in a key file, in bits.
 const N: usize = 0;
@@ -55,13 +55,48 @@ pub fn spoil_labels(random: &mut Random, labels: &mut [u8; 8]) {
     labels[to] = if random.one_in(3) { random.within(8, 255) as u8 } else { labels[from] };
 }
 
-/// A list as the multiplier and the key writer take it. Fault: 6.
+/// A list as the key writer takes it. Fault: 6.
 pub fn list(random: &mut Random, faults: &[u8]) -> Vec<u8> {
     let mut labels = random.labels();
     if faults.contains(&6) {
         spoil_labels(random, &mut labels);
     }
     labels.to_vec()
+}
+
+/// Makes the positions others than those of the list: two exchanged, one or all counted from 0, or those of a list
+/// before its last letter.
+pub fn spoil_positions(random: &mut Random, positions: &mut [u8; 8]) {
+    let (one, other) = two_places(random);
+    match random.below(4) {
+        0 => positions.swap(one, other),
+        1 => positions[one] = random.pick(&[0, positions[other], 9, 255]),
+        2 => *positions = positions.map(|position| position - 1),
+        _ => {
+            let i = random.within(1, 7) as u8;
+            *positions = positions.map(|at| {
+                if at == i {
+                    i + 1
+                } else if at == i + 1 {
+                    i
+                } else {
+                    at
+                }
+            });
+        }
+    }
+}
+
+/// Makes a list one that is not 0 to 7, each once, or its positions others than its own.
+pub fn spoil_lists(random: &mut Random, pair: &mut Pair) {
+    match random.below(3) {
+        0 => spoil_labels(random, &mut pair.labels),
+        1 => {
+            spoil_labels(random, &mut pair.labels);
+            *pair = Pair::of(pair.matrix, pair.labels);
+        }
+        _ => spoil_positions(random, &mut pair.positions),
+    }
 }
 
 /// Puts a zero at place 2 or 3 of the T-values, a number too high at one of the last four.

@@ -65,7 +65,7 @@ fn case(name: &str, key: &[u8], digest: &[u8]) -> Fixed {
 fn of_zeros(key: &keys::Key, row: [u8; 8]) -> Fixed {
     let [first, second] = &key.matrices;
     let target = with_row(second.clone(), 7, row);
-    let bytes = [&key.t_values[..], first, &key.labels, &target].concat();
+    let bytes = [&key.t_values[..], first, &key.lists, &target].concat();
     let digest = vec![0; key.field.digest_bytes()];
     case(key.name, &key.file, &digest).number((key.field == Field::Gf256).into()).bytes(bytes)
 }

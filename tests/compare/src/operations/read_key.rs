@@ -17,7 +17,7 @@ impl Operation for ReadKey {
         Some(vec![maker.key(field, faults)])
     }
 
-    /// The bytes are T-values, matrix, labels and second matrix end to end.
+    /// The bytes are T-values, matrix, lists and second matrix end to end.
     fn call(&self, by: By, input: &Input) -> Outcome {
         let [file] = input.slices();
         let key = match by {
@@ -36,14 +36,14 @@ impl Operation for ReadKey {
 
     /// All zeros.
     fn refused(&self, _: &Input) -> Vec<u8> {
-        vec![0; 8 + 64 + 8 + 64]
+        vec![0; 8 + 64 + 16 + 64]
     }
 
     fn fixed(&self) -> Vec<Fixed> {
         let read = |name: &str, file: &[u8]| Fixed::of(&ReadKey, name, &[file]);
         let accepted = keys::accepted().into_iter().map(|key| {
             let [first, second] = &key.matrices;
-            let bytes = [&key.t_values[..], first, &key.labels, second].concat();
+            let bytes = [&key.t_values[..], first, &key.lists, second].concat();
             read(key.name, &key.file).number((key.field == Field::Gf256).into()).bytes(bytes)
         });
         let refused =

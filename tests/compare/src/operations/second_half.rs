@@ -6,7 +6,7 @@ use reference::testkit::Random;
 use reference::word::word_file;
 use reference::{first_half, letters, second_half, Half, Pair};
 
-use crate::library::{half_parts, handed};
+use crate::library::{half_parts, handed, pair_with};
 use crate::operation::prelude::*;
 use crate::plan::keys::matrices;
 use crate::shrink::cut;
@@ -17,7 +17,7 @@ const TARGET: Part = Part { name: "target", form: Form::Fixed(64) };
 
 impl Operation for SecondHalf {
     fn facts(&self) -> Facts {
-        let parts = &[parts::T_VALUES, parts::MATRIX, parts::LABELS, TARGET, parts::WORD];
+        let parts = &[parts::T_VALUES, parts::MATRIX, parts::LISTS, TARGET, parts::WORD];
         let facts = Facts::of("second_half", &[17, 4, 6, 26, 9, 10, 11, 12, 13, 14], parts);
         Facts { over: Over::Named, share: 6, ..facts }
     }
@@ -57,7 +57,7 @@ impl Operation for SecondHalf {
                 self.number(run, field, number)?;
             }
             for ([matrix, target], expected) in matrices(&mut run.maker.random, field) {
-                let pair = Pair { matrix, labels: run.maker.random.labels() };
+                let pair = Pair::of(matrix, run.maker.random.labels());
                 let half = Half { field, t_values: run.maker.random.t_values(field), pair, target };
                 let expected = if expected == 0 { 9 } else { expected };
                 run.over(&SecondHalf, field, SecondHalf::parts(&half, vec![]), Some(expected))?;
@@ -80,8 +80,11 @@ impl Operation for SecondHalf {
             let parts = SecondHalf::parts(&signed_by(*half, codes), word_file(codes));
             Input { parts, ..input.clone() }
         };
-        let plainer: [fn(&mut Half); 3] =
-            [|half| half.t_values = [1; 8], |half| half.pair.matrix = one(), |half| half.pair.labels = LIST];
+        let plainer: [fn(&mut Half); 3] = [
+            |half| half.t_values = [1; 8],
+            |half| half.pair.matrix = one(),
+            |half| half.pair = Pair::of(half.pair.matrix, LIST),
+        ];
         for change in plainer {
             let mut changed = half;
             change(&mut changed);
@@ -104,8 +107,7 @@ impl SecondHalf {
     fn number(&self, run: &mut Run, field: Field, number: u8) -> Checked {
         let random = &mut run.maker.random;
         let (row, column) = files::two_places(random);
-        let plain =
-            Half { pair: Pair { matrix: one(), labels: random.labels() }, ..free(random, field, &[]) };
+        let plain = Half { pair: Pair::of(one(), random.labels()), ..free(random, field, &[]) };
         let plain = signed_by(plain, &[]);
         let [mut first, mut second, mut changed] = [plain; 3];
         first.pair.matrix[at(row + 1, column + 1)] = number;
@@ -123,7 +125,7 @@ impl SecondHalf {
 
 /// The half that an input hands in.
 fn half_of(input: &Input) -> Half {
-    let pair = Pair { matrix: input.array(1), labels: input.array(2) };
+    let pair = pair_with(input.array(1), input.array(2));
     Half { field: input.named, t_values: input.array(0), pair, target: input.array(3) }
 }
 
@@ -134,7 +136,7 @@ fn signed_by(half: Half, codes: &[u8]) -> Half {
 
 /// A half that no key needs to have: any T-values but zero, and a matrix of any shape with an inverse.
 fn free(random: &mut Random, field: Field, codes: &[u8]) -> Half {
-    let pair = Pair { matrix: random.invertible_matrix(field), labels: random.labels() };
+    let pair = Pair::of(random.invertible_matrix(field), random.labels());
     signed_by(Half { field, t_values: random.t_values(field), pair, target: one() }, codes)
 }
 
@@ -162,7 +164,7 @@ fn spoil(random: &mut Random, half: &mut Half, faults: &[u8]) {
         half.t_values[random.within(4, 7)] = 0;
     }
     if faults.contains(&6) {
-        files::spoil_labels(random, &mut half.pair.labels);
+        files::spoil_lists(random, &mut half.pair);
     }
 }
 
@@ -175,8 +177,8 @@ fn change_target(random: &mut Random, half: &mut Half) {
     }
 }
 
-fn case(name: &str, t_values: &[u8], matrix: &[u8], labels: &[u8], target: &[u8], word: &[u8]) -> Fixed {
-    Fixed::of(&SecondHalf, name, &[t_values, matrix, labels, target, word])
+fn case(name: &str, t_values: &[u8], matrix: &[u8], lists: &[u8], target: &[u8], word: &[u8]) -> Fixed {
+    Fixed::of(&SecondHalf, name, &[t_values, matrix, lists, target, word])
 }
 
 /// b2 under the list 7 to 0, as the multiplier has it, over either field. Neither matrix reaches the other the other
@@ -189,9 +191,11 @@ fn turned() -> Vec<Fixed> {
         let before = with_row(identity(), 1, [1, entry, 3, 4, 5, 6, 7, 8]);
         let after = with_row(with_row(identity(), 1, row), 2, [6, 6, 1, 0, 0, 0, 0, 0]);
         let name = "b2 under the list 7 to 0";
-        cases.push(case(name, &T_VALUES, &before, &TURNED, &after, &hex("00 01 10")).over(field));
-        cases.push(case(name, &T_VALUES, &after, &TURNED, &before, &hex("00 01 10")).over(field).refused(14));
-        cases.push(case(name, &T_VALUES, &before, &LIST, &after, &hex("00 01 10")).over(field).refused(14));
+        cases.push(case(name, &T_VALUES, &before, &TURNED_LISTS, &after, &hex("00 01 10")).over(field));
+        cases.push(
+            case(name, &T_VALUES, &after, &TURNED_LISTS, &before, &hex("00 01 10")).over(field).refused(14),
+        );
+        cases.push(case(name, &T_VALUES, &before, &LISTS, &after, &hex("00 01 10")).over(field).refused(14));
     }
     cases
 }
@@ -200,7 +204,7 @@ fn turned() -> Vec<Fixed> {
 fn for_zeros(field: Field, name: &str, word: &[u8]) -> Fixed {
     let [a, b, c] = zeros_reach(field);
     let target = with_row(identity(), 7, [0, 0, 0, 0, 0, a, b, c]);
-    case(name, &T_VALUES, &identity(), &LIST, &target, word)
+    case(name, &T_VALUES, &identity(), &LISTS, &target, word)
 }
 
 /// b7 as often as the verdict has it, and less often: 64 letters have 18^32 = 18 at row 7, column 7. The half of the
@@ -228,11 +232,11 @@ fn of_no_key() -> Vec<Fixed> {
     let after = with_row(with_row(identity(), 3, [0, 2, 2, 1, 0, 0, 0, 0]), 8, [0, 10, 10, 5, 0, 0, 0, 1]);
     let thirds = |third: u8| {
         let target = with_row(identity(), 3, [0, 1, third, third, 0, 0, 0, 0]);
-        case(&format!("b3⁻¹ with {third}"), &T_VALUES, &good, &LIST, &target, &hex("00 01 A0"))
+        case(&format!("b3⁻¹ with {third}"), &T_VALUES, &good, &LISTS, &target, &hex("00 01 A0"))
     };
     vec![
-        case("T-values 3 2", &[3, 2, 1, 1, 1, 1, 1, 1], &good, &LIST, &first, &hex("00 01 00")),
-        case("row 8 with 5", &T_VALUES, &before, &LIST, &after, &hex("00 01 20")),
+        case("T-values 3 2", &[3, 2, 1, 1, 1, 1, 1, 1], &good, &LISTS, &first, &hex("00 01 00")),
+        case("row 8 with 5", &T_VALUES, &before, &LISTS, &after, &hex("00 01 20")),
         thirds(28),
         thirds(28).large().refused(14),
         thirds(244).refused(17),
@@ -242,34 +246,41 @@ fn of_no_key() -> Vec<Fixed> {
 
 /// The questions in their order: each fault with all that come after it, the word's before 14.
 fn refusals() -> Vec<Fixed> {
-    let (good, zeros, none) = (identity(), [0; 64], [0; 8]);
+    let (good, zeros, none, unlisted) = (identity(), [0; 64], [0; 8], [0; 16]);
     let edge = [&good[..63], &[32]].concat();
     let high = [1, 1, 2, 3, 4, 5, 6, 32];
     let mut cases = vec![
-        case("T-value 32", &high, &zeros, &none, &zeros, &[]).refused(17),
-        case("entry 32", &none, &edge, &none, &zeros, &[]).refused(17),
-        case("target 32", &none, &zeros, &none, &edge, &[]).refused(17),
-        case("T-value 32", &high, &good, &LIST, &good, &[0, 0]).large(),
-        case("entries 32", &T_VALUES, &edge, &LIST, &edge, &[0, 0]).large(),
+        case("T-value 32", &high, &zeros, &unlisted, &zeros, &[]).refused(17),
+        case("entry 32", &none, &edge, &unlisted, &zeros, &[]).refused(17),
+        case("target 32", &none, &zeros, &unlisted, &edge, &[]).refused(17),
+        case("T-value 32", &high, &good, &LISTS, &good, &[0, 0]).large(),
+        case("entries 32", &T_VALUES, &edge, &LISTS, &edge, &[0, 0]).large(),
     ];
     for field in Field::BOTH {
-        let half = |name: &str, t_values: &[u8], matrix: &[u8], labels: &[u8], target: &[u8]| {
-            case(name, t_values, matrix, labels, target, &[]).over(field)
+        let half = |name: &str, t_values: &[u8], matrix: &[u8], lists: &[u8], target: &[u8]| {
+            case(name, t_values, matrix, lists, target, &[]).over(field)
+        };
+        let stale = |name: &str, positions: [u8; 8]| {
+            half(name, &T_VALUES, &zeros, &[LIST, positions].concat(), &zeros).refused(6)
         };
         cases.extend([
-            half("T-values 0", &none, &zeros, &none, &zeros).refused(4),
-            half("the first T-value 0", &[0, 1, 2, 3, 4, 5, 6, 7], &zeros, &none, &zeros).refused(4),
-            half("labels 0", &T_VALUES, &zeros, &none, &zeros).refused(6),
-            half("labels 1 to 8", &T_VALUES, &zeros, &[1, 2, 3, 4, 5, 6, 7, 8], &zeros).refused(6),
-            half("both matrices zero", &T_VALUES, &zeros, &LIST, &zeros).refused(26),
-            half("a matrix of zeros", &T_VALUES, &zeros, &LIST, &good).refused(26),
-            half("a target of zeros", &T_VALUES, &good, &LIST, &zeros).refused(26),
+            half("T-values 0", &none, &zeros, &unlisted, &zeros).refused(4),
+            half("the first T-value 0", &[0, 1, 2, 3, 4, 5, 6, 7], &zeros, &unlisted, &zeros).refused(4),
+            half("labels 0", &T_VALUES, &zeros, &unlisted, &zeros).refused(6),
+            stale("positions 0", [0; 8]),
+            stale("positions from 0", LIST),
+            stale("positions after b7", [1, 2, 3, 4, 5, 6, 8, 7]),
+            half("labels 1 to 8", &T_VALUES, &zeros, &[[1, 2, 3, 4, 5, 6, 7, 8]; 2].concat(), &zeros)
+                .refused(6),
+            half("both matrices zero", &T_VALUES, &zeros, &LISTS, &zeros).refused(26),
+            half("a matrix of zeros", &T_VALUES, &zeros, &LISTS, &good).refused(26),
+            half("a target of zeros", &T_VALUES, &good, &LISTS, &zeros).refused(26),
         ]);
         for (word, answer) in
             [("", 9), ("27 11", 10), ("00 02", 11), ("00 01 70", 12), ("00 01 21", 13), ("00 01 20", 14)]
         {
             let name = format!("the word {word}");
-            cases.push(case(&name, &T_VALUES, &good, &LIST, &good, &hex(word)).over(field).refused(answer));
+            cases.push(case(&name, &T_VALUES, &good, &LISTS, &good, &hex(word)).over(field).refused(answer));
         }
     }
     cases

@@ -24,6 +24,6 @@ impl Operation for Start {
     }
 
     fn fixed(&self) -> Vec<Fixed> {
-        vec![Fixed::of(&Start, "the starting pair", &[]).bytes([&identity()[..], &LIST].concat())]
+        vec![Fixed::of(&Start, "the starting pair", &[]).bytes([&identity()[..], &LISTS].concat())]
     }
 }

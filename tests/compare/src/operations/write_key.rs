@@ -50,7 +50,7 @@ impl Operation for WriteKey {
     fn fixed(&self) -> Vec<Fixed> {
         let accepted = keys::accepted().into_iter().map(|key| {
             let [first, second] = key.matrices.map(|matrix| entries(&matrix));
-            let parts: [&[u8]; 4] = [&key.t_values, &key.labels, &first, &second];
+            let parts: [&[u8]; 4] = [&key.t_values, &key.lists[..8], &first, &second];
             Fixed::of(&WriteKey, key.name, &parts).over(key.field).writes(&key.file)
         });
         accepted.chain(without_room()).chain(refusals()).chain(without_inverse()).collect()

@@ -29,7 +29,7 @@ impl Run {
         let first = self.parts(&FirstHalf, slip[..2].to_vec(), None)?;
         let by_halves = if first.answer == 0 {
             let (field, half) = (Field::BOTH[first.numbers[0] as usize], first.bytes);
-            let parts = [&half[..8], &half[8..72], &half[72..80], &half[80..], &slip[2]].map(<[u8]>::to_vec);
+            let parts = [&half[..8], &half[8..72], &half[72..88], &half[88..], &slip[2]].map(<[u8]>::to_vec);
             self.over(&SecondHalf, field, parts.to_vec(), None)?.answer
         } else {
             first.answer

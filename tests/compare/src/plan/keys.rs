@@ -84,7 +84,7 @@ impl Run {
         let (named, read) = (Field::BOTH[outcome.numbers[0] as usize], outcome.bytes);
         let (t_values, labels) = (read[..8].to_vec(), read[72..80].to_vec());
         let parts =
-            vec![t_values, labels, FileEntries::of(self, &read[8..72])?, FileEntries::of(self, &read[80..])?];
+            vec![t_values, labels, FileEntries::of(self, &read[8..72])?, FileEntries::of(self, &read[88..])?];
         let input = self.maker.input(&WriteKey, named, parts);
         let written = self.input(input.clone(), Some(0))?.bytes;
         if written[GUARD..GUARD + file.len()] != file {

@@ -48,8 +48,8 @@ at-3 t = at-2 (t .before .before)
 abbrev at-4 : tie.After-all-nonzero → tie.Start
 at-4 t = at-3 (t .before .before .before)
 
-abbrev at-5 : tie.After-is-order → tie.Start
-at-5 t = at-4 (t .before .before .before .before)
+abbrev at-5 : tie.After-are-inverse → tie.Start
+at-5 t = at-4 (t .before .before .before .before .before .before)
 
 -- the three tests of the first question
 values-are : (t : tie.After-all-fit) {b : Bool} → t .all-fit .result ≡ b
@@ -113,19 +113,20 @@ returns-4 c =
 returns-5 : tie.Need-returns-5
 returns-5 c =
     let t = c .before in
-    sym (past-2 (t .before .before .before)
-    ∙ fails 6 (rest (at-5 t) 3) (sym (t .is-order .ensures) ∙ not-true _ (c .if5 .taken)))
+    sym (past-2 (t .before .before .before .before .before)
+    ∙ fails 6 (rest (at-5 t) 3) (sym (t .are-inverse .ensures) ∙ not-true _ (c .if5 .taken)))
 
 returns-6 : tie.Need-returns-6
 unfolding firstNo
 returns-6 c =
     let t = c .before in
-    sym (past-2 (t .before .before .before)
-    ∙ passes 6 (rest (at-5 t) 3) (sym (t .is-order .ensures) ∙ not-false _ (c .if5 .left)))
+    sym (past-2 (t .before .before .before .before .before)
+    ∙ passes 6 (rest (at-5 t) 3) (sym (t .are-inverse .ensures) ∙ not-false _ (c .if5 .left)))
 
 pub pair-answer-spec : {M : Type 1} → statement M
 pair-answer-spec =
     tie.close
     (tie.spec (λ c κs. search needs) returns (λ c. search needs) (λ c κs. search needs) returns-2
     (λ c κs. search needs) returns-3
-    (λ c κs. search needs) returns-4 (λ c. search needs) (λ c κs. search needs) returns-5 returns-6)
+    (λ c κs. search needs) returns-4 (λ c. search needs) (λ c. search needs) (λ c κs. search needs) returns-5
+    returns-6)
