@@ -1,5 +1,5 @@
-/* The key reader, the verdict whole and by halves, cloaking, the lent multiplier, the rewriter, free reduction and crossings in plain C, as
-   one would write them by hand: for the library's times to stand beside. */
+/* The key reader, the verdict whole and by halves, cloaking, the lent multiplier, the rewriter, free reduction, stored forms and crossings in plain C,
+   as one would write them by hand: for the library's times to stand beside. */
 #include <stdbool.h>
 #include <stddef.h>
 #include <stdint.h>
@@ -7,6 +7,7 @@
 
 #define WORD_BYTES 5002
 #define LETTERS 10000
+#define STORED_BYTES 5006
 
 typedef struct {
     uint8_t matrix[64], labels[8];
@@ -554,4 +555,79 @@ int32_t plain_crossings(const uint8_t *word, size_t wn, uint8_t a, uint8_t b)
         labels[g + 1] = label;
     }
     return numbers[a][b] + numbers[b][a];
+}
+
+static void put_two(uint8_t *out, size_t number)
+{
+    out[0] = (uint8_t)(number >> 8);
+    out[1] = (uint8_t)number;
+}
+
+/* The signs and the generators of a group of up to eight codes, in so many bytes; zeros after the last code. */
+static void split_group(const uint8_t *packed, size_t bytes, uint32_t *signs, uint32_t *generators)
+{
+    uint32_t s = 0, g = 0;
+    for (size_t i = 0; i < 4; i++) {
+        uint32_t two = i < bytes ? packed[i] : 0;
+        s = s << 2 | (two >> 6 & 2) | (two >> 3 & 1);
+        g = g << 6 | (two >> 1 & 56) | (two & 7);
+    }
+    *signs = s;
+    *generators = g;
+}
+
+/* The stored form of a word, eight letters at a time. The bytes written; 0 on a refusal. */
+size_t plain_store(const uint8_t *word, size_t wn, uint8_t *out, size_t len)
+{
+    size_t n;
+    if (len < STORED_BYTES || read_word(word, wn, &n))
+        return 0;
+    const uint8_t *packed = word + 2;
+    size_t s = (n + 7) / 8, g = (3 * n + 7) / 8, whole = n / 8;
+    uint8_t *signs = out + 6, *generators = signs + s;
+    put_two(out, n);
+    put_two(out + 2, s);
+    put_two(out + 4, g);
+    uint32_t sign, three;
+    for (size_t k = 0; k < whole; k++) {
+        split_group(packed + 4 * k, 4, &sign, &three);
+        signs[k] = (uint8_t)sign;
+        generators[3 * k] = (uint8_t)(three >> 16);
+        generators[3 * k + 1] = (uint8_t)(three >> 8);
+        generators[3 * k + 2] = (uint8_t)three;
+    }
+    if (n % 8) {
+        split_group(packed + 4 * whole, wn - 2 - 4 * whole, &sign, &three);
+        signs[whole] = (uint8_t)sign;
+        for (size_t i = 0; i < g - 3 * whole; i++)
+            generators[3 * whole + i] = (uint8_t)(three >> (16 - 8 * i));
+    }
+    return 6 + s + g;
+}
+
+/* The word of a stored form, eight letters at a time. The bytes written; 0 on a refusal. */
+size_t plain_restore(const uint8_t *stored, size_t size, uint8_t *out, size_t len)
+{
+    if (len < WORD_BYTES || size < 6)
+        return 0;
+    size_t n = (size_t)stored[0] << 8 | stored[1], s = (size_t)stored[2] << 8 | stored[3],
+           g = (size_t)stored[4] << 8 | stored[5];
+    if (n > LETTERS || s != (n + 7) / 8 || g != (3 * n + 7) / 8 || size != 6 + s + g)
+        return 0;
+    const uint8_t *signs = stored + 6, *generators = signs + s;
+    if (n > 0 && (signs[s - 1] & ((1u << (8 * s - n)) - 1) || generators[g - 1] & ((1u << (8 * g - 3 * n)) - 1)))
+        return 0;
+    uint8_t codes[LETTERS + 8];
+    for (size_t k = 0; k < s; k++) {
+        uint32_t three = 0;
+        for (size_t i = 3 * k; i < 3 * k + 3; i++)
+            three = three << 8 | (i < g ? generators[i] : 0);
+        for (size_t i = 0; i < 8; i++) {
+            uint8_t generator = three >> (21 - 3 * i) & 7;
+            if (generator == 7)
+                return 0;
+            codes[8 * k + i] = (uint8_t)((signs[k] >> (7 - i) & 1) << 3 | generator);
+        }
+    }
+    return write_codes(codes, n, out);
 }

@@ -37,6 +37,11 @@ digest_sizes() { joined $(printf '%s\n' "${digest_bytes[@]}" | sort -n); }
 word_bytes() { echo $((2 + ($1 + 1) / 2)); }
 moves_bytes() { echo $((2 + 3 * $1)); }
 
+# stored_bytes LETTERS: the bytes of a stored form; sign_bytes and generator_bytes are those of its two rows.
+sign_bytes() { echo $((($1 + 7) / 8)); }
+generator_bytes() { echo $(((3 * $1 + 7) / 8)); }
+stored_bytes() { echo $((6 + ($1 + 7) / 8 + (3 * $1 + 7) / 8)); }
+
 # as_stated BYTES FILE: succeeds if the file has as many bytes as the number in its first two needs.
 as_stated() { local n; n=$(size "$2") && [ "$n" -ge 2 ] && [ "$n" -eq "$("$1" "$(first_two "$2")")" ]; }
 
@@ -44,6 +49,7 @@ is_key() { local n; n=$(size "$1") && [ -n "${digest_bytes[$n]-}" ]; }
 is_digest() { local n; n=$(size "$1") && [[ " ${digest_bytes[*]} " == *" $n "* ]]; }
 is_word() { as_stated word_bytes "$1"; }
 is_moves() { as_stated moves_bytes "$1"; }
+is_stored() { as_stated stored_bytes "$1" && [ "$(first_two "$1" 2)" -eq "$(sign_bytes "$(first_two "$1")")" ]; }
 
 # is_hex FILE: succeeds if the file holds hexadecimal text and nothing else.
 is_hex() {
@@ -61,10 +67,10 @@ hex_hint() {
     done
 }
 
-# kind_hint WANTED FILE: says if the file has the length of another kind: key, word or moves.
+# kind_hint WANTED FILE: says if the file has the length of another kind: key, stored, word or moves.
 kind_hint() {
     local kind
-    for kind in key word moves; do
+    for kind in key stored word moves; do
         if [ "$kind" != "$1" ] && ! "is_$1" "$2" && "is_$kind" "$2"; then
             say "'$2' has the length of another kind of file; try: ./walnut show $kind ${2@Q}"
         fi
@@ -181,6 +187,30 @@ about_reduce() {
     about_word "$1" "$2"
     hex_hint "$2"
     kind_hint word "$2"
+}
+
+# about_restore ANSWER STORED: a refused stored form.
+about_restore() {
+    case $1 in
+        28 | 10) about_stored_sizes "$2" ;;
+        *) about_part 'stored form' "$2" "for more: ./walnut show stored ${2@Q}" ;;
+    esac
+    hex_hint "$2"
+    kind_hint stored "$2"
+}
+
+# about_stored_sizes STORED: a stored form whose sizes are wrong.
+about_stored_sizes() {
+    local n letters
+    n=$(size "$1") || return 0
+    if [ "$n" -lt 6 ]; then
+        say "the stored form is '$1', $(count "$n" byte); a stored form has at least 6 bytes"
+        return
+    fi
+    letters=$(first_two "$1")
+    say "the stored form is '$1', $n bytes; it states $(count "$letters" letter), $(first_two "$1" 2) bytes of signs and" \
+        "$(first_two "$1" 4) of generators; so many letters need $(sign_bytes "$letters") and" \
+        "$(generator_bytes "$letters"), and $(stored_bytes "$letters") bytes in all"
 }
 
 # A refused slip on standard input, if that is a file.

@@ -29,6 +29,14 @@
  *
  *     00 07 09 23 C5 E0                     7 letters: b1 b2^-1 b3 b4 b5^-1 b6 b7^-1, and half a byte 0
  *
+ * STORED FORM of a word, with signs and generators apart. Three numbers of 2 bytes hold the number of letters, at most
+ * 10,000, the bytes of signs and the bytes of generators. The signs follow, one bit a letter, 1 for an inverse. Then
+ * come the generators' numbers less one, three bits a letter. Zero bits fill the last byte of the signs and the last
+ * byte of the generators. So a stored form has 6 to 5,006 bytes.
+ *
+ *     00 07  00 01  00 03  4A  05 39 70     the 7 letters above: 1 byte of signs, 0100101 and a zero bit; 3 bytes of
+ *                                           generators, 000 001 010 011 100 101 110 and three zero bits
+ *
  * MOVE LIST. 2 bytes hold the number of moves, at most 4,096. Then come all places, 2 bytes each, and then all kinds, 1
  * byte each. A move list has 2 + 3 times the number of moves, so 2 to 12,290 bytes. A place counts letters from 0, in
  * the word that the earlier moves left.
@@ -71,7 +79,7 @@ extern "C" {
 
 /* The version of this header and of its library. The first number is also the number after libwalnut.so. */
 #define WALNUT_VERSION_MAJOR 0
-#define WALNUT_VERSION_MINOR 3
+#define WALNUT_VERSION_MINOR 4
 #define WALNUT_VERSION_PATCH 0
 
 /* Marks a function whose result must be used. A compiler that knows the mark warns if a caller drops the result. */
@@ -112,6 +120,8 @@ enum walnut_answer {
     WALNUT_ANSWER_LIST = 25,
     WALNUT_ANSWER_NO_INVERSE = 26,
     WALNUT_ANSWER_TWO_LABELS = 27,
+    WALNUT_ANSWER_STORED_SIZES = 28,
+    WALNUT_ANSWER_STORED_BITS = 29,
     /* answers.txt: end */
 };
 
@@ -135,7 +145,7 @@ static inline const char *walnut_text(uint8_t answer)
     case 12: return "a code is not a letter";
     case 13: return "the last half byte of an odd word is not 0";
     case 14: return "the matrices differ: the word is not a signature of this digest under this key";
-    case 15: return "the output is too small: a word needs 5,002 bytes";
+    case 15: return "the output is too small: a word needs 5,002 bytes, a stored form 5,006";
     case 16: return "the output is too small: a key needs 83 bytes, or 128 in the larger field";
     case 17: return "a T-value, matrix entry or operand is outside the field (0 to 31, or 0 to 255)";
     case 18: return "the move list has fewer than 2 bytes";
@@ -148,6 +158,8 @@ static inline const char *walnut_text(uint8_t answer)
     case 25: return "the list to cloak for is not 8 bytes, 0 to 7 each once";
     case 26: return "a matrix of the key, or of a half, has no inverse";
     case 27: return "a label is over 7, or both labels are equal";
+    case 28: return "the stored form has fewer than 6 bytes, or its sizes disagree with its letters or length";
+    case 29: return "a generator of the stored form is 7, or its filler bits are not all zero";
     /* answers.txt: end */
     default: return "an answer that this header does not know";
     }
@@ -165,6 +177,7 @@ static inline const char *walnut_text(uint8_t answer)
 #define WALNUT_DIGEST_BYTES 32 /* bytes of the digest that goes with a key of 83 bytes */
 #define WALNUT_LARGE_DIGEST_BYTES 64 /* bytes of the digest that goes with a key of 128 bytes */
 #define WALNUT_WORD_BYTES 5002 /* bytes of the longest word file; an output for words must have at least as many */
+#define WALNUT_STORED_BYTES 5006 /* bytes of the longest stored form; an output for stored forms must have at least as many */
 #define WALNUT_MOVES_BYTES 12290 /* bytes of the longest move list */
 #define WALNUT_LETTERS 10000 /* the most letters of a word */
 #define WALNUT_MOVES 4096 /* the most moves of a list */
@@ -255,6 +268,14 @@ WALNUT_MUST_USE walnut_written walnut_encode_digest(const uint8_t *digest, size_
 /* Reduces a word file freely and writes the result. Answers: 15, 9, 10, 11, 12, 13, 0. Changes the reported bytes of
    out, on 0 only. */
 WALNUT_MUST_USE walnut_written walnut_free_reduce(const uint8_t *word, size_t n, uint8_t *out, size_t len);
+
+/* Writes the stored form of a word file. The output must have at least 5,006 bytes. Answers: 15, 9, 10, 11, 12, 13, 0.
+   Changes the reported bytes of out, on 0 only. */
+WALNUT_MUST_USE walnut_written walnut_store(const uint8_t *word, size_t n, uint8_t *out, size_t len);
+
+/* Writes the word file of a stored form. Answers: 15, 28, 10, 28, 29, 0. Changes the reported bytes of out, on 0
+   only. */
+WALNUT_MUST_USE walnut_written walnut_restore(const uint8_t *stored, size_t n, uint8_t *out, size_t len);
 
 /* Makes the moves of a list on a word file, one after another, and writes the word that they leave. Answers: 15, 9, 10,
    11, 12, 13, 18, 19, 20, then move by move 21, 22, 23, 24, or 0. Changes the reported bytes of out, on 0 only. */

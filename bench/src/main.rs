@@ -14,7 +14,7 @@ use std::hint::black_box;
 use std::process::ExitCode;
 use std::time::{Duration, Instant};
 
-use walnut::WORD_BYTES;
+use walnut::STORED_BYTES;
 use work::{case, Case, Who, ALL, CASES};
 
 /// Rounds of which the least time counts, and how long each lasts at least.
@@ -27,7 +27,7 @@ const COUNTED: u32 = 10;
 /// Does the work so many times.
 #[inline(never)]
 fn again(case: &Case, who: Who, times: u32) {
-    let mut out = [0; WORD_BYTES];
+    let mut out = [0; STORED_BYTES];
     for _ in 0..times {
         black_box(case.work.run(black_box(who), black_box(&mut out)));
     }

@@ -5,6 +5,7 @@ use std::hint::black_box;
 
 const WORD_BYTES: usize = 5002;
 const LETTERS: usize = 10_000;
+const STORED_BYTES: usize = 5006;
 
 type Matrix = [[u8; 8]; 8];
 type Eight = [u8; 8];
@@ -467,6 +468,75 @@ pub fn free_reduce(word: &[u8], out: &mut [u8]) -> Result<usize, u8> {
             codes.push(code);
         }
     }
+    Ok(write_codes(&codes, out))
+}
+
+/// The bits of numbers of so many bits, packed into bytes, the most significant first and zeros at the end.
+fn pack_bits(numbers: impl Iterator<Item = u8>, bits: u32, out: &mut [u8]) {
+    let (mut held, mut count, mut at) = (0u32, 0, 0);
+    for number in numbers {
+        held = held << bits | u32::from(number);
+        count += bits;
+        if count >= 8 {
+            count -= 8;
+            out[at] = (held >> count) as u8;
+            at += 1;
+        }
+    }
+    if count > 0 {
+        out[at] = (held << (8 - count)) as u8;
+    }
+}
+
+/// The stored form of a word: its signs, and then its generators.
+pub fn store(word: &[u8], out: &mut [u8]) -> Result<usize, u8> {
+    if out.len() < STORED_BYTES {
+        return Err(15);
+    }
+    let n = read_word(word)?.count();
+    let (signs, generators) = (n.div_ceil(8), (3 * n).div_ceil(8));
+    for (place, size) in [n, signs, generators].into_iter().enumerate() {
+        out[2 * place..2 * place + 2].copy_from_slice(&(size as u16).to_be_bytes());
+    }
+    pack_bits(read_word(word)?.map(|code| code >> 3), 1, &mut out[6..]);
+    pack_bits(read_word(word)?.map(|code| code & 7), 3, &mut out[6 + signs..]);
+    Ok(6 + signs + generators)
+}
+
+/// The numbers of so many bits that bytes hold, and whether the bits after n numbers are zero.
+fn unpack_bits(bytes: &[u8], bits: u32, n: usize) -> (Vec<u8>, bool) {
+    let (mut held, mut count) = (0u32, 0);
+    let mut numbers = Vec::with_capacity(n);
+    for byte in bytes {
+        held = held << 8 | u32::from(*byte);
+        count += 8;
+        while count >= bits && numbers.len() < n {
+            count -= bits;
+            numbers.push((held >> count & ((1 << bits) - 1)) as u8);
+        }
+    }
+    (numbers, held & ((1 << count) - 1) == 0)
+}
+
+/// The word of a stored form.
+pub fn restore(stored: &[u8], out: &mut [u8]) -> Result<usize, u8> {
+    if out.len() < WORD_BYTES {
+        return Err(15);
+    }
+    let [a, b, c, d, e, f, rows @ ..] = stored else { return Err(28) };
+    let [n, s, g] = [[*a, *b], [*c, *d], [*e, *f]].map(|size| usize::from(u16::from_be_bytes(size)));
+    if n > LETTERS {
+        return Err(10);
+    }
+    if s != n.div_ceil(8) || g != (3 * n).div_ceil(8) || rows.len() != s + g {
+        return Err(28);
+    }
+    let (signs, signs_filled) = unpack_bits(&rows[..s], 1, n);
+    let (generators, generators_filled) = unpack_bits(&rows[s..], 3, n);
+    if generators.contains(&7) || !signs_filled || !generators_filled {
+        return Err(29);
+    }
+    let codes: Vec<u8> = signs.iter().zip(&generators).map(|(sign, number)| sign << 3 | number).collect();
     Ok(write_codes(&codes, out))
 }
 

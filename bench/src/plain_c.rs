@@ -32,6 +32,8 @@ extern "C" {
         len: usize,
     ) -> usize;
     fn plain_reduce(word: *const u8, wn: usize, out: *mut u8, len: usize) -> usize;
+    fn plain_store(word: *const u8, n: usize, out: *mut u8, len: usize) -> usize;
+    fn plain_restore(stored: *const u8, n: usize, out: *mut u8, len: usize) -> usize;
     fn plain_crossings(word: *const u8, wn: usize, a: u8, b: u8) -> i32;
 }
 
@@ -91,4 +93,14 @@ pub fn free_reduce(word: &[u8], out: &mut [u8]) -> usize {
 pub fn crossings(word: &[u8], a: u8, b: u8) -> i32 {
     // SAFETY: see above.
     unsafe { plain_crossings(word.as_ptr(), word.len(), a, b) }
+}
+
+pub fn store(word: &[u8], out: &mut [u8]) -> usize {
+    // SAFETY: see above.
+    unsafe { plain_store(word.as_ptr(), word.len(), out.as_mut_ptr(), out.len()) }
+}
+
+pub fn restore(stored: &[u8], out: &mut [u8]) -> usize {
+    // SAFETY: see above.
+    unsafe { plain_restore(stored.as_ptr(), stored.len(), out.as_mut_ptr(), out.len()) }
 }

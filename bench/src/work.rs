@@ -9,7 +9,7 @@ use reference::start;
 use reference::testkit::{accepted_slip, move_list, Random, Slip};
 use reference::word::word_file;
 use reference::Field;
-use walnut::{Refusal, WORD_BYTES};
+use walnut::{Refusal, STORED_BYTES};
 
 use crate::{plain, plain_c};
 
@@ -71,6 +71,13 @@ pub enum Work {
     },
     Reduction {
         word: Vec<u8>,
+    },
+    /// A word that is stored, or a stored form that is restored.
+    Storing {
+        word: Vec<u8>,
+    },
+    Restoring {
+        stored: Vec<u8>,
     },
     Keys(Vec<Vec<u8>>),
     Crossings {
@@ -165,7 +172,7 @@ fn crossings(who: Who, word: &[u8], a: u8, b: u8) -> i32 {
 }
 
 impl Work {
-    /// Does the work once into an output of 5,002 bytes: its number, and how many bytes it wrote.
+    /// Does the work once into an output of 5,006 bytes: its number, and how many bytes it wrote.
     pub fn run(&self, who: Who, out: &mut [u8]) -> (u32, usize) {
         match (self, who) {
             (Work::Verdict(slip), who) => (verdict(who, slip, &slip.word), 0),
@@ -209,6 +216,16 @@ impl Work {
             }
             (Work::Reduction { word }, Who::Rust) => (0, plain::free_reduce(word, out).unwrap_or(0)),
             (Work::Reduction { word }, Who::C) => (0, plain_c::free_reduce(word, out)),
+            (Work::Storing { word }, Who::Library) => {
+                (0, walnut::store(word, out).map_or(0, |written| written.len()))
+            }
+            (Work::Storing { word }, Who::Rust) => (0, plain::store(word, out).unwrap_or(0)),
+            (Work::Storing { word }, Who::C) => (0, plain_c::store(word, out)),
+            (Work::Restoring { stored }, Who::Library) => {
+                (0, walnut::restore(stored, out).map_or(0, |written| written.len()))
+            }
+            (Work::Restoring { stored }, Who::Rust) => (0, plain::restore(stored, out).unwrap_or(0)),
+            (Work::Restoring { stored }, Who::C) => (0, plain_c::restore(stored, out)),
             (Work::Keys(files), who) => (files.iter().map(|file| key_answer(file, who)).sum(), 0),
             (Work::Crossings { word }, _) => (crossings(who, word, 0, 1) as u32, 0),
         }
@@ -216,7 +233,7 @@ impl Work {
 
     /// What comes of it; of crossings the numbers of all 28 pairs.
     pub fn outcome(&self, who: Who) -> Outcome {
-        let mut out = vec![0; WORD_BYTES];
+        let mut out = vec![0; STORED_BYTES];
         let (number, bytes) = self.run(who, &mut out);
         out.truncate(bytes);
         if let Work::Crossings { word } = self {
@@ -306,8 +323,15 @@ fn reduction(random: &mut Random, letters: usize) -> Work {
     Work::Reduction { word: word_file(&random.tangled_word(letters)) }
 }
 
+/// The stored form of a word of so many letters.
+fn stored(random: &mut Random, letters: usize) -> Vec<u8> {
+    let mut out = [0; STORED_BYTES];
+    let bytes = plain_c::store(&word_file(&random.word(letters)), &mut out);
+    out[..bytes].to_vec()
+}
+
 /// How many cases there are.
-pub const CASES: usize = 19;
+pub const CASES: usize = 21;
 
 /// The case of a number, the same in every run.
 pub fn case(number: usize) -> Case {
@@ -334,7 +358,9 @@ pub fn case(number: usize) -> Case {
         15 => ("lent multiplier, a letter", typical(small), multiplying(random, typical(small))),
         16 => ("28 crossings, 10,000 letters", 1, Work::Crossings { word: word_file(&random.word(LONGEST)) }),
         17 => ("100 copies, by halves", 1, copies(random, true)),
-        _ => ("100 copies, whole", 1, copies(random, false)),
+        18 => ("100 copies, whole", 1, copies(random, false)),
+        19 => ("storing, 10,000 letters", 1, Work::Storing { word: word_file(&random.word(LONGEST)) }),
+        _ => ("restoring, 10,000 letters", 1, Work::Restoring { stored: stored(random, LONGEST) }),
     };
     Case { name, parts, work }
 }

@@ -162,7 +162,7 @@ static int keys(uint8_t key[WALNUT_KEY_BYTES])
     return 0;
 }
 
-/* Moves, free reduction and digests. */
+/* Moves, free reduction, stored forms and digests. */
 static int moves(void)
 {
     const uint8_t three[4] = {0x00, 0x03, 0x01, 0x00}, turn[5] = {0, 1, 0, 0, 3};
@@ -177,6 +177,12 @@ static int moves(void)
     const uint8_t both[3] = {0x00, 0x02, 0x08};
     written = walnut_free_reduce(both, sizeof both, out, sizeof out);
     print_hex("00 02 08 freely reduced is", out, written.bytes);
+    const uint8_t seven[6] = {0x00, 0x07, 0x09, 0x23, 0xC5, 0xE0};
+    uint8_t shelf[WALNUT_STORED_BYTES];
+    written = walnut_store(seven, sizeof seven, shelf, sizeof shelf);
+    print_hex("00 07 09 23 C5 E0 stored is", shelf, written.bytes);
+    written = walnut_restore(shelf, written.bytes, out, sizeof out);
+    print_hex("restored it is", out, written.bytes);
     uint8_t sixes[WALNUT_DIGEST_BYTES];
     memset(sixes, 0x66, sizeof sixes);
     if (walnut_encode_digest(sixes, sizeof sixes, out, sizeof out).bytes != 2 + 64 * 6)

@@ -17,7 +17,7 @@ import operator
 import os
 from typing import Any, Iterable, List, Optional, Tuple, Union
 
-__version__ = "0.3.0"
+__version__ = "0.4.0"
 
 # walnut.h: begin; tools/interface writes these lines
 from ctypes import POINTER, Structure, c_bool, c_char_p, c_int32, c_size_t, c_uint8
@@ -32,6 +32,8 @@ DIGEST_BYTES = 32
 LARGE_DIGEST_BYTES = 64
 # bytes of the longest word file; an output for words must have at least as many
 WORD_BYTES = 5002
+# bytes of the longest stored form; an output for stored forms must have at least as many
+STORED_BYTES = 5006
 # bytes of the longest move list
 MOVES_BYTES = 12290
 # the most letters of a word
@@ -119,6 +121,8 @@ _FUNCTIONS: Any = {
     "walnut_write_word": (_Written, c_char_p, c_size_t, POINTER(c_uint8), c_size_t),
     "walnut_encode_digest": (_Written, c_char_p, c_size_t, POINTER(c_uint8), c_size_t),
     "walnut_free_reduce": (_Written, c_char_p, c_size_t, POINTER(c_uint8), c_size_t),
+    "walnut_store": (_Written, c_char_p, c_size_t, POINTER(c_uint8), c_size_t),
+    "walnut_restore": (_Written, c_char_p, c_size_t, POINTER(c_uint8), c_size_t),
     "walnut_rewrite": (_Written, c_char_p, c_size_t, c_char_p, c_size_t, POINTER(c_uint8), c_size_t),
     "walnut_verify": (c_uint8, c_char_p, c_size_t, c_char_p, c_size_t, c_char_p, c_size_t),
     "walnut_first_half": (_Halved, c_char_p, c_size_t, c_char_p, c_size_t),
@@ -186,6 +190,8 @@ class Answer(enum.IntEnum):
     LIST = 25
     NO_INVERSE = 26
     TWO_LABELS = 27
+    STORED_SIZES = 28
+    STORED_BITS = 29
     # answers.txt: end
 
 
@@ -207,7 +213,7 @@ TEXTS = {
     12: "a code is not a letter",
     13: "the last half byte of an odd word is not 0",
     14: "the matrices differ: the word is not a signature of this digest under this key",
-    15: "the output is too small: a word needs 5,002 bytes",
+    15: "the output is too small: a word needs 5,002 bytes, a stored form 5,006",
     16: "the output is too small: a key needs 83 bytes, or 128 in the larger field",
     17: "a T-value, matrix entry or operand is outside the field (0 to 31, or 0 to 255)",
     18: "the move list has fewer than 2 bytes",
@@ -220,6 +226,8 @@ TEXTS = {
     25: "the list to cloak for is not 8 bytes, 0 to 7 each once",
     26: "a matrix of the key, or of a half, has no inverse",
     27: "a label is over 7, or both labels are equal",
+    28: "the stored form has fewer than 6 bytes, or its sizes disagree with its letters or length",
+    29: "a generator of the stored form is 7, or its filler bits are not all zero",
     # answers.txt: end
 }
 
@@ -336,11 +344,16 @@ def _slices(**parts: Bytes) -> List[Any]:
     return passed
 
 
+def _file_written(function: Any, room: int, **parts: Bytes) -> bytes:
+    """What a writer wrote to an output of so many bytes."""
+    out = (c_uint8 * room)()
+    written = function(*_slices(**parts), out, room)
+    return _granted(written.answer, bytes(out[: written.bytes]))
+
+
 def _word_written(function: Any, **parts: Bytes) -> bytes:
     """What a writer of words wrote."""
-    out = (c_uint8 * WORD_BYTES)()
-    written = function(*_slices(**parts), out, WORD_BYTES)
-    return _granted(written.answer, bytes(out[: written.bytes]))
+    return _file_written(function, WORD_BYTES, **parts)
 
 
 # ---- letters
@@ -604,6 +617,16 @@ def encode_digest(digest: Bytes) -> bytes:
 def free_reduce(word: Bytes) -> bytes:
     """The freely reduced word of a word file."""
     return _word_written(_lib.walnut_free_reduce, word=word)
+
+
+def store(word: Bytes) -> bytes:
+    """The stored form of a word file."""
+    return _file_written(_lib.walnut_store, STORED_BYTES, word=word)
+
+
+def restore(stored: Bytes) -> bytes:
+    """The word file of a stored form."""
+    return _word_written(_lib.walnut_restore, stored=stored)
 
 
 def rewrite(word: Bytes, moves: Union[bytes, bytearray, memoryview, Iterable[Move]]) -> bytes:

@@ -76,7 +76,7 @@ def kind_is_known(kind):
     return True
 
 
-# ---- keys
+# ---- keys and stored forms
 
 
 class KeyParts:
@@ -92,6 +92,15 @@ class KeyParts:
         self.labels = (3 + bits + matrix, 3)
         self.second = (6 + bits + matrix, matrix)
         self.filler = 8 * matrix - 57 * bits
+
+
+class StoredParts:
+    """Where the rows of a stored form of so many letters stand: the first byte of each row, and its number of bytes."""
+
+    def __init__(self, letters):
+        signs, generators = (letters + 7) // 8, (3 * letters + 7) // 8
+        self.signs = (6, signs)
+        self.generators = (6 + signs, generators)
 
 
 def packed(file, part, bits, count):

@@ -1,4 +1,4 @@
-"""Prints words, keys and move lists as text. For a refused file it prints the first question that fails, where in the
+"""Prints words, stored forms, keys and move lists as text. For a refused file it prints the first question that fails, where in the
 file that is, and what stands there. For a move list that a word refuses, it prints which move fails."""
 
 import walnut
@@ -12,7 +12,7 @@ ROW = 10
 
 
 def main(what, *paths):
-    {"word": show_word, "key": show_key, "moves": show_moves}[what](*paths)
+    {"word": show_word, "stored": show_stored, "key": show_key, "moves": show_moves}[what](*paths)
 
 
 def places(first, count):
@@ -25,8 +25,11 @@ def places(first, count):
 
 def show_word(path):
     codes, size = word(path)[1:]
-    size_told = f"a word of {count(len(codes), 'letter')} in {size} bytes"
-    print(f"# {size_told}; each row begins with the place of its first letter")
+    print_letters(f"a word of {count(len(codes), 'letter')} in {size} bytes", codes)
+
+
+def print_letters(told, codes):
+    print(f"# {told}; each row begins with the place of its first letter")
     width = len(str(len(codes)))
     for place in range(0, len(codes), ROW):
         print(f"{place:{width}}: " + " ".join(letter_text(code) for code in codes[place : place + ROW]))
@@ -70,6 +73,54 @@ def word_fault(path, file, size, answer):
         told = f"so the letter at place {place} has the code {code}; 7 and 15 are not letters"
         return [at + f"byte {byte}: {file[byte]:02x}, {told}"]
     return [f"{stated}; byte {size - 1}: {file[-1]:02x}, whose low half is unused and must be 0"]
+
+
+# ---- stored forms
+
+
+def show_stored(path):
+    file, size = files.read(path, walnut.STORED_BYTES)
+    try:
+        codes = walnut.codes(walnut.restore(file))
+    except walnut.Refusal as refusal:
+        raise Refused(refusal.number, *stored_fault(path, file, size, refusal.number)) from None
+    parts = files.StoredParts(len(codes))
+    rows = f"{count(parts.signs[1], 'byte')} of signs, {count(parts.generators[1], 'byte')} of generators"
+    print_letters(f"the stored form of a word of {count(len(codes), 'letter')} in {size} bytes: {rows}", codes)
+
+
+def stored_fault(path, file, size, answer):
+    """The place at which a refused stored form fails, and what stands there."""
+    if size < 6:
+        return [f"'{path}' has {count(size, 'byte')}; a stored form has at least 6"]
+    at = f"'{path}', {size} bytes, "
+    letters, signs, generators = (int.from_bytes(file[place : place + 2], "big") for place in (0, 2, 4))
+    stated = at + f"bytes 0 and 1: {file[:2].hex(' ')}, so it states {count(letters, 'letter')}"
+    if answer == 10:
+        return [f"{stated}; a word has at most {walnut.LETTERS}"]
+    parts = files.StoredParts(letters)
+    if answer == 29:
+        return [at + line for line in stored_bits(file, parts, letters)]
+    if signs != parts.signs[1]:
+        return [f"{stated} and needs {parts.signs[1]} bytes of signs; bytes 2 and 3 state {signs}"]
+    if generators != parts.generators[1]:
+        return [f"{stated} and needs {parts.generators[1]} bytes of generators; bytes 4 and 5 state {generators}"]
+    return [f"{stated} and needs {6 + signs + generators} bytes; the file has {size}"]
+
+
+def stored_bits(file, parts, letters):
+    """The first generator that is 7, and filler that is not zero."""
+    numbers = files.packed(file, parts.generators, 3, letters)
+    if 7 in numbers:
+        place = numbers.index(7)
+        first, last = (parts.generators[0] + (3 * place + bit) // 8 for bit in (0, 2))
+        told = f"the generator at place {place} is the number 7; 0 to 6 stand for b1 to b7"
+        yield f"{places(first, last - first + 1)}: {file[first : last + 1].hex(' ')}, {told}"
+    for name, (start, length), bits in (("signs", parts.signs, 1), ("generators", parts.generators, 3)):
+        filler = 8 * length - bits * letters
+        if length and file[start + length - 1] % 2**filler:
+            last = start + length - 1
+            yield f"byte {last}: {file[last]:02x}, whose last {count(filler, 'bit')}, after the {name}, must be 0"
 
 
 # ---- keys

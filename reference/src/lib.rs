@@ -1,5 +1,5 @@
 //! A second, independent road to the operations of document 01 ("Loan-slip signatures: braid words, keys and
-//! moves") and of document 02's sections 1, 2, 4 and 7, to run beside another implementation.
+//! moves") and of document 02's sections 1, 2, 4, 6 and 7, to run beside another implementation.
 //!
 //! It is written for plainness, not speed, and takes another way wherever there is one:
 //!
@@ -10,7 +10,8 @@
 //!   ([`matrix`]);
 //! - a letter acts on a pair as a whole coloured Burau matrix, by the general matrix product ([`pair`]);
 //! - files are packed and unpacked over an explicit string of bits ([`bits`]), where each part of a key of either
-//!   size has its place ([`key`]);
+//!   size has its place ([`key`]), and the signs and the generators of a stored form have strings of their own
+//!   ([`stored`]);
 //! - free reduction removes the first cancelling neighbours, again and again ([`reduce`]);
 //! - a move splices other letters into a run of letters, and the next one starts from what it left
 //!   ([`rewrite`](mod@rewrite));
@@ -43,6 +44,7 @@ pub mod pair;
 pub mod questions;
 pub mod reduce;
 pub mod rewrite;
+pub mod stored;
 pub mod testkit;
 pub mod verdict;
 pub mod word;
@@ -57,6 +59,7 @@ pub use matrix::{matrix_product, Matrix};
 pub use pair::{multiply, start, Pair};
 pub use reduce::free_reduce;
 pub use rewrite::rewrite;
+pub use stored::{restore, store};
 pub use verdict::verify;
 pub use word::{code_part, letter_at, letters, read_word, write_word, Word, WordReader, Written};
 

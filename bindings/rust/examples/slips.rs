@@ -4,7 +4,7 @@
 use std::error::Error;
 
 use walnut::Field::{self, Gf256, Gf32};
-use walnut::{Letter, Moves, Pair, Refusal, DIGEST_BYTES, WORD_BYTES};
+use walnut::{Letter, Moves, Pair, Refusal, DIGEST_BYTES, STORED_BYTES, WORD_BYTES};
 
 const T_VALUES: [u8; 8] = [1, 1, 2, 3, 4, 5, 6, 7];
 const ORDER: [u8; 8] = [0, 1, 2, 3, 4, 5, 6, 7];
@@ -93,7 +93,7 @@ fn keys() -> Result<Vec<u8>, Refusal> {
     Ok(key)
 }
 
-/// Moves, free reduction and digests.
+/// Moves, free reduction, stored forms and digests.
 fn moves() -> Result<(), Refusal> {
     let mut out = [0; WORD_BYTES];
     let moved = walnut::rewrite(&[0, 3, 1, 0], &[0, 1, 0, 0, 3], &mut out)?;
@@ -103,6 +103,10 @@ fn moves() -> Result<(), Refusal> {
     let moved = walnut::rewrite(&[0, 5, 0x01, 0x03, 0xB0], &moves, &mut out)?;
     println!("on 00 05 01 03 B0 it gives {}", hex(moved));
     println!("00 02 08 freely reduced is {}", hex(walnut::free_reduce(&[0, 2, 8], &mut out)?));
+    let mut shelf = [0; STORED_BYTES];
+    let stored = walnut::store(&[0x00, 0x07, 0x09, 0x23, 0xC5, 0xE0], &mut shelf)?;
+    println!("00 07 09 23 C5 E0 stored is {}", hex(stored));
+    println!("restored it is {}", hex(walnut::restore(stored, &mut out)?));
     println!("half byte 6 gives {}", hex(&walnut::encode_digest(&[0x66; DIGEST_BYTES], &mut out)?[2..8]));
     Ok(())
 }

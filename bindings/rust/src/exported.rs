@@ -103,6 +103,8 @@ extern "C" {
     pub fn walnut_write_word(codes: *const u8, n: usize, out: *mut u8, len: usize) -> Written;
     pub fn walnut_encode_digest(digest: *const u8, n: usize, out: *mut u8, len: usize) -> Written;
     pub fn walnut_free_reduce(word: *const u8, n: usize, out: *mut u8, len: usize) -> Written;
+    pub fn walnut_store(word: *const u8, n: usize, out: *mut u8, len: usize) -> Written;
+    pub fn walnut_restore(stored: *const u8, n: usize, out: *mut u8, len: usize) -> Written;
     pub fn walnut_rewrite(
         word: *const u8,
         n: usize,

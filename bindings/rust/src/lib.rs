@@ -205,6 +205,21 @@ pub fn free_reduce<'a>(word: &[u8], out: &'a mut [u8]) -> Result<&'a mut [u8], R
     written(file, out)
 }
 
+/// Writes the stored form of a word file to an output of at least [`STORED_BYTES`]; gives the part of the output that
+/// holds it.
+pub fn store<'a>(word: &[u8], out: &'a mut [u8]) -> Result<&'a mut [u8], Refusal> {
+    // SAFETY: see above.
+    let file = unsafe { walnut_store(word.as_ptr(), word.len(), out.as_mut_ptr(), out.len()) };
+    written(file, out)
+}
+
+/// Writes the word file of a stored form; gives the part of the output that holds it.
+pub fn restore<'a>(stored: &[u8], out: &'a mut [u8]) -> Result<&'a mut [u8], Refusal> {
+    // SAFETY: see above.
+    let file = unsafe { walnut_restore(stored.as_ptr(), stored.len(), out.as_mut_ptr(), out.len()) };
+    written(file, out)
+}
+
 /// Makes the moves of a list on a word file; gives the part of the output that holds the new word. [`Moves`] makes the
 /// list's file.
 pub fn rewrite<'a>(word: &[u8], moves: &[u8], out: &'a mut [u8]) -> Result<&'a mut [u8], Refusal> {

@@ -10,6 +10,8 @@ pub const DIGEST_BYTES: usize = 32;
 pub const LARGE_DIGEST_BYTES: usize = 64;
 /// Bytes of the longest word file; an output for words must have at least as many.
 pub const WORD_BYTES: usize = 5002;
+/// Bytes of the longest stored form; an output for stored forms must have at least as many.
+pub const STORED_BYTES: usize = 5006;
 /// Bytes of the longest move list.
 pub const MOVES_BYTES: usize = 12290;
 /// The most letters of a word.

@@ -21,7 +21,7 @@ fn text(number: u8) -> &'static str {
         12 => "a code is not a letter",
         13 => "the last half byte of an odd word is not 0",
         14 => "the matrices differ: the word is not a signature of this digest under this key",
-        15 => "the output is too small: a word needs 5,002 bytes",
+        15 => "the output is too small: a word needs 5,002 bytes, a stored form 5,006",
         16 => "the output is too small: a key needs 83 bytes, or 128 in the larger field",
         17 => "a T-value, matrix entry or operand is outside the field (0 to 31, or 0 to 255)",
         18 => "the move list has fewer than 2 bytes",
@@ -34,6 +34,8 @@ fn text(number: u8) -> &'static str {
         25 => "the list to cloak for is not 8 bytes, 0 to 7 each once",
         26 => "a matrix of the key, or of a half, has no inverse",
         27 => "a label is over 7, or both labels are equal",
+        28 => "the stored form has fewer than 6 bytes, or its sizes disagree with its letters or length",
+        29 => "a generator of the stored form is 7, or its filler bits are not all zero",
         // answers.txt: end
         _ => "an answer that this binding does not know",
     }
@@ -74,7 +76,7 @@ impl Refusal {
     pub const WORD_FILLER: Refusal = Refusal(13);
     /// The matrices differ: the word is not a signature of this digest under this key.
     pub const MATRICES_DIFFER: Refusal = Refusal(14);
-    /// The output is too small: a word needs 5,002 bytes.
+    /// The output is too small: a word needs 5,002 bytes, a stored form 5,006.
     pub const OUTPUT_SHORT: Refusal = Refusal(15);
     /// The output is too small: a key needs 83 bytes, or 128 in the larger field.
     pub const KEY_OUTPUT_SHORT: Refusal = Refusal(16);
@@ -100,6 +102,10 @@ impl Refusal {
     pub const NO_INVERSE: Refusal = Refusal(26);
     /// A label is over 7, or both labels are equal.
     pub const TWO_LABELS: Refusal = Refusal(27);
+    /// The stored form has fewer than 6 bytes, or its sizes disagree with its letters or length.
+    pub const STORED_SIZES: Refusal = Refusal(28);
+    /// A generator of the stored form is 7, or its filler bits are not all zero.
+    pub const STORED_BITS: Refusal = Refusal(29);
     // answers.txt: end
 
     /// The number; never 0.

@@ -59,14 +59,21 @@ fn put_at(beside: usize, new: usize, bytes: &[u8], alone: bool) -> bool {
     put(&first[..n], &second[..m], bytes, alone)
 }
 
-// How many letters and bytes became how many.
-fn sizes(old: &[u8], new: &[u8]) {
-    let before = word::read_word(old);
-    let after = word::read_word(new);
+// The number of letters of a word's file, or the number that a stored form states.
+fn letters(file: &[u8], stored: bool) -> usize {
+    if stored && 2 <= file.len() {
+        return base::two_bytes(file, 0);
+    }
+    let w = word::read_word(file);
+    w.letters
+}
+
+// How many letters and bytes became how many. The last two say which of the files is a stored form.
+fn sizes(old: &[u8], new: &[u8], from_stored: bool, to_stored: bool) {
     print::text(b"letters");
-    print::number(before.letters);
+    print::number(letters(old, from_stored));
     print::text(b" to");
-    print::number(after.letters);
+    print::number(letters(new, to_stored));
     print::text(b", bytes");
     print::number(old.len());
     print::text(b" to");
@@ -78,8 +85,9 @@ fn tell(answer: u8) {
     desk_io::tell(desk_line::answer_line(answer));
 }
 
-// What was made of a word goes to the file that argument `new` names, and the account of it to standard output.
-fn end(made: Made, word: &[u8], new: usize, alone: bool)
+// What was made of a file goes to the file that argument `new` names, and the account of it to standard output. The
+// last two say which of the files is a stored form.
+fn end(made: Made, old: &[u8], new: usize, alone: bool, from_stored: bool, to_stored: bool)
     requires { ⌜ Counts (made .bytes) (made .file) ⌝ }
 {
     if !made.read {
@@ -95,7 +103,7 @@ fn end(made: Made, word: &[u8], new: usize, alone: bool)
     }
     tell(answer);
     if answer == 0 {
-        sizes(word, &file[..bytes]);
+        sizes(old, &file[..bytes], from_stored, to_stored);
     }
 }
 
@@ -109,7 +117,7 @@ fn slip(key: &[u8; desk_line::KEY_ROOM], k: Got, at: usize, alone: bool)
     let w = desk_io::file(at + 1, &mut word);
     let made = desk_words::shorten(key, &digest, &word, k, d, w);
     let n = w.bytes;
-    end(made, text::part(&word, 0, n), at + 2, alone);
+    end(made, text::part(&word, 0, n), at + 2, alone, false, false);
 }
 
 // Shortens slips under one key: a name beside the new files, the key, then digest, signature and new signature of each
@@ -133,7 +141,7 @@ fn rewrite() {
     let m = desk_io::file(4, &mut moves);
     let made = desk_words::rewrite(&word, &moves, w, m);
     let n = w.bytes;
-    end(made, text::part(&word, 0, n), 5, true);
+    end(made, text::part(&word, 0, n), 5, true, false, false);
 }
 
 // Reduces a word freely: a name beside the new file, the word, the new word.
@@ -142,7 +150,25 @@ fn reduce() {
     let w = desk_io::file(3, &mut word);
     let made = desk_words::reduce(&word, w);
     let n = w.bytes;
-    end(made, text::part(&word, 0, n), 4, true);
+    end(made, text::part(&word, 0, n), 4, true, false, false);
+}
+
+// Stores a word: a name beside the new file, the word, its stored form.
+fn store() {
+    let mut word = [0u8; desk_line::WORD_ROOM];
+    let w = desk_io::file(3, &mut word);
+    let made = desk_words::store(&word, w);
+    let n = w.bytes;
+    end(made, text::part(&word, 0, n), 4, true, false, true);
+}
+
+// Restores a word: a name beside the new file, the stored form, the word.
+fn restore() {
+    let mut form = [0u8; desk_words::STORED_ROOM];
+    let f = desk_io::file(3, &mut form);
+    let made = desk_words::restore(&form, f);
+    let n = f.bytes;
+    end(made, text::part(&form, 0, n), 4, true, true, false);
 }
 
 // The program: its verb, and the number of names that this verb takes. Of many slips each has three.
@@ -157,9 +183,13 @@ pub fn new_word() {
         rewrite();
     } else if base::equal(verb, b"reduce") && n == 5 {
         reduce();
+    } else if base::equal(verb, b"store") && n == 5 {
+        store();
+    } else if base::equal(verb, b"restore") && n == 5 {
+        restore();
     } else {
         desk_io::misused(
-            b"new_word takes a verb and, after a name beside the new file, the verb's files: shorten KEY DIGEST SIGNATURE NEW, rewrite WORD MOVES NEW or reduce WORD NEW\n",
+            b"new_word takes a verb and, after a name beside the new file, the verb's files: shorten KEY DIGEST SIGNATURE NEW, rewrite WORD MOVES NEW, reduce WORD NEW, store WORD NEW or restore STORED NEW\n",
         );
     }
 }

@@ -1,5 +1,5 @@
 -- What a verb makes, from what its parts give: nothing where a file could not be read or the answer is a refusal, and
--- what a writer of words wrote to zeros.
+-- what a writer wrote to zeros.
 use Prim.Native.Nat.{ℕ, _≤_}
 use native.Mathlib.Omega.{arith}
 use mathlib.Core.Path.{_≡_, refl, sym, ap, _∙_, transport}
@@ -19,10 +19,10 @@ pub record Bare (read : Bool) (answer : ℕ) (made : Made) : Type 0 where
   pub read-is : made .read ≡ read
   pub answer-is : made .answer ≡ answer
   pub bytes-are : made .bytes ≡ 0
-  pub file-is : made .file ≡ replicate 5002 0
+  pub file-is : made .file ≡ replicate 5006 0
 
 pub bare-of : {read : Bool} {answer : ℕ} {made : Made}
-    → (made .read ≡ read) × (made .answer ≡ answer) × (made .bytes ≡ 0) × (made .file ≡ replicate 5002 0)
+    → (made .read ≡ read) × (made .answer ≡ answer) × (made .bytes ≡ 0) × (made .file ≡ replicate 5006 0)
     → Bare read answer made
 bare-of p = record { read-is = p .0; answer-is = p .1; bytes-are = p .2; file-is = p .3 }
 
@@ -50,9 +50,9 @@ pub refused : {made : Made} (answer : ℕ) (new : List ℕ) → (answer ≡ 0 �
 unfolding toWrite
 refused answer new h b = bare-makes answer new b refl (granted-refused new [] h)
 
--- what a writer of words wrote to zeros
+-- what a writer wrote to zeros
 pub wrote-makes : {questions : List Question} {new : List ℕ} {made : Made} (answer : ℕ) → made .read ≡ true
-    → Wrote questions new (replicate 5002 0) (made .file) (made .answer) (made .bytes) → firstNo questions ≡ answer
+    → Wrote questions new (replicate 5006 0) (made .file) (made .answer) (made .bytes) → firstNo questions ≡ answer
     → MakesNew true answer new made
 unfolding toWrite overlaid
 wrote-makes {questions} {new} {made} answer r w e =
@@ -61,8 +61,8 @@ wrote-makes {questions} {new} {made} answer r w e =
       answer-is = w .answer-is ∙ e;
       bytes-are = w .bytes-is ∙ ap (λ (n : ℕ). granted n (length new) 0) e ∙ sym (granted-ap length answer new []);
       file-is =
-          w .output-is ∙ ap (λ (n : ℕ). granted n (overlaid new (replicate 5002 0)) (replicate 5002 0)) e
-          ∙ sym (granted-ap (λ l. overlaid l (replicate 5002 0)) answer new []);
+          w .output-is ∙ ap (λ (n : ℕ). granted n (overlaid new (replicate 5006 0)) (replicate 5006 0)) e
+          ∙ sym (granted-ap (λ l. overlaid l (replicate 5006 0)) answer new []);
     }
 
 -- the same with another name for the answer
@@ -70,13 +70,13 @@ pub makes-as : {read : Bool} {a b : ℕ} {new : List ℕ} {made : Made} → a �
     → MakesNew read b new made
 makes-as e m = rw (sym e) m
 
--- on answer 0 the bytes to write are the new word's file
+-- on answer 0 the bytes to write are the new file
 pub made-file : {answer : ℕ} {new : List ℕ} {made : Made} → MakesNew true answer new made → made .answer ≡ 0
     → take (made .bytes) (made .file) ≡ new
 unfolding toWrite
 made-file {answer} {new} m z =
     let g : granted answer new [] ≡ new = granted-zero new [] (sym (m .answer-is) ∙ z) in
-    rw (m .bytes-are, m .file-is, g) (take-overlaid new (replicate 5002 0))
+    rw (m .bytes-are, m .file-is, g) (take-overlaid new (replicate 5006 0))
 
 -- the bytes counted lie within the file
 pub bytes-within : {read : Bool} {answer : ℕ} {new : List ℕ} {made : Made} → MakesNew read answer new made

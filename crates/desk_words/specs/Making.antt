@@ -1,4 +1,4 @@
--- The verbs of the desk that make a new word: what they answer, what they write, and how large a buffer has to be.
+-- The verbs of the desk that make a new file: what they answer, what they write, and how large a buffer has to be.
 use Prim.Native.Nat.{ℕ}
 use mathlib.Core.Path.{_≡_}
 use mathlib.Core.Bool.{Bool, true, cond}
@@ -7,14 +7,15 @@ use lib.ListN.{length, take, replicate}
 use Rattle.base.specs.Questions.{firstNo, granted}
 use Rattle.base.specs.Lists.{overlaid}
 use Rattle.text.specs.Enough.{Enough, EnoughOfTwo, EnoughOfThree}
-use Rattle.word.specs.Words.{codes, maxBytes, wordAnswer, wordFile}
+use Rattle.word.specs.Words.{codes, wordAnswer, wordFile}
 use Rattle.word.specs.Reduction.{reduced}
+use Rattle.word_stored.specs.Stored.{maxStored, storedFile, storedCodes, storedAnswer}
 use Rattle.slip_verdict.specs.Verdict.{verdict}
 use Rattle.move_kinds.specs.Rewriting.{rewritten, rewriterQuestions}
 use Rattle.slip_meaning.specs.Meaning.{SameMeaning}
 use Rattle.desk_words.specs.declared.Made.{Made}
 
--- the bytes to write: the new word's file where every file could be read and the answer is 0, and otherwise none
+-- the bytes to write: the new file where every file could be read and the answer is 0, and otherwise none
 unfoldable pub toWrite : Bool → ℕ → List ℕ → List ℕ
 toWrite read answer new = cond read (granted answer new []) []
 
@@ -28,7 +29,7 @@ pub record MakesNew (read : Bool) (answer : ℕ) (new : List ℕ) (made : Made) 
   pub read-is : made .read ≡ read
   pub answer-is : made .answer ≡ cond read answer noAnswer
   pub bytes-are : made .bytes ≡ length (toWrite read answer new)
-  pub file-is : made .file ≡ overlaid (toWrite read answer new) (replicate maxBytes 0)
+  pub file-is : made .file ≡ overlaid (toWrite read answer new) (replicate maxStored 0)
 
 -- the file of the freely reduced word
 abbrev pub shortFile : List ℕ → List ℕ
@@ -41,7 +42,7 @@ pub record Shortens (read : Bool) (key digest word : List ℕ) (made : Made) : T
 
 -- the rewriter's answer, where its output has room
 unfoldable pub rewriteAnswer : List ℕ → List ℕ → ℕ
-rewriteAnswer word moves = firstNo (rewriterQuestions maxBytes word moves)
+rewriteAnswer word moves = firstNo (rewriterQuestions maxStored word moves)
 
 -- rewriting a word: the rewriter's answer, and the file of the new word, which means what the old one means
 pub record Rewrites (read : Bool) (word moves : List ℕ) (made : Made) : Type 0 where
@@ -52,8 +53,17 @@ pub record Rewrites (read : Bool) (word moves : List ℕ) (made : Made) : Type 0
 abbrev pub Reduces : Bool → List ℕ → Made → Type 0
 Reduces read word made = MakesNew read (wordAnswer word) (shortFile word) made
 
--- These numbers of bytes are enough to read of a slip to shorten it, of a word and a move list to rewrite it, and of a
--- word to reduce it: the answer and the bytes written are those for the whole files, however long they are.
+-- storing a word: the word's answer, and its stored form
+abbrev pub Stores : Bool → List ℕ → Made → Type 0
+Stores read word made = MakesNew read (wordAnswer word) (storedFile (codes word)) made
+
+-- restoring a word: the stored form's answer, and the word's file
+abbrev pub Restores : Bool → List ℕ → Made → Type 0
+Restores read file made = MakesNew read (storedAnswer file) (wordFile (storedCodes file)) made
+
+-- These numbers of bytes are enough to read of a slip to shorten it, of a word and a move list to rewrite it, of a word
+-- to reduce or store it, and of a stored form to restore it: the answer and the bytes written are those for the whole
+-- files, however long they are.
 abbrev pub EnoughToShorten : ℕ → ℕ → ℕ → Type 0
 EnoughToShorten k d w =
     EnoughOfThree k d w verdict
@@ -66,3 +76,11 @@ EnoughToRewrite w m =
 
 abbrev pub EnoughToReduce : ℕ → Type 0
 EnoughToReduce w = Enough w wordAnswer × Enough w (λ word. toWrite true (wordAnswer word) (shortFile word))
+
+abbrev pub EnoughToStore : ℕ → Type 0
+EnoughToStore w =
+    Enough w wordAnswer × Enough w (λ word. toWrite true (wordAnswer word) (storedFile (codes word)))
+
+abbrev pub EnoughToRestore : ℕ → Type 0
+EnoughToRestore n =
+    Enough n storedAnswer × Enough n (λ file. toWrite true (storedAnswer file) (wordFile (storedCodes file)))

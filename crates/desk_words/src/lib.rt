@@ -1,22 +1,25 @@
-// A new word from files: shortened, rewritten or reduced. The functions take arrays whose sizes are given here and in
-// `desk_line`, so a program cannot hand in a buffer of another size.
+// A new file from files: a word shortened, rewritten, reduced or restored, or the stored form of a word. The functions
+// take arrays whose sizes are given here and in `desk_line`, so a program cannot hand in a buffer of another size.
 use desk_line::Got;
 ghost use mathlib.Core.Path.{_≡_};
 ghost use mathlib.Core.Bool.{true, false, _&&_};
 ghost use lib.ListN.{length, take, replicate};
 ghost use Rattle.desk_words.specs.Making.{noAnswer, Shortens, Rewrites, Reduces, EnoughToShorten};
-ghost use Rattle.desk_words.specs.Making.{EnoughToRewrite, EnoughToReduce};
+ghost use Rattle.desk_words.specs.Making.{EnoughToRewrite, EnoughToReduce, Stores, Restores};
+ghost use Rattle.desk_words.specs.Making.{EnoughToStore, EnoughToRestore};
 
 // The bytes to read of a move list: one more than it may hold.
 pub const MOVES_ROOM: usize = 2 + 3 * 4096 + 1;
 
-// What a verb makes: could every file be read? The answer, and the new word's file, the first `bytes` bytes; zeros
-// after it.
+// The bytes to read of a stored form: one more than it may have.
+pub const STORED_ROOM: usize = word_store::MAX_STORED + 1;
+
+// What a verb makes: could every file be read? The answer, and the new file, the first `bytes` bytes; zeros after it.
 pub struct Made {
     pub read: bool,
     pub answer: u8,
     pub bytes: usize,
-    pub file: [u8; word::MAX_BYTES],
+    pub file: [u8; word_store::MAX_STORED],
 }
 
 impl Made {
@@ -25,19 +28,19 @@ impl Made {
 
     // The answer alone, and nothing to write.
     fn bare(read: bool, answer: u8) -> Made
-        ensures { λ r. ⌜ (r .read ≡ read) × (r .answer ≡ answer) × (r .bytes ≡ 0) × (r .file ≡ replicate 5002 0) ⌝ }
+        ensures { λ r. ⌜ (r .read ≡ read) × (r .answer ≡ answer) × (r .bytes ≡ 0) × (r .file ≡ replicate 5006 0) ⌝ }
     {
         Made {
             read,
             answer,
             bytes: 0,
-            file: [0; word::MAX_BYTES],
+            file: [0; word_store::MAX_STORED],
         }
     }
 
     // A file could not be read: no answer.
     fn unread() -> Made
-        ensures { λ r. ⌜ (r .read ≡ false) × (r .answer ≡ noAnswer) × (r .bytes ≡ 0) × (r .file ≡ replicate 5002 0) ⌝ }
+        ensures { λ r. ⌜ (r .read ≡ false) × (r .answer ≡ noAnswer) × (r .bytes ≡ 0) × (r .file ≡ replicate 5006 0) ⌝ }
     {
         Made::bare(false, Made::NO_ANSWER)
     }
@@ -47,8 +50,40 @@ impl Made {
 fn reduced(word: &[u8]) -> Made
     ensures { λ r. ⌜ Reduces true (now (word .entry)) r ⌝ }
 {
-    let mut file = [0u8; word::MAX_BYTES];
+    let mut file = [0u8; word_store::MAX_STORED];
     let written = word_reduction::free_reduce(word, &mut file);
+    let answer = written.answer;
+    let bytes = written.bytes;
+    Made {
+        read: true,
+        answer,
+        bytes,
+        file,
+    }
+}
+
+// A word stored.
+fn stored(word: &[u8]) -> Made
+    ensures { λ r. ⌜ Stores true (now (word .entry)) r ⌝ }
+{
+    let mut file = [0u8; word_store::MAX_STORED];
+    let written = word_store::store(word, &mut file);
+    let answer = written.answer;
+    let bytes = written.bytes;
+    Made {
+        read: true,
+        answer,
+        bytes,
+        file,
+    }
+}
+
+// A word restored from its stored form.
+fn restored(form: &[u8]) -> Made
+    ensures { λ r. ⌜ Restores true (now (form .entry)) r ⌝ }
+{
+    let mut file = [0u8; word_store::MAX_STORED];
+    let written = word_restore::restore(form, &mut file);
     let answer = written.answer;
     let bytes = written.bytes;
     Made {
@@ -63,7 +98,7 @@ fn reduced(word: &[u8]) -> Made
 fn rewritten(word: &[u8], moves: &[u8]) -> Made
     ensures { λ r. ⌜ Rewrites true (now (word .entry)) (now (moves .entry)) r ⌝ }
 {
-    let mut file = [0u8; word::MAX_BYTES];
+    let mut file = [0u8; word_store::MAX_STORED];
     let written = move_rewriter::rewrite(word, moves, &mut file);
     let answer = written.answer;
     let bytes = written.bytes;
@@ -154,4 +189,30 @@ pub fn reduce(word: &[u8; desk_line::WORD_ROOM], w: Got) -> Made
         return Made::unread();
     }
     reduced(w_read)
+}
+
+// Storing the word in a file.
+pub fn store(word: &[u8; desk_line::WORD_ROOM], w: Got) -> Made
+    ensures { λ r. ⌜ Stores (w .read) (take (w .bytes) (now (word .entry))) r ⌝ }
+    ensures { λ _. ⌜ EnoughToStore (length (now (word .entry))) ⌝ }
+{
+    let w_n = w.bytes;
+    let w_read = text::part(word, 0, w_n);
+    if !w.read {
+        return Made::unread();
+    }
+    stored(w_read)
+}
+
+// Restoring a word from the stored form in a file.
+pub fn restore(form: &[u8; STORED_ROOM], f: Got) -> Made
+    ensures { λ r. ⌜ Restores (f .read) (take (f .bytes) (now (form .entry))) r ⌝ }
+    ensures { λ _. ⌜ EnoughToRestore (length (now (form .entry))) ⌝ }
+{
+    let f_n = f.bytes;
+    let f_read = text::part(form, 0, f_n);
+    if !f.read {
+        return Made::unread();
+    }
+    restored(f_read)
 }

@@ -14,6 +14,7 @@ ghost use Rattle.slip_cloaking.specs.Cloaking.{Cloaks};
 ghost use Rattle.move_rewriter.specs.Rewriter.{Rewrote};
 ghost use Rattle.walnut.specs.Exported.{keyFrom, halfFrom};
 ghost use Rattle.word_reduction.specs.Reducer.{WroteReduced};
+ghost use Rattle.word_stored.specs.Stored.{WroteStored, WroteRestored};
 ghost use Rattle.slip_digest.specs.Digest.{WroteEncoded};
 ghost use Rattle.word_crossing.specs.Crossings.{Crosses};
 use field::Element;
@@ -173,6 +174,20 @@ pub extern "C" fn walnut_free_reduce(word: &[u8], out: &mut [u8]) -> Written
     ensures { λ r. ⌜ WroteReduced (now (word .entry)) (now (out .entry)) (now (out .exit)) (r .answer) (r .bytes) ⌝ }
 {
     word_reduction::free_reduce(word, out)
+}
+
+#[no_mangle]
+pub extern "C" fn walnut_store(word: &[u8], out: &mut [u8]) -> Written
+    ensures { λ r. ⌜ WroteStored (now (word .entry)) (now (out .entry)) (now (out .exit)) (r .answer) (r .bytes) ⌝ }
+{
+    word_store::store(word, out)
+}
+
+#[no_mangle]
+pub extern "C" fn walnut_restore(stored: &[u8], out: &mut [u8]) -> Written
+    ensures { λ r. ⌜ WroteRestored (now (stored .entry)) (now (out .entry)) (now (out .exit)) (r .answer) (r .bytes) ⌝ }
+{
+    word_restore::restore(stored, out)
 }
 
 #[no_mangle]

@@ -11,9 +11,11 @@ pub mod product;
 pub mod read_key;
 pub mod read_word;
 pub mod reciprocal;
+pub mod restore;
 pub mod rewrite;
 pub mod second_half;
 pub mod start;
+pub mod store;
 pub mod verify;
 pub mod write_key;
 pub mod write_word;
@@ -23,7 +25,7 @@ use reference::Field;
 use crate::operation::Op;
 
 /// All of them, in the order of `walnut.h`.
-pub const ALL: [Op; 17] = [
+pub const ALL: [Op; 19] = [
     &product::Product,
     &reciprocal::Reciprocal,
     &start::Start,
@@ -35,6 +37,8 @@ pub const ALL: [Op; 17] = [
     &write_word::WriteWord,
     &encode_digest::EncodeDigest,
     &free_reduce::FreeReduce,
+    &store::Store,
+    &restore::Restore,
     &rewrite::Rewrite,
     &verify::Verify,
     &first_half::FirstHalf,
@@ -63,12 +67,12 @@ mod tests {
         assert_eq!(declared.collect::<Vec<_>>(), listed);
     }
 
-    /// The papers have the numbers 0 to 27 so far, and each is some operation's.
+    /// The papers have the numbers 0 to 29 so far, and each is some operation's.
     #[test]
     fn every_number_is_given() {
         let given = |number: u8| ALL.iter().any(|operation| operation.facts().questions.contains(&number));
-        assert!((1..=27).all(given));
-        assert!(!given(0) && !given(28));
+        assert!((1..=29).all(given));
+        assert!(!given(0) && !given(30));
     }
 
     /// 7 and 17 cannot be given over the larger field, and all others can.

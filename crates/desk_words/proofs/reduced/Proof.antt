@@ -1,4 +1,4 @@
--- `desk_words::reduced` meets its contract: the output of 5,002 bytes has room, so question 15 is passed.
+-- `desk_words::reduced` meets its contract: the output of 5,006 bytes has room, so question 15 is passed.
 use mathlib.Core.Path.{refl}
 use borrow.Author.Needs.{needs}
 use Rattle.base.proofs.QuestionLaws.{passes}

@@ -1,4 +1,4 @@
-//! The program `new_word`, on files, by its verbs: shorten, rewrite and reduce. The lines that it writes, and the new
+//! The program `new_word`, on files, by its verbs: shorten, rewrite, reduce, store and restore. The lines that it writes, and the new
 //! file, are those of the reference; on a refusal the file that was there is as it was.
 
 use std::ffi::OsStr;
@@ -6,13 +6,16 @@ use std::path::{Path, PathBuf};
 use std::time::SystemTime;
 use std::{env, fs, process};
 
-use reference::word::{letters, MOST_BYTES};
-use reference::{free_reduce, rewrite, verify, Field, Written};
+use reference::stored::{stored_letters, MOST_STORED};
+use reference::word::letters;
+use reference::{free_reduce, restore, rewrite, store, verify, Field, Written};
 
 use crate::make::{files, Maker, Size};
 use crate::operation::Op;
 use crate::operations::free_reduce::FreeReduce;
+use crate::operations::restore::Restore;
 use crate::operations::rewrite::Rewrite;
+use crate::operations::store::Store;
 use crate::operations::verify::Verify;
 use crate::programs::{ran, Checked, Counts};
 use crate::show;
@@ -25,23 +28,44 @@ const DAMAGED: usize = 40;
 /// What stands at the new word's place before.
 const BEFORE: &[u8] = b"what was there";
 
-/// A verb: the operation whose inputs it takes, over which fields, which of them is the word, and what the reference
-/// makes of them.
+/// A verb: the operation whose inputs it takes, over which fields, which of them is the word or its stored form, and
+/// what the reference makes of them.
 struct Verb {
     name: &'static str,
     operation: Op,
     fields: &'static [Field],
     word: usize,
+    /// How many letters the file has that is read, and how many the new one.
+    letters: [fn(&[u8]) -> usize; 2],
     made: fn(&[Vec<u8>], &mut [u8]) -> Written,
 }
 
-const VERBS: [Verb; 3] = [
-    Verb { name: "shorten", operation: &Verify, fields: &Field::BOTH, word: 2, made: shortened },
+/// The letters of a word's file, and of a stored form.
+fn of_word(file: &[u8]) -> usize {
+    letters(file).len()
+}
+
+fn of_stored(file: &[u8]) -> usize {
+    stored_letters(file).len()
+}
+
+const WORDS: [fn(&[u8]) -> usize; 2] = [of_word, of_word];
+
+const VERBS: [Verb; 5] = [
+    Verb {
+        name: "shorten",
+        operation: &Verify,
+        fields: &Field::BOTH,
+        word: 2,
+        letters: WORDS,
+        made: shortened,
+    },
     Verb {
         name: "rewrite",
         operation: &Rewrite,
         fields: &[Field::Gf32],
         word: 0,
+        letters: WORDS,
         made: |parts, out| rewrite(&parts[0], &parts[1], out),
     },
     Verb {
@@ -49,7 +73,24 @@ const VERBS: [Verb; 3] = [
         operation: &FreeReduce,
         fields: &[Field::Gf32],
         word: 0,
+        letters: WORDS,
         made: |parts, out| free_reduce(&parts[0], out),
+    },
+    Verb {
+        name: "store",
+        operation: &Store,
+        fields: &[Field::Gf32],
+        word: 0,
+        letters: [of_word, of_stored],
+        made: |parts, out| store(&parts[0], out),
+    },
+    Verb {
+        name: "restore",
+        operation: &Restore,
+        fields: &[Field::Gf32],
+        word: 0,
+        letters: [of_stored, of_word],
+        made: |parts, out| restore(&parts[0], out),
     },
 ];
 
@@ -100,9 +141,9 @@ impl Place {
         arguments.extend(paths.iter().map(|path| path.as_os_str()));
         let output = ran(&self.program, &arguments, &[])?;
 
-        let mut out = vec![0; MOST_BYTES];
+        let mut out = vec![0; MOST_STORED];
         let written = (verb.made)(parts, &mut out);
-        let expected = lines(&written, &parts[verb.word], &out[..written.bytes]);
+        let expected = lines(verb, &written, &parts[verb.word], &out[..written.bytes]);
         let found = String::from_utf8_lossy(&output.stdout);
         let file = fs::read(&new).map_err(|error| format!("{}: {error}\n", new.display()))?;
         let untouched = file == BEFORE && changed(&new)? == before;
@@ -127,10 +168,10 @@ fn changed(path: &Path) -> Checked<SystemTime> {
 }
 
 /// What the program must write about a word.
-fn lines(written: &Written, old: &[u8], new: &[u8]) -> String {
+fn lines(verb: &Verb, written: &Written, old: &[u8], new: &[u8]) -> String {
     match written.answer {
         0 => {
-            let (from, to) = (letters(old).len(), letters(new).len());
+            let [from, to] = [verb.letters[0](old), verb.letters[1](new)];
             format!("answer 0\nletters {from} to {to}, bytes {} to {}\n", old.len(), new.len())
         }
         answer => format!("answer {answer}\n"),
@@ -164,7 +205,7 @@ fn all(place: &Place, verb: &Verb, field: Field, maker: &mut Maker) -> Checked<S
     counts.summary(&format!("{}{over}", verb.name), &answers)
 }
 
-/// Runs the three verbs: a line for each, and for each field where there are two.
+/// Runs the five verbs: a line for each, and for each field where there are two.
 pub fn check(programs: &Path, maker: &mut Maker) -> Checked<Vec<String>> {
     let folder = env::temp_dir().join(format!("walnut words {}", process::id()));
     fs::create_dir_all(&folder).map_err(|error| format!("{}: {error}\n", folder.display()))?;
