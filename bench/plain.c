@@ -1,5 +1,6 @@
-/* The key reader, the verdict whole and by halves, cloaking, the lent multiplier, the rewriter, free reduction, stored forms and crossings in plain C,
-   as one would write them by hand: for the library's times to stand beside. */
+/* The key reader, the verdict whole and by halves, cloaking, the lent multiplier, the rewriter, free reduction, stored
+   forms, crossings and spreading in plain C, as one would write them by hand: for the library's times to stand beside.
+   */
 #include <stdbool.h>
 #include <stddef.h>
 #include <stdint.h>
@@ -630,4 +631,30 @@ size_t plain_restore(const uint8_t *stored, size_t size, uint8_t *out, size_t le
         }
     }
     return write_codes(codes, n, out);
+}
+
+/* For each of the 24 lists of four labels, increasing, the places of the lists that b1, b2 and b3 make of it. */
+static const uint8_t neighbours[3][24] = {
+    {6, 7, 12, 13, 18, 19, 0, 1, 14, 15, 20, 21, 2, 3, 8, 9, 22, 23, 4, 5, 10, 11, 16, 17},
+    {2, 4, 0, 5, 1, 3, 8, 10, 6, 11, 7, 9, 14, 16, 12, 17, 13, 15, 20, 22, 18, 23, 19, 21},
+    {1, 0, 3, 2, 5, 4, 7, 6, 9, 8, 11, 10, 13, 12, 15, 14, 17, 16, 19, 18, 21, 20, 23, 22},
+};
+
+/* How many words of a length end in a list of four labels. 0 on a refusal. */
+uint32_t plain_words_ending(size_t length, const uint8_t *labels, size_t n)
+{
+    uint32_t counts[24] = {1}, more[24];
+    unsigned seen = 0;
+    if (length > 12 || n != 4)
+        return 0;
+    for (size_t k = 0; k < 4; k++)
+        seen |= labels[k] < 4 ? 1u << labels[k] : 0;
+    if (seen != 15)
+        return 0;
+    for (size_t i = 0; i < length; i++) {
+        for (size_t k = 0; k < 24; k++)
+            more[k] = 2 * (counts[neighbours[0][k]] + counts[neighbours[1][k]] + counts[neighbours[2][k]]);
+        memcpy(counts, more, sizeof counts);
+    }
+    return counts[6 * labels[0] + 2 * (labels[1] - (labels[0] < labels[1])) + (labels[3] < labels[2])];
 }

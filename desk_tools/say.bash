@@ -118,6 +118,9 @@ about_part() {
     n=$(size "$2") && say "the $1 is '$2', $n bytes; $3"
 }
 
+# about_spread ANSWER LENGTH: a refused length.
+about_spread() { say "the length is '$2'; a length is a whole number from 0 to 12, without a zero in front"; }
+
 # about_word ANSWER WORD: a refused word.
 about_word() {
     case $1 in

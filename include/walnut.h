@@ -79,7 +79,7 @@ extern "C" {
 
 /* The version of this header and of its library. The first number is also the number after libwalnut.so. */
 #define WALNUT_VERSION_MAJOR 0
-#define WALNUT_VERSION_MINOR 4
+#define WALNUT_VERSION_MINOR 5
 #define WALNUT_VERSION_PATCH 0
 
 /* Marks a function whose result must be used. A compiler that knows the mark warns if a caller drops the result. */
@@ -122,6 +122,7 @@ enum walnut_answer {
     WALNUT_ANSWER_TWO_LABELS = 27,
     WALNUT_ANSWER_STORED_SIZES = 28,
     WALNUT_ANSWER_STORED_BITS = 29,
+    WALNUT_ANSWER_LENGTH_OR_LIST = 35,
     /* answers.txt: end */
 };
 
@@ -160,6 +161,7 @@ static inline const char *walnut_text(uint8_t answer)
     case 27: return "a label is over 7, or both labels are equal";
     case 28: return "the stored form has fewer than 6 bytes, or its sizes disagree with its letters or length";
     case 29: return "a generator of the stored form is 7, or its filler bits are not all zero";
+    case 35: return "the length is over 12, or the list is not four labels, 0 to 3 each once";
     /* answers.txt: end */
     default: return "an answer that this header does not know";
     }
@@ -181,6 +183,7 @@ static inline const char *walnut_text(uint8_t answer)
 #define WALNUT_MOVES_BYTES 12290 /* bytes of the longest move list */
 #define WALNUT_LETTERS 10000 /* the most letters of a word */
 #define WALNUT_MOVES 4096 /* the most moves of a list */
+#define WALNUT_SPREAD_LENGTH 12 /* the most letters of the words that walnut_words_ending counts */
 #define WALNUT_STACK_BYTES 32768 /* bytes of stack that a call may take */
 
 /* An element of a field. On a refusal it is 0. */
@@ -197,6 +200,9 @@ typedef struct { uint8_t answer; bool yes; } walnut_cloak;
 
 /* The signed number of crossings of two strands. On a refusal it is 0. */
 typedef struct { uint8_t answer; int32_t crossings; } walnut_crossing;
+
+/* The number of words that end in a list. On a refusal it is 0. */
+typedef struct { uint8_t answer; uint32_t words; } walnut_count;
 
 /* The place of an entry in a matrix. Row and column count from 1. Every matrix lies column by column, the first column
    first. */
@@ -305,6 +311,10 @@ WALNUT_MUST_USE walnut_cloak walnut_cloaks(const uint8_t *key, size_t kn, const 
    that swaps these two, minus 1 for each inverse letter that does. Answers: 9, 10, 11, 12, 13, 27, 0. Changes
    nothing. */
 WALNUT_MUST_USE walnut_crossing walnut_crossings(const uint8_t *word, size_t n, uint8_t a, uint8_t b);
+
+/* Counts the words of a length, 0 to 12, over b1, b2, b3 and their inverses that end in a list, which is four labels, 0
+   to 3 each once. The words are not reduced, and begin from the list 0 1 2 3. Answers: 35, 0. Changes nothing. */
+WALNUT_MUST_USE walnut_count walnut_words_ending(size_t length, const uint8_t *labels, size_t n);
 
 #ifdef __cplusplus
 }

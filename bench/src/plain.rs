@@ -1,5 +1,5 @@
 //! The key reader, the verdict whole and by halves, cloaking, the lent multiplier, the rewriter, free reduction and
-//! crossings in plain Rust, as one would write them by hand: for the library's times to stand beside.
+//! crossings and spreading in plain Rust, as one would write them by hand: for the library's times to stand beside.
 
 use std::hint::black_box;
 
@@ -555,4 +555,28 @@ pub fn crossings(word: &[u8], a: u8, b: u8) -> Result<i32, u8> {
         labels.swap(g, g + 1);
     }
     Ok(numbers[a][b] + numbers[b][a])
+}
+
+/// For each of the 24 lists of four labels, increasing, the places of the lists that b1, b2 and b3 make of it.
+const NEIGHBOURS: [[u8; 24]; 3] = [
+    [6, 7, 12, 13, 18, 19, 0, 1, 14, 15, 20, 21, 2, 3, 8, 9, 22, 23, 4, 5, 10, 11, 16, 17],
+    [2, 4, 0, 5, 1, 3, 8, 10, 6, 11, 7, 9, 14, 16, 12, 17, 13, 15, 20, 22, 18, 23, 19, 21],
+    [1, 0, 3, 2, 5, 4, 7, 6, 9, 8, 11, 10, 13, 12, 15, 14, 17, 16, 19, 18, 21, 20, 23, 22],
+];
+
+/// How many words of a length end in a list of four labels.
+pub fn words_ending(length: usize, labels: &[u8]) -> Result<u32, u8> {
+    let Ok([a, b, c, d]) = <[u8; 4]>::try_from(labels) else { return Err(35) };
+    let seen = labels.iter().filter(|label| **label < 4).fold(0, |seen, label| seen | 1 << label);
+    if length > 12 || seen != 15 {
+        return Err(35);
+    }
+    let mut counts = [0; 24];
+    counts[0] = 1;
+    for _ in 0..length {
+        let at = |row: usize, k: usize| counts[usize::from(NEIGHBOURS[row][k])];
+        counts = std::array::from_fn(|k| 2 * (at(0, k) + at(1, k) + at(2, k)));
+    }
+    let place = 6 * a + 2 * (b - u8::from(a < b)) + u8::from(d < c);
+    Ok(counts[usize::from(place)])
 }

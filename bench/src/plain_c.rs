@@ -35,6 +35,7 @@ extern "C" {
     fn plain_store(word: *const u8, n: usize, out: *mut u8, len: usize) -> usize;
     fn plain_restore(stored: *const u8, n: usize, out: *mut u8, len: usize) -> usize;
     fn plain_crossings(word: *const u8, wn: usize, a: u8, b: u8) -> i32;
+    fn plain_words_ending(length: usize, labels: *const u8, n: usize) -> u32;
 }
 
 // The pointers come from slices that live through the call, each with its own length; the tables are filled
@@ -103,4 +104,9 @@ pub fn store(word: &[u8], out: &mut [u8]) -> usize {
 pub fn restore(stored: &[u8], out: &mut [u8]) -> usize {
     // SAFETY: see above.
     unsafe { plain_restore(stored.as_ptr(), stored.len(), out.as_mut_ptr(), out.len()) }
+}
+
+pub fn words_ending(length: usize, labels: &[u8]) -> u32 {
+    // SAFETY: see above.
+    unsafe { plain_words_ending(length, labels.as_ptr(), labels.len()) }
 }

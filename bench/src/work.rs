@@ -83,6 +83,11 @@ pub enum Work {
     Crossings {
         word: Vec<u8>,
     },
+    /// The words of a length that end in a list.
+    Spreading {
+        length: usize,
+        labels: [u8; 4],
+    },
 }
 
 /// What came of it: an answer or a number, and the bytes written.
@@ -171,6 +176,15 @@ fn crossings(who: Who, word: &[u8], a: u8, b: u8) -> i32 {
     }
 }
 
+/// How many words of a length end in a list.
+fn words_ending(who: Who, length: usize, labels: &[u8]) -> u32 {
+    match who {
+        Who::Library => walnut::words_ending(length, labels).unwrap_or(0),
+        Who::Rust => plain::words_ending(length, labels).unwrap_or(0),
+        Who::C => plain_c::words_ending(length, labels),
+    }
+}
+
 impl Work {
     /// Does the work once into an output of 5,006 bytes: its number, and how many bytes it wrote.
     pub fn run(&self, who: Who, out: &mut [u8]) -> (u32, usize) {
@@ -228,6 +242,7 @@ impl Work {
             (Work::Restoring { stored }, Who::C) => (0, plain_c::restore(stored, out)),
             (Work::Keys(files), who) => (files.iter().map(|file| key_answer(file, who)).sum(), 0),
             (Work::Crossings { word }, _) => (crossings(who, word, 0, 1) as u32, 0),
+            (Work::Spreading { length, labels }, _) => (words_ending(who, black_box(*length), labels), 0),
         }
     }
 
@@ -331,7 +346,7 @@ fn stored(random: &mut Random, letters: usize) -> Vec<u8> {
 }
 
 /// How many cases there are.
-pub const CASES: usize = 21;
+pub const CASES: usize = 22;
 
 /// The case of a number, the same in every run.
 pub fn case(number: usize) -> Case {
@@ -360,7 +375,8 @@ pub fn case(number: usize) -> Case {
         17 => ("100 copies, by halves", 1, copies(random, true)),
         18 => ("100 copies, whole", 1, copies(random, false)),
         19 => ("storing, 10,000 letters", 1, Work::Storing { word: word_file(&random.word(LONGEST)) }),
-        _ => ("restoring, 10,000 letters", 1, Work::Restoring { stored: stored(random, LONGEST) }),
+        20 => ("restoring, 10,000 letters", 1, Work::Restoring { stored: stored(random, LONGEST) }),
+        _ => ("words of length 12 in a list", 1, Work::Spreading { length: 12, labels: [2, 3, 0, 1] }),
     };
     Case { name, parts, work }
 }

@@ -1,5 +1,6 @@
-/* Worked slips: fields, words, pairs, keys, moves, crossings, cloaking and the verdict, whole and in halves, at both
-   strengths. */
+/* Worked slips: fields, words, pairs, keys, moves, crossings, spreading, cloaking and the verdict, whole and in halves, at
+   both strengths. */
+#include <inttypes.h>
 #include <stdio.h>
 #include <string.h>
 
@@ -201,6 +202,15 @@ static void crossings(void)
     printf("strands 0 and 8: answer %u\n", walnut_crossings(none, sizeof none, 0, 8).answer);
 }
 
+/* How words spread over the lists of four labels. */
+static void spreading(void)
+{
+    const uint8_t unmoved[4] = {0, 1, 2, 3}, moved[4] = {1, 0, 3, 2};
+    printf("words of length 2 that end in 0 1 2 3: %" PRIu32 "\n", walnut_words_ending(2, unmoved, 4).words);
+    printf("words of length 2 that end in 1 0 3 2: %" PRIu32 "\n", walnut_words_ending(2, moved, 4).words);
+    printf("words of length 13: answer %u\n", walnut_words_ending(13, unmoved, 4).answer);
+}
+
 /* Cloaking, a refused move and verdicts, under the plain key. */
 static void verdicts(const uint8_t key[WALNUT_KEY_BYTES])
 {
@@ -249,6 +259,7 @@ int main(void)
     if (keys(key) != 0 || moves() != 0)
         return 1;
     crossings();
+    spreading();
     verdicts(key);
     return copies(key) != 0 ? 1 : larger_field();
 }

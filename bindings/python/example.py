@@ -1,5 +1,5 @@
-"""Worked slips: fields, words, pairs, keys, moves, crossings, cloaking and the verdict, whole and in halves, at both
-strengths."""
+"""Worked slips: fields, words, pairs, keys, moves, crossings, spreading, cloaking and the verdict, whole and in halves,
+at both strengths."""
 
 import walnut
 from walnut import GF32, GF256
@@ -85,6 +85,10 @@ print("half byte 6 gives", text(walnut.encode_digest([0x66] * 32)[2:8]))
 print("strands 0 and 2 cross in b1 b2:", walnut.crossings(walnut.write_word("b1 b2"), 0, 2))
 print("strands 1 and 0 cross in b1^-1 b1^-1:", walnut.crossings(walnut.write_word("b1^-1 b1^-1"), 1, 0))
 print("strands 0 and 8: answer", answer_of(walnut.crossings, bytes(2), 0, 8))
+
+print("words of length 2 that end in 0 1 2 3:", walnut.words_ending(2, (0, 1, 2, 3)))
+print("words of length 2 that end in 1 0 3 2:", walnut.words_ending(2, (1, 0, 3, 2)))
+print("words of length 13: answer", answer_of(walnut.words_ending, 13, (0, 1, 2, 3)))
 
 print("b1 b1 cloaks:", yes_or_no(walnut.cloaks(key, ORDER, bytes.fromhex("00 02 00"))))
 print("b3 b3 cloaks:", yes_or_no(walnut.cloaks(key, ORDER, bytes.fromhex("00 02 22"))))

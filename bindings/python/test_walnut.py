@@ -171,6 +171,21 @@ class Crossings(Case):
         self.raised(TypeError, "row: a whole number is needed, not str", walnut.place, "1", 2)
 
 
+class Spreading(Case):
+    def test_words_ending(self):
+        # of the 36 words of two letters 12 bring the list back, and 8 exchange both its halves
+        numbers = [walnut.words_ending(2, labels) for labels in ((0, 1, 2, 3), (1, 0, 3, 2), bytes((3, 2, 1, 0)))]
+        self.assertEqual(numbers, [12, 8, 0])
+        self.assertEqual(walnut.words_ending(0, (0, 1, 2, 3)), 1)
+        for length in (13, 2**64 + 2, 2**70):
+            self.refused(35, walnut.words_ending, length, (0, 1, 2, 3))
+        for labels in ((), (0, 1, 2), (0, 1, 2, 2), (0, 1, 2, 4), (0, 1, 2, 3, 4)):
+            self.refused(35, walnut.words_ending, 2, labels)
+        self.raised(ValueError, "length: -1 is no length", walnut.words_ending, -1, (0, 1, 2, 3))
+        self.raised(TypeError, "length: a whole number is needed, not str", walnut.words_ending, "2", (0, 1, 2, 3))
+        self.raised(TypeError, "labels: bytes are needed", walnut.words_ending, 2, "0123")
+
+
 class Moves(Case):
     def test_the_list_of_two_moves(self):
         moves, file = [(0, walnut.TURN), (3, walnut.REMOVE)], bytes([0, 2, 0, 0, 0, 3, 3, 1])

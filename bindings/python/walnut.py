@@ -17,10 +17,10 @@ import operator
 import os
 from typing import Any, Iterable, List, Optional, Tuple, Union
 
-__version__ = "0.4.0"
+__version__ = "0.5.0"
 
 # walnut.h: begin; tools/interface writes these lines
-from ctypes import POINTER, Structure, c_bool, c_char_p, c_int32, c_size_t, c_uint8
+from ctypes import POINTER, Structure, c_bool, c_char_p, c_int32, c_size_t, c_uint32, c_uint8
 
 # bytes of a key file over the field with 32 elements
 KEY_BYTES = 83
@@ -40,6 +40,8 @@ MOVES_BYTES = 12290
 LETTERS = 10000
 # the most moves of a list
 MOVES = 4096
+# the most letters of the words that walnut_words_ending counts
+SPREAD_LENGTH = 12
 # bytes of stack that a call may take
 STACK_BYTES = 32768
 
@@ -72,6 +74,12 @@ class _Crossing(Structure):
     """The signed number of crossings of two strands. On a refusal it is 0."""
 
     _fields_ = [("answer", c_uint8), ("crossings", c_int32)]
+
+
+class _Count(Structure):
+    """The number of words that end in a list. On a refusal it is 0."""
+
+    _fields_ = [("answer", c_uint8), ("words", c_uint32)]
 
 
 class _Pair(Structure):
@@ -129,6 +137,7 @@ _FUNCTIONS: Any = {
     "walnut_second_half": (c_uint8, _Half, c_char_p, c_size_t),
     "walnut_cloaks": (_Cloak, c_char_p, c_size_t, c_char_p, c_size_t, c_char_p, c_size_t),
     "walnut_crossings": (_Crossing, c_char_p, c_size_t, c_uint8, c_uint8),
+    "walnut_words_ending": (_Count, c_size_t, c_char_p, c_size_t),
 }
 # walnut.h: end
 
@@ -192,6 +201,7 @@ class Answer(enum.IntEnum):
     TWO_LABELS = 27
     STORED_SIZES = 28
     STORED_BITS = 29
+    LENGTH_OR_LIST = 35
     # answers.txt: end
 
 
@@ -228,6 +238,7 @@ TEXTS = {
     27: "a label is over 7, or both labels are equal",
     28: "the stored form has fewer than 6 bytes, or its sizes disagree with its letters or length",
     29: "a generator of the stored form is 7, or its filler bits are not all zero",
+    35: "the length is over 12, or the list is not four labels, 0 to 3 each once",
     # answers.txt: end
 }
 
@@ -673,3 +684,13 @@ def crossings(word: Bytes, a: int, b: int) -> int:
     these two, less its inverse letters that do."""
     crossing = _lib.walnut_crossings(*_slices(word=word), _label(a, "a"), _label(b, "b"))
     return _granted(crossing.answer, crossing.crossings)
+
+
+def words_ending(length: int, labels: Bytes) -> int:
+    """How many words of a length, 0 to SPREAD_LENGTH, over b1, b2, b3 and their inverses lead from the list 0 1 2 3 to
+    this one: four labels, 0 to 3 each once. The words are not reduced."""
+    # a length that the library cannot take is too long, as one over the limit is
+    most = SPREAD_LENGTH + 1
+    count = _lib.walnut_words_ending(_whole(min(_index(length, "length"), most), most, "length", "length"),
+                                     *_slices(labels=labels))
+    return _granted(count.answer, count.words)

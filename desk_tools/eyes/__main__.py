@@ -1,4 +1,5 @@
-"""Shows files to people, spells them from text, and draws braids. ./walnut calls it, and checks the arguments.
+"""Shows files to people, spells them from text, and draws braids and how words spread. ./walnut calls it, and checks the
+arguments.
 
 Every answer comes from the proved library, through its binding. What is printed and drawn is not proved.
 Exit status: 0 done; 4 a refusal; 1 a file could not be read or written; 3 the library could not be loaded.
@@ -19,6 +20,7 @@ except OSError as error:
 import draw
 import show
 import spell
+import spread
 from files import Refused
 
 
@@ -34,7 +36,7 @@ def to_do(answer):
 
 
 def main(verb, *arguments):
-    verbs = {"show": show.main, "spell": spell.main, "draw": draw.main}
+    verbs = {"show": show.main, "spell": spell.main, "draw": draw.main, "spread": spread.main}
     try:
         verbs[verb](*arguments)
         sys.stdout.flush()

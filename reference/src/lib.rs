@@ -1,5 +1,5 @@
 //! A second, independent road to the operations of document 01 ("Loan-slip signatures: braid words, keys and
-//! moves") and of document 02's sections 1, 2, 4, 6 and 7, to run beside another implementation.
+//! moves") and of document 02's sections 1, 2, 4, 6, 7 and 13, to run beside another implementation.
 //!
 //! It is written for plainness, not speed, and takes another way wherever there is one:
 //!
@@ -16,6 +16,8 @@
 //! - a move splices other letters into a run of letters, and the next one starts from what it left
 //!   ([`rewrite`](mod@rewrite));
 //! - how often two strands cross is found by following these two alone, without a list of labels ([`crossing`]);
+//! - how many words end in a list is counted by making every word of up to eight letters, and beyond that by powers of a
+//!   matrix ([`spread`]);
 //! - the halves of a verdict work both sides out otherwise than the whole verdict: the target half byte by half byte,
 //!   and the signature's letters from the identity matrix ([`half`]);
 //! - the questions stand in lists, in the paper's order, and the answer is the number of the first one
@@ -44,6 +46,7 @@ pub mod pair;
 pub mod questions;
 pub mod reduce;
 pub mod rewrite;
+pub mod spread;
 pub mod stored;
 pub mod testkit;
 pub mod verdict;
@@ -59,6 +62,7 @@ pub use matrix::{matrix_product, Matrix};
 pub use pair::{multiply, start, Pair};
 pub use reduce::free_reduce;
 pub use rewrite::rewrite;
+pub use spread::{words_ending, Count};
 pub use stored::{restore, store};
 pub use verdict::verify;
 pub use word::{code_part, letter_at, letters, read_word, write_word, Word, WordReader, Written};

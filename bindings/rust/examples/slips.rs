@@ -1,5 +1,5 @@
-//! Worked slips: fields, words, pairs, keys, moves, crossings, cloaking and the verdict, whole and in halves, at both
-//! strengths.
+//! Worked slips: fields, words, pairs, keys, moves, crossings, spreading, cloaking and the verdict, whole and in halves,
+//! at both strengths.
 
 use std::error::Error;
 
@@ -119,6 +119,14 @@ fn crossings() -> Result<(), Refusal> {
     Ok(())
 }
 
+/// How words spread over the lists of four labels.
+fn spreading() -> Result<(), Refusal> {
+    println!("words of length 2 that end in 0 1 2 3: {}", walnut::words_ending(2, &[0, 1, 2, 3])?);
+    println!("words of length 2 that end in 1 0 3 2: {}", walnut::words_ending(2, &[1, 0, 3, 2])?);
+    println!("words of length 13: answer {}", answer(walnut::words_ending(13, &[0, 1, 2, 3])));
+    Ok(())
+}
+
 /// Cloaking, a refused move and verdicts, under the plain key.
 fn verdicts(key: &[u8]) -> Result<(), Box<dyn Error>> {
     println!("b1 b1 cloaks: {}", yes_or_no(walnut::cloaks(key, &ORDER, &[0, 2, 0x00])?));
@@ -192,6 +200,7 @@ fn main() -> Result<(), Box<dyn Error>> {
     let key = keys()?;
     moves()?;
     crossings()?;
+    spreading()?;
     verdicts(&key)?;
     copies(&key)?;
     larger_field()?;

@@ -41,6 +41,14 @@ pub struct Crossing {
     pub crossings: i32,
 }
 
+/// The number of words that end in a list. On a refusal it is 0.
+#[repr(C)]
+#[derive(Clone, Copy, Debug, PartialEq, Eq)]
+pub struct Count {
+    pub answer: u8,
+    pub words: u32,
+}
+
 /// A matrix, with its entries as WALNUT_PLACE says, a list of labels, and the inverse list: positions[a] is the
 /// position of label a in the list, counted from 1. In a pair of the caller's own, positions[labels[i]] must be i + 1
 /// for each i from 0 to 7.
@@ -132,4 +140,5 @@ extern "C" {
         wn: usize,
     ) -> Cloak;
     pub fn walnut_crossings(word: *const u8, n: usize, a: u8, b: u8) -> Crossing;
+    pub fn walnut_words_ending(length: usize, labels: *const u8, n: usize) -> Count;
 }

@@ -273,3 +273,11 @@ pub fn crossings(word: &[u8], a: u8, b: u8) -> Result<i32, Refusal> {
     let crossing = unsafe { walnut_crossings(word.as_ptr(), word.len(), a, b) };
     granted(crossing.answer, crossing.crossings)
 }
+
+/// How many words of a length, 0 to [`SPREAD_LENGTH`], over b1, b2, b3 and their inverses lead from the list 0 1 2 3 to
+/// this one: four labels, 0 to 3 each once. The words are not reduced.
+pub fn words_ending(length: usize, labels: &[u8]) -> Result<u32, Refusal> {
+    // SAFETY: see above.
+    let count = unsafe { walnut_words_ending(length, labels.as_ptr(), labels.len()) };
+    granted(count.answer, count.words)
+}

@@ -18,5 +18,7 @@ pub const MOVES_BYTES: usize = 12290;
 pub const LETTERS: usize = 10000;
 /// The most moves of a list.
 pub const MOVES: usize = 4096;
+/// The most letters of the words that walnut_words_ending counts.
+pub const SPREAD_LENGTH: usize = 12;
 /// Bytes of stack that a call may take.
 pub const STACK_BYTES: usize = 32768;

@@ -6,7 +6,7 @@ use std::error::Error;
 use walnut::Field::{Gf256, Gf32};
 use walnut::{Letter, Move, Moves, NoLetter, Pair, Refusal};
 use walnut::{DIGEST_BYTES, KEY_BYTES, LARGE_DIGEST_BYTES, LARGE_KEY_BYTES};
-use walnut::{LETTERS, MOVES, MOVES_BYTES, WORD_BYTES};
+use walnut::{LETTERS, MOVES, MOVES_BYTES, SPREAD_LENGTH, WORD_BYTES};
 
 const T_VALUES: [u8; 8] = [1, 1, 2, 3, 4, 5, 6, 7];
 const SEVEN: &str = "b1 b2^-1 b3 b4 b5^-1 b6 b7^-1";
@@ -166,6 +166,22 @@ fn crossings_by_sign() {
         assert_eq!(walnut::crossings(word, 0, 8), Err(Refusal::TWO_LABELS));
     }
     assert_eq!(walnut::crossings(&[0], 0, 0), Err(Refusal::WORD_SHORT));
+}
+
+#[test]
+fn words_that_spread() {
+    // of the 36 words of two letters 12 bring the list back, and 8 exchange both its halves
+    assert_eq!(walnut::words_ending(2, &[0, 1, 2, 3]), Ok(12));
+    assert_eq!(walnut::words_ending(2, &[1, 0, 3, 2]), Ok(8));
+    assert_eq!(walnut::words_ending(0, &[0, 1, 2, 3]), Ok(1));
+    assert_eq!(walnut::words_ending(1, &[0, 1, 2, 3]), Ok(0));
+    let refused = Err(Refusal::LENGTH_OR_LIST);
+    for length in [SPREAD_LENGTH + 1, usize::MAX] {
+        assert_eq!(walnut::words_ending(length, &[0, 1, 2, 3]), refused);
+    }
+    for labels in [&[0, 1, 2][..], &[], &[0, 1, 2, 2], &[0, 1, 2, 4], &[0, 1, 2, 3, 4]] {
+        assert_eq!(walnut::words_ending(2, labels), refused);
+    }
 }
 
 #[test]

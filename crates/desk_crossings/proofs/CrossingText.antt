@@ -1,48 +1,24 @@
 -- Laws of the text on a refusal and on success. Then: how many bytes of a word are enough to read, and that two words
 -- in which every two labels cross equally often have the same text.
-use Prim.Native.Nat.{ℕ, _≤_, _<_}
+use Prim.Native.Nat.{ℕ, _<_}
 use mathlib.Core.Path.{_≡_, sym, ap, subst, _∙_}
 use mathlib.Core.Bool.{true, false}
-use mathlib.Core.List.{List, [], _∷_}
-use native.Mathlib.Omega.{arith}
+use mathlib.Core.List.{List}
 use lib.IntN.{ℤ}
-use lib.ListN.{length, take, replicate, length-append}
-use lib.Seq.{take-all}
+use lib.ListN.{take, replicate}
 use Rattle.base.specs.Lists.{overlaid}
-use Rattle.base.proofs.ListLaws.{take-overlaid}
 use Rattle.base.proofs.QuestionLaws.{granted-zero, granted-refused}
-use Rattle.text.specs.Decimal.{decimal}
-use Rattle.text.specs.Texts.{line, TellsIn}
-use Rattle.text.proofs.DecimalLaws.{decimal-short}
+use Rattle.text.specs.Texts.{TellsIn}
 use Rattle.text.proofs.EnoughLaws.{enough-granted}
 use Rattle.word.specs.Words.{codes, wordAnswer}
 use Rattle.word_crossing.specs.Crossings.{crossings, allPairs, allCrossings, CrossesAll}
 use Rattle.word_crossing.proofs.PairLaws.{length-all, all-alike, numbers-within}
-use Rattle.desk_line.specs.Desk.{answerLine, Tells}
+use Rattle.desk_line.specs.Desk.{answerLine}
 use Rattle.desk_line.specs.declared.Got.{Got}
 use Rattle.word.proofs.LongWords.{enough-of-word as enough-of-answer, whole-word}
-use Rattle.desk_crossings.specs.Lines.{textSize, linesOf, crossingText, wordText, EnoughOfWord}
+use Rattle.desk_text.specs.Room.{textSize}
+use Rattle.desk_crossings.specs.Lines.{linesOf, crossingText, wordText, EnoughOfWord}
 use Rattle.desk_crossings.specs.steps.Range.{Numbers}
-
--- ---- a refusal's line in the text
-
-line-short : (n : ℕ) → n < 256 → length (answerLine n) ≤ textSize
-unfolding answerLine line
-line-short n h = omega (arith, length-append (decimal n) (10 ∷ []), decimal-short n 3 (omega arith) (omega arith))
-
-pub answer-told : (n : ℕ) → n < 256 → {bytes : ℕ} {shown text : List ℕ} → Tells (answerLine n) bytes shown
-    → text ≡ overlaid (take textSize (take bytes shown)) (replicate textSize 0)
-    → TellsIn textSize (answerLine n) bytes text
-answer-told n h {bytes} {shown} t e =
-    let line : take bytes shown ≡ answerLine n =
-    rw (t .bytes-are, t .text-is) (take-overlaid (answerLine n) (replicate 11 0)) in
-    record {
-      bytes-are = t .bytes-are;
-      text-is =
-          e
-          ∙ ap (λ (l : List ℕ). overlaid l (replicate textSize 0))
-          (ap (take textSize) line ∙ take-all textSize (answerLine n) (line-short n h));
-    }
 
 -- ---- what is written
 

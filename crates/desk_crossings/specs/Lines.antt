@@ -34,10 +34,6 @@ crossingText word =
 unfoldable pub wordText : Got → List ℕ → List ℕ
 wordText got word = cond (got .read) (crossingText (take (got .bytes) word)) []
 
--- the most bytes of a text: 28 lines of 11
-abbrev pub textSize : ℕ
-textSize = 308
-
 -- n bytes of an input of any length are enough to read: the same is written on them as on the whole input
 abbrev pub EnoughOfWord : ℕ → Type 0
 EnoughOfWord n = Enough n crossingText

@@ -1,15 +1,16 @@
 // The lines of all pairs.
-use crate::TEXT;
-use crate::Text;
+use desk_text::TEXT;
+use desk_text::Text;
 ghost use Prim.Native.Nat.{_+_, _≤_, _<_};
 ghost use mathlib.Core.Path.{_≡_};
 ghost use lib.IntN.{natAbs};
 ghost use lib.ListN.{length};
 ghost use Rattle.base.specs.steps.Laying.{Laid};
 ghost use Rattle.text.specs.Texts.{TellsIn};
+ghost use Rattle.desk_text.specs.Room.{textSize};
 ghost use Rattle.word_crossing.specs.Crossings.{allPairs};
 ghost use Rattle.word_crossing.specs.steps.Pairs.{pairAt};
-ghost use Rattle.desk_crossings.specs.Lines.{pairLine, linesOf, textSize};
+ghost use Rattle.desk_crossings.specs.Lines.{pairLine, linesOf};
 ghost use Rattle.desk_crossings.specs.steps.Range.{Numbers};
 
 fn wide(x: u8) -> u32

@@ -1,8 +1,8 @@
-// Reads the desk's input and writes its lines. `desk_line` and `desk_crossings` decide what is written, also if an
-// input could not be read.
-use desk_crossings::Text;
+// Reads the desk's input and writes its lines. `desk_line`, `desk_crossings` and `desk_spread` decide what is written,
+// also if an input could not be read.
 use desk_line::Got;
 use desk_line::Line;
+use desk_text::Text;
 use libc::STDERR_FILENO;
 use libc::STDIN_FILENO;
 use libc::STDOUT_FILENO;
@@ -175,5 +175,29 @@ pub fn crossings() {
         crossings_file();
     } else {
         misused(b"crossings takes the name of a file, the word, or none\n");
+    }
+}
+
+// How words of the usual length spread.
+fn spread_usual() {
+    tell_text(desk_spread::usual_text());
+}
+
+// How words of the length that the argument writes spread. An argument that is longer than the buffer counts as empty.
+fn spread_length() {
+    let mut argument = io::buffer();
+    let n = os::arg(1, &mut argument);
+    tell_text(desk_spread::argument_text(&argument[..n]));
+}
+
+// The program that prints how words spread: without arguments of the usual length, and with a length of that one.
+pub fn spread() {
+    let n = os::arg_count();
+    if n < 2 {
+        spread_usual();
+    } else if n == 2 {
+        spread_length();
+    } else {
+        misused(b"spread takes a length, 0 to 12, or none\n");
     }
 }

@@ -17,6 +17,7 @@ ghost use Rattle.word_reduction.specs.Reducer.{WroteReduced};
 ghost use Rattle.word_stored.specs.Stored.{WroteStored, WroteRestored};
 ghost use Rattle.slip_digest.specs.Digest.{WroteEncoded};
 ghost use Rattle.word_crossing.specs.Crossings.{Crosses};
+ghost use Rattle.word_spread.specs.Spread.{Ends};
 use field::Element;
 use pair::Pair;
 use slip_cloaking::Cloak;
@@ -24,6 +25,7 @@ use slip_verdict::Half;
 use word::Word;
 use word::Written;
 use word_crossing::Crossing;
+use word_spread::Count;
 
 // What the key reader gives: its answer, whether the key's field is the larger one, the T-values, the pair Pub(S) and
 // the matrix of Pub(S'). On a refusal `large` is false, and all numbers but the answer are zero.
@@ -270,4 +272,11 @@ pub extern "C" fn walnut_crossings(word: &[u8], a: u8, b: u8) -> Crossing
     ensures { λ r. ⌜ Crosses (now (word .entry)) a b (r .answer) (r .crossings) ⌝ }
 {
     word_crossing::crossings(word, a, b)
+}
+
+#[no_mangle]
+pub extern "C" fn walnut_words_ending(length: usize, labels: &[u8]) -> Count
+    ensures { λ r. ⌜ Ends length (now (labels .entry)) (r .answer) (r .words) ⌝ }
+{
+    word_spread::words_ending(length, labels)
 }

@@ -17,6 +17,7 @@ pub mod second_half;
 pub mod start;
 pub mod store;
 pub mod verify;
+pub mod words_ending;
 pub mod write_key;
 pub mod write_word;
 
@@ -25,7 +26,7 @@ use reference::Field;
 use crate::operation::Op;
 
 /// All of them, in the order of `walnut.h`.
-pub const ALL: [Op; 19] = [
+pub const ALL: [Op; 20] = [
     &product::Product,
     &reciprocal::Reciprocal,
     &start::Start,
@@ -45,6 +46,7 @@ pub const ALL: [Op; 19] = [
     &second_half::SecondHalf,
     &cloaks::Cloaks,
     &crossings::Crossings,
+    &words_ending::WordsEnding,
 ];
 
 /// Each operation with each of its fields.
@@ -67,12 +69,12 @@ mod tests {
         assert_eq!(declared.collect::<Vec<_>>(), listed);
     }
 
-    /// The papers have the numbers 0 to 29 so far, and each is some operation's.
+    /// The papers have the numbers 0 to 29 and 35 so far, and each is some operation's.
     #[test]
     fn every_number_is_given() {
         let given = |number: u8| ALL.iter().any(|operation| operation.facts().questions.contains(&number));
-        assert!((1..=29).all(given));
-        assert!(!given(0) && !given(30));
+        assert!((1..=29).chain([35]).all(given));
+        assert!(![0, 30, 34, 36].into_iter().any(given));
     }
 
     /// 7 and 17 cannot be given over the larger field, and all others can.

@@ -4,6 +4,7 @@
 mod crossings;
 mod desk;
 mod letters;
+mod spread;
 mod words;
 
 use std::collections::BTreeMap;
@@ -112,6 +113,7 @@ pub fn check(folder: &Path, maker: &mut Maker) -> Checked<Vec<String>> {
     let mut lines = desk::check(folder, maker)?;
     lines.push(letters::check(&folder.join("letters"), maker)?);
     lines.push(crossings::check(folder, maker)?);
+    lines.push(spread::check(folder)?);
     lines.extend(words::check(folder, maker)?);
     Ok(lines)
 }

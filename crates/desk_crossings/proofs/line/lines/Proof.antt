@@ -11,14 +11,15 @@ use Rattle.base.specs.Lists.{overlaid}
 use Rattle.text.specs.Texts.{TellsIn}
 use Rattle.text.proofs.TextLaws.{told-more}
 use Rattle.word_crossing.specs.Crossings.{allPairs}
-use Rattle.desk_crossings.specs.Lines.{linesOf, textSize}
+use Rattle.desk_text.specs.Room.{textSize}
+use Rattle.desk_crossings.specs.Lines.{linesOf}
 use Rattle.desk_crossings.proofs.LineLaws.{read-back, line-short, lines-more, lines-all}
 use Rattle.desk_crossings.proofs.line.lines.Statement.{statement}
 use Rattle.desk_crossings.proofs.line.lines.Tie as tie
 
 abbrev Inv-loop : tie.InvT-loop
 Inv-loop numbers text₀ at₀ k₀ text at k =
-    (k ≤ 28) × (at ≤ 11 * k) × (length text ≡ 308)
+    (k ≤ 28) × (at ≤ 11 * k) × (length text ≡ textSize)
     × TellsIn textSize (linesOf (take k allPairs) (take k numbers)) at text
 
 abbrev μ-loop : tie.MeasureT-loop

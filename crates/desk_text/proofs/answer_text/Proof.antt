@@ -1,11 +1,11 @@
--- `desk_crossings::answer_text` meets its contract: the line goes to the front of a longer text.
+-- `desk_text::answer_text` meets its contract: the line goes to the front of a longer text.
 use mathlib.Core.Path.{sym}
 use borrow.Author.Needs.{needs}
 use lib.Seq.{length-take-le}
 use Rattle.text.proofs.TextLaws.{told-within}
-use Rattle.desk_crossings.proofs.CrossingText.{answer-told}
-use Rattle.desk_crossings.proofs.answer_text.Statement.{statement}
-use Rattle.desk_crossings.proofs.answer_text.Tie as tie
+use Rattle.desk_text.proofs.AnswerText.{answer-told}
+use Rattle.desk_text.proofs.answer_text.Statement.{statement}
+use Rattle.desk_text.proofs.answer_text.Tie as tie
 
 array-share-prefix-shown : tie.Need-array-share-prefix-shown
 array-share-prefix-shown c = told-within (c .before .before .answer-line .ensures)

@@ -1,0 +1,3 @@
+pub mod ListLines
+pub mod SpreadTexts
+pub mod PaperText

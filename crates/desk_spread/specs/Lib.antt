@@ -1,0 +1,2 @@
+pub mod SpreadLines
+pub mod steps

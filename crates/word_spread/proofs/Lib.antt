@@ -1,0 +1,9 @@
+pub mod SpreadLaws
+pub mod ListsOfFour
+pub mod CountLaws
+pub mod SpreadAnswer
+pub mod AllTogether
+pub mod Parity
+pub mod InverseLists
+pub mod AnySpread
+pub mod WrongPrograms
