@@ -37,11 +37,11 @@ unfolding deskVerdict deskField
 cut-for input large e =
     ap (λ (b : Bool). cutVerdict (keyBytes (cond b Gf256 Gf32)) (digestBytes (cond b Gf256 Gf32)) input) (sym e)
 
--- an old promise: an input that does not say 256 is judged as it was when there was one field
-pub old-input : (input : List ℕ) → (value 256 (part 1 2 input) ≡ 256 → ⊥)
+-- an input that does not say 256 is cut at 83 and 32
+pub cut-otherwise : (input : List ℕ) → (value 256 (part 1 2 input) ≡ 256 → ⊥)
     → deskVerdict input ≡ verdict (part 0 83 input) (part 83 32 input) (part 115 5003 input)
 unfolding cutVerdict
-old-input input h = sym (cut-for input false (ne-eqb (value 256 (part 1 2 input)) 256 h))
+cut-otherwise input h = sym (cut-for input false (ne-eqb (value 256 (part 1 2 input)) 256 h))
 
 -- an input of less than three bytes names the smaller field
 pub short-names : (input : List ℕ) → length input < 3 → ((k : ℕ) → getD input k 0 < 256)

@@ -1,4 +1,3 @@
 pub mod CloakLaws
 pub mod CloakIff
 pub mod ChangeOfLayout
-pub mod OldCloaks

@@ -7,4 +7,3 @@ pub mod WholeFromHalves
 pub mod CopiesAlike
 pub mod WrongVerdicts
 pub mod WrongHalves
-pub mod OldSlips

@@ -1,2 +1,1 @@
-pub mod OldPromises
 pub mod PairsInverse
