@@ -1,5 +1,5 @@
--- Lists of numbers: a test of every element, bytes, how often a number occurs, the values of a function in a row, two
--- lists compared, and the output after a writer.
+-- Lists of numbers: a test of every element, bytes, how often a number occurs, the first number that passes a test, the
+-- values of a function in a row, two lists compared, and the output after a writer.
 use Prim.Native.Nat.{ℕ, zero, suc, _+_}
 use mathlib.Core.Path.{_≡_}
 use mathlib.Core.Bool.{Bool, true, false, cond, _&&_}
@@ -24,6 +24,11 @@ tally f (x ∷ xs) = cond (f x) (suc (tally f xs)) (tally f xs)
 -- how often a number occurs
 abbrev pub count : ℕ → List ℕ → ℕ
 count a xs = tally (λ x. eqb x a) xs
+
+-- the first of the n numbers from k on that passes a test; k + n where none of them does
+unfoldable pub firstFrom : (ℕ → Bool) → ℕ → ℕ → ℕ
+firstFrom f k zero = k
+firstFrom f k (suc n) = cond (f k) k (firstFrom f (suc k) n)
 
 -- f i, f (i + 1), ..: n values in a row
 unfoldable pub valuesFrom : (ℕ → ℕ) → ℕ → ℕ → List ℕ

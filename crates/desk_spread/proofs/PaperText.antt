@@ -3,9 +3,9 @@ use mathlib.Core.Path.{_≡_, refl}
 use mathlib.Core.List.{[], _∷_}
 use lib.ListN.{take}
 use Rattle.base.specs.Questions.{firstNo, granted}
-use Rattle.base.specs.Lists.{every, tally, valuesFrom, equal, eachOnce}
+use Rattle.base.specs.Lists.{firstFrom, every, tally, valuesFrom, equal, eachOnce}
 use Rattle.base.specs.Digits.{digits}
-use Rattle.text.specs.Decimal.{firstFrom, places, decimal}
+use Rattle.text.specs.Decimal.{places, decimal}
 use Rattle.text.specs.Texts.{line}
 use Rattle.word.specs.Strands.{swapped, listAfter}
 use Rattle.word_spread.specs.Spread.{inFrontOf, rowsOf, those, allLists, wordsBetween, ending, allEndings}

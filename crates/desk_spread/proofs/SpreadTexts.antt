@@ -10,9 +10,9 @@ use native.Mathlib.Omega.{arith}
 use lib.ListN.{length, take, drop, getD, replicate, length-append, List·getD-eq-default}
 use lib.Seq.{take-append-seam}
 use Rattle.base.specs.Questions.{firstNo}
-use Rattle.base.specs.Lists.{overlaid}
+use Rattle.base.specs.Lists.{firstFrom, overlaid}
 use Rattle.base.proofs.QuestionLaws.{granted-zero, granted-refused}
-use Rattle.text.specs.Decimal.{firstFrom, decimal}
+use Rattle.text.specs.Decimal.{decimal}
 use Rattle.base.specs.steps.Laying.{Laid}
 use Rattle.text.specs.Texts.{TellsIn}
 use Rattle.text.proofs.DecimalLaws.{decimal-short}

@@ -3,8 +3,8 @@
 use Prim.Native.Nat.{ℕ}
 use mathlib.Core.List.{List, [], _∷_, _++_, map}
 use Rattle.base.specs.Questions.{firstNo, granted}
-use Rattle.base.specs.Lists.{equal}
-use Rattle.text.specs.Decimal.{firstFrom, decimal}
+use Rattle.base.specs.Lists.{firstFrom, equal}
+use Rattle.text.specs.Decimal.{decimal}
 use Rattle.text.specs.Texts.{line}
 use Rattle.word_spread.specs.Spread.{allLists, allEndings, lengthQuestions}
 use Rattle.desk_line.specs.Desk.{answerLine}

@@ -16,43 +16,9 @@ use lib.Seq.{length-take-le, set-split, drop-at}
 use Rattle.base.specs.Digits.{value, digits}
 use Rattle.base.specs.Packing.{Below}
 use Rattle.base.proofs.DigitLaws.{length-digits, value-below, value-digits-below, digits-value, positive-pow}
-use Rattle.text.specs.Decimal.{firstFrom, places, shown, decimal}
-
--- ---- the first number that passes a test
-
-module _ (f : ℕ → Bool) where
-  first-from : (k n : ℕ) → k ≤ firstFrom f k n
-  unfolding firstFrom
-  first-from k zero = omega arith
-  first-from k (suc n) = go (f k) (first-from (suc k) n)
-    where
-      go : (b : Bool) → suc k ≤ firstFrom f (suc k) n → k ≤ cond b k (firstFrom f (suc k) n)
-      go true h = omega arith
-      go false h = omega arith
-
-  -- the number found passes, or none of the n numbers does
-  first-passes : (k n : ℕ) → (f (firstFrom f k n) ≡ true) ⊎ (firstFrom f k n ≡ k + n)
-  unfolding firstFrom
-  first-passes k zero = inr (omega arith)
-  first-passes k (suc n) = go (f k) refl (first-passes (suc k) n)
-    where
-      go : (b : Bool) → f k ≡ b → (f (firstFrom f (suc k) n) ≡ true) ⊎ (firstFrom f (suc k) n ≡ suc k + n)
-          → (f (cond b k (firstFrom f (suc k) n)) ≡ true) ⊎ (cond b k (firstFrom f (suc k) n) ≡ k + suc n)
-      go true e later = inl e
-      go false e (inl d) = inl d
-      go false e (inr d) = inr (omega arith)
-
-  -- no number before it passes
-  first-least : (k n j : ℕ) → k ≤ j → j < firstFrom f k n → f j ≡ false
-  unfolding firstFrom
-  first-least k zero j h l = absurd (omega arith)
-  first-least k (suc n) j h l = go (f k) refl l (decLe (suc k) j) (first-least (suc k) n j)
-    where
-      go : (b : Bool) → f k ≡ b → j < cond b k (firstFrom f (suc k) n) → Dec (suc k ≤ j)
-          → (suc k ≤ j → j < firstFrom f (suc k) n → f j ≡ false) → f j ≡ false
-      go true e m d later = absurd (omega arith)
-      go false e m (yes d) later = later d m
-      go false e m (no d) later = let s : j ≡ k = omega arith in ap f s ∙ e
+use Rattle.base.specs.Lists.{firstFrom}
+use Rattle.base.proofs.SearchLaws.{first-from, first-passes, first-least}
+use Rattle.text.specs.Decimal.{places, shown, decimal}
 
 -- ---- how many digits
 

@@ -1,15 +1,10 @@
 -- Numbers as text: the digits to base 10 without zeros in front. '0' is 48, '-' is 45.
-use Prim.Native.Nat.{ℕ, zero, suc, _+_, _^_}
-use mathlib.Core.Bool.{Bool, cond}
+use Prim.Native.Nat.{ℕ, suc, _+_, _^_}
 use mathlib.Core.List.{List, _∷_, map}
 use lib.Dec.{ltb}
 use lib.IntN.{ℤ, pos, negsuc}
+use Rattle.base.specs.Lists.{firstFrom}
 use Rattle.base.specs.Digits.{digits}
-
--- the first of the n numbers from k on that passes a test; k + n where none of them does
-unfoldable pub firstFrom : (ℕ → Bool) → ℕ → ℕ → ℕ
-firstFrom f k zero = k
-firstFrom f k (suc n) = cond (f k) k (firstFrom f (suc k) n)
 
 -- how many digits a number has: the least k from 1 on for which the number is below 10 to the power k. A number is
 -- below 10 to the power of itself, so no k past the number need be tried

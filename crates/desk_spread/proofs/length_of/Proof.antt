@@ -2,8 +2,8 @@
 use Prim.Native.Nat.{_-_, _≤_}
 use mathlib.Core.Path.{_≡_, refl, sym, _∙_}
 use native.Mathlib.Omega.{arith}
-use Rattle.base.specs.Lists.{equal}
-use Rattle.text.specs.Decimal.{firstFrom, decimal}
+use Rattle.base.specs.Lists.{firstFrom, equal}
+use Rattle.text.specs.Decimal.{decimal}
 use Rattle.desk_spread.specs.SpreadLines.{lengthOf}
 use Rattle.desk_spread.proofs.SpreadTexts.{first-next, first-found, first-none}
 use Rattle.desk_spread.proofs.length_of.Statement.{statement}
