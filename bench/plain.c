@@ -1,6 +1,6 @@
-/* The key reader, the verdict whole and by halves, cloaking, the lent multiplier, the rewriter, free reduction, stored
-   forms, crossings and spreading in plain C, as one would write them by hand: for the library's times to stand beside.
-   */
+/* The key reader, the verdict whole and by halves, cloaking, the lent multiplier, the rewriter, free reduction, taking
+   handles out, stored forms, crossings and spreading in plain C, as one would write them by hand: for the library's
+   times to stand beside. */
 #include <stdbool.h>
 #include <stddef.h>
 #include <stdint.h>
@@ -538,6 +538,121 @@ size_t plain_reduce(const uint8_t *word, size_t wn, uint8_t *out, size_t len)
             codes[n++] = code;
     }
     return write_codes(codes, n, out);
+}
+
+/* One place more than a word has letters. */
+#define ROOM (LETTERS + 1)
+
+/* Writes what stands for the codes between a handle's ends, from the last to the first, before a place. `first` is the
+   handle's first end. Gives the place where it begins. */
+static size_t conjugate(uint8_t *row, size_t from, size_t to, size_t at, uint8_t first)
+{
+    uint8_t above = (uint8_t)(first + 1);
+    while (to > from) {
+        uint8_t d = row[--to];
+        if (((d ^ above) & 7) == 0) {
+            row[--at] = above;
+            row[--at] = (uint8_t)(d - 1);
+            row[--at] = above ^ 8;
+        } else {
+            row[--at] = d;
+        }
+    }
+    return at;
+}
+
+/* The codes between two places that become three. */
+static size_t growing(const uint8_t *row, size_t from, size_t to, uint8_t first)
+{
+    size_t many = 0;
+    for (; from < to; from++)
+        many += ((row[from] ^ (first + 1)) & 7) == 0;
+    return many;
+}
+
+/* Takes handles out of n codes, in at most so many steps. What was looked through stands at the front of a row, the
+   rest at its end. The latest place of each generator is kept, one more than it is, 0 for none; and for each place the
+   latest before it of its generator. Gives the number of codes, or ROOM if a step would leave over 10,000. */
+static size_t take_handles(uint8_t *codes, size_t n, unsigned limit, bool *left)
+{
+    uint8_t row[ROOM];
+    uint16_t latest[8] = {0}, before[ROOM];
+    size_t l = 0, r = ROOM - n;
+    memcpy(row + r, codes, n);
+    *left = false;
+    while (r < ROOM) {
+        uint8_t c = row[r], first = c ^ 8;
+        unsigned slot = (c & 7) + 1;
+        size_t own = latest[slot];
+        if (own <= latest[slot - 1] || row[own - 1] != first) {
+            before[l] = latest[slot];
+            row[l] = c;
+            latest[slot] = (uint16_t)++l;
+            r++;
+            continue;
+        }
+        if (limit-- == 0) {
+            *left = true;
+            break;
+        }
+        size_t k = l;
+        if (l + 2 * growing(row, own, l, first) > r + 1)
+            return ROOM;
+        while (k >= own) {
+            k--;
+            latest[(row[k] & 7) + 1] = before[k];
+        }
+        r = conjugate(row, own, l, r + 1, first);
+        l = own - 1;
+    }
+    memcpy(codes, row, l);
+    memcpy(codes + l, row + r, ROOM - r);
+    return l + ROOM - r;
+}
+
+/* The same, but each step begins again at the word's front and moves what follows the handle. */
+static size_t take_handles_again(uint8_t *codes, size_t n, unsigned limit, bool *left)
+{
+    for (;;) {
+        uint16_t latest[8] = {0};
+        size_t q = 0, own = 0;
+        for (; q < n; q++) {
+            unsigned slot = (codes[q] & 7) + 1;
+            own = latest[slot];
+            if (own > latest[slot - 1] && codes[own - 1] == (codes[q] ^ 8))
+                break;
+            latest[slot] = (uint16_t)(q + 1);
+        }
+        *left = q < n;
+        if (q == n || limit-- == 0)
+            return n;
+        uint8_t first = codes[own - 1], middle[3 * LETTERS];
+        size_t many = q - own, after = many + 2 * growing(codes, own, q, first);
+        if (n + after > LETTERS + many + 2)
+            return ROOM;
+        memcpy(middle, codes + own, many);
+        conjugate(middle, 0, many, after, first);
+        memmove(codes + own - 1 + after, codes + q + 1, n - q - 1);
+        memcpy(codes + own - 1, middle, after);
+        n = n + after - many - 2;
+    }
+}
+
+/* The bytes written, and twice the answer with 1 if a handle is left. `again` begins at the front for each step. */
+size_t plain_handles(const uint8_t *word, size_t wn, uint16_t limit, bool again, uint8_t *out, size_t len,
+                     uint32_t *number)
+{
+    uint8_t codes[LETTERS + 1];
+    size_t n;
+    bool left;
+    *number = len < WORD_BYTES ? 30 : 2u * read_word(word, wn, &n);
+    if (*number)
+        return 0;
+    for (size_t k = 0; k < n; k++)
+        codes[k] = (uint8_t)code_at(word + 2, k);
+    n = (again ? take_handles_again : take_handles)(codes, n, limit, &left);
+    *number = n == ROOM ? 64 : left;
+    return n == ROOM ? 0 : write_codes(codes, n, out);
 }
 
 /* How often the labels a and b cross: one walk counts all pairs, by the label at a letter's place and the next. 0 on a refusal. */

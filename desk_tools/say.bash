@@ -192,6 +192,14 @@ about_reduce() {
     kind_hint word "$2"
 }
 
+# about_handles ANSWER WORD LIMIT: a refused word, or a step that would leave too many letters.
+about_handles() {
+    case $1 in
+        32) about_part word "$2" "one of the first $(count "$3" step) would leave more than 10000 letters" ;;
+        *) about_reduce "$1" "$2" ;;
+    esac
+}
+
 # about_restore ANSWER STORED: a refused stored form.
 about_restore() {
     case $1 in

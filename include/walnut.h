@@ -79,7 +79,7 @@ extern "C" {
 
 /* The version of this header and of its library. The first number is also the number after libwalnut.so. */
 #define WALNUT_VERSION_MAJOR 0
-#define WALNUT_VERSION_MINOR 5
+#define WALNUT_VERSION_MINOR 6
 #define WALNUT_VERSION_PATCH 0
 
 /* Marks a function whose result must be used. A compiler that knows the mark warns if a caller drops the result. */
@@ -122,6 +122,7 @@ enum walnut_answer {
     WALNUT_ANSWER_TWO_LABELS = 27,
     WALNUT_ANSWER_STORED_SIZES = 28,
     WALNUT_ANSWER_STORED_BITS = 29,
+    WALNUT_ANSWER_HANDLES_FULL = 32,
     WALNUT_ANSWER_LENGTH_OR_LIST = 35,
     /* answers.txt: end */
 };
@@ -161,6 +162,7 @@ static inline const char *walnut_text(uint8_t answer)
     case 27: return "a label is over 7, or both labels are equal";
     case 28: return "the stored form has fewer than 6 bytes, or its sizes disagree with its letters or length";
     case 29: return "a generator of the stored form is 7, or its filler bits are not all zero";
+    case 32: return "a step that takes a handle out would leave more than 10,000 letters";
     case 35: return "the length is over 12, or the list is not four labels, 0 to 3 each once";
     /* answers.txt: end */
     default: return "an answer that this header does not know";
@@ -184,7 +186,7 @@ static inline const char *walnut_text(uint8_t answer)
 #define WALNUT_LETTERS 10000 /* the most letters of a word */
 #define WALNUT_MOVES 4096 /* the most moves of a list */
 #define WALNUT_SPREAD_LENGTH 12 /* the most letters of the words that walnut_words_ending counts */
-#define WALNUT_STACK_BYTES 32768 /* bytes of stack that a call may take */
+#define WALNUT_STACK_BYTES 65536 /* bytes of stack that a call may take */
 
 /* An element of a field. On a refusal it is 0. */
 typedef struct { uint8_t answer; uint8_t value; } walnut_element;
@@ -194,6 +196,13 @@ typedef struct { uint8_t answer; size_t letters; } walnut_word;
 
 /* The number of bytes written to the front of the output. On a refusal it is 0. Bytes after them do not change. */
 typedef struct { uint8_t answer; size_t bytes; } walnut_written;
+
+/* The number of bytes written to the front of the output, and whether the word there has a handle. On a refusal they
+   are 0 and false. Bytes after them do not change. */
+typedef struct { uint8_t answer; size_t bytes; bool left; } walnut_handles;
+
+/* Which of two files is the shorter: 1 for the first, 2 for the second. On a refusal it is 0. */
+typedef struct { uint8_t answer; uint8_t which; } walnut_choice;
 
 /* Whether a word cloaks. On a refusal it is false. */
 typedef struct { uint8_t answer; bool yes; } walnut_cloak;
@@ -287,6 +296,18 @@ WALNUT_MUST_USE walnut_written walnut_restore(const uint8_t *stored, size_t n, u
    11, 12, 13, 18, 19, 20, then move by move 21, 22, 23, 24, or 0. Changes the reported bytes of out, on 0 only. */
 WALNUT_MUST_USE walnut_written walnut_rewrite(const uint8_t *word, size_t n, const uint8_t *moves, size_t m,
                                               uint8_t *out, size_t len);
+
+/* Takes handles out of a word file and writes the word that is left. A handle is b_i or its inverse, then letters, or
+   none, with neither b_i nor b_(i-1), of either sign, and then the inverse of the first letter. A step takes the handle
+   that ends earliest: it drops both ends and replaces each b_(i+1) between, so the word is the same braid. Work ends
+   after `limit` steps, or when no handle is left. The new word may be longer than the old one. Answers: 15, 9, 10, 11,
+   12, 13, then 32 if a step would leave over 10,000 letters, or 0. Changes the reported bytes of out, on 0 only. */
+WALNUT_MUST_USE walnut_handles walnut_handle_reduce(const uint8_t *word, size_t n, uint16_t limit, uint8_t *out,
+                                                    size_t len);
+
+/* Says which of two word files has fewer bytes, the first on a tie. Answers: 9, 10, 11, 12, 13 for the first file, then
+   the same for the second, or 0. Changes nothing. */
+WALNUT_MUST_USE walnut_choice walnut_shorter(const uint8_t *a, size_t an, const uint8_t *b, size_t bn);
 
 /* The verdict: is the word a signature of the digest under the key? Answers: 1 to 7, 26, 8 to 14, or 0 for yes. Changes
    nothing. */

@@ -1,5 +1,5 @@
-//! The key reader, the verdict whole and by halves, cloaking, the lent multiplier, the rewriter, free reduction and
-//! crossings and spreading in plain Rust, as one would write them by hand: for the library's times to stand beside.
+//! The key reader, the verdict whole and by halves, cloaking, the lent multiplier, the rewriter, free reduction,
+//! taking handles out, crossings and spreading in plain Rust, as one would write them by hand: for the library's times to stand beside.
 
 use std::hint::black_box;
 
@@ -469,6 +469,97 @@ pub fn free_reduce(word: &[u8], out: &mut [u8]) -> Result<usize, u8> {
         }
     }
     Ok(write_codes(&codes, out))
+}
+
+/// One place more than a word has letters.
+const ROOM: usize = LETTERS + 1;
+
+/// A row of codes with a gap from `left` to `right`: what was looked through stands before it, the rest after it. The
+/// latest place of each generator is one more than it is, 0 for none; and each place has the latest before it of its
+/// generator.
+struct Gap {
+    row: [u8; ROOM],
+    latest: [u16; 8],
+    before: [u16; ROOM],
+    left: usize,
+    right: usize,
+}
+
+/// Where the latest place of a code's generator is kept.
+fn slot(code: u8) -> usize {
+    usize::from(code & 7) + 1
+}
+
+impl Gap {
+    /// One more than the place where a handle begins that the next code ends; 0 if there is none.
+    fn begins(&self) -> usize {
+        let code = self.row[self.right];
+        let [less, own] = [slot(code) - 1, slot(code)].map(|slot| usize::from(self.latest[slot]));
+        if own > less && self.row[own - 1] == code ^ 8 {
+            own
+        } else {
+            0
+        }
+    }
+
+    /// The next code is no handle's end.
+    fn keep(&mut self) {
+        let code = self.row[self.right];
+        self.before[self.left] = self.latest[slot(code)];
+        self.row[self.left] = code;
+        self.left += 1;
+        self.latest[slot(code)] = self.left as u16;
+        self.right += 1;
+    }
+
+    /// Takes the handle out that the next code ends. Are there at most 10,000 codes then?
+    fn step(&mut self, own: usize) -> bool {
+        let first = self.row[own - 1];
+        let above = first + 1;
+        let between = &self.row[own..self.left];
+        let grown = between.iter().filter(|code| (**code ^ above) & 7 == 0).count();
+        if self.left + 2 * grown > self.right + 1 {
+            return false;
+        }
+        let mut at = self.right + 1;
+        for place in (own..self.left).rev() {
+            let code = self.row[place];
+            self.latest[slot(code)] = self.before[place];
+            if (code ^ above) & 7 == 0 {
+                at -= 3;
+                self.row[at..at + 3].copy_from_slice(&[above ^ 8, code - 1, above]);
+            } else {
+                at -= 1;
+                self.row[at] = code;
+            }
+        }
+        self.latest[slot(first)] = self.before[own - 1];
+        (self.left, self.right) = (own - 1, at);
+        true
+    }
+}
+
+/// Takes handles out in at most so many steps: whether one is left, and the bytes written.
+pub fn handles(word: &[u8], mut limit: u16, out: &mut [u8]) -> Result<(bool, usize), u8> {
+    if out.len() < WORD_BYTES {
+        return Err(15);
+    }
+    let codes: Vec<u8> = read_word(word)?.collect();
+    let right = ROOM - codes.len();
+    let mut gap = Gap { row: [0; ROOM], latest: [0; 8], before: [0; ROOM], left: 0, right };
+    gap.row[right..].copy_from_slice(&codes);
+    let mut found = false;
+    while gap.right < ROOM && !found {
+        match gap.begins() {
+            0 => gap.keep(),
+            _ if limit == 0 => found = true,
+            own if gap.step(own) => limit -= 1,
+            _ => return Err(32),
+        }
+    }
+    let mut left = gap.row[..gap.left].to_vec();
+    left.extend(&gap.row[gap.right..]);
+    Ok((found, write_codes(&left, out)))
 }
 
 /// The bits of numbers of so many bits, packed into bytes, the most significant first and zeros at the end.

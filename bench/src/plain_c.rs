@@ -32,6 +32,15 @@ extern "C" {
         len: usize,
     ) -> usize;
     fn plain_reduce(word: *const u8, wn: usize, out: *mut u8, len: usize) -> usize;
+    fn plain_handles(
+        word: *const u8,
+        wn: usize,
+        limit: u16,
+        again: bool,
+        out: *mut u8,
+        len: usize,
+        number: *mut u32,
+    ) -> usize;
     fn plain_store(word: *const u8, n: usize, out: *mut u8, len: usize) -> usize;
     fn plain_restore(stored: *const u8, n: usize, out: *mut u8, len: usize) -> usize;
     fn plain_crossings(word: *const u8, wn: usize, a: u8, b: u8) -> i32;
@@ -89,6 +98,14 @@ pub fn rewrite(word: &[u8], moves: &[u8], out: &mut [u8]) -> usize {
 pub fn free_reduce(word: &[u8], out: &mut [u8]) -> usize {
     // SAFETY: see above.
     unsafe { plain_reduce(word.as_ptr(), word.len(), out.as_mut_ptr(), out.len()) }
+}
+
+/// Twice the answer with 1 if a handle is left, and the bytes written. `again` begins at the front for each step.
+pub fn handles(word: &[u8], limit: u16, again: bool, out: &mut [u8]) -> (u32, usize) {
+    let (mut number, (file, len)) = (0, (out.as_mut_ptr(), out.len()));
+    // SAFETY: see above.
+    let bytes = unsafe { plain_handles(word.as_ptr(), word.len(), limit, again, file, len, &mut number) };
+    (number, bytes)
 }
 
 pub fn crossings(word: &[u8], a: u8, b: u8) -> i32 {

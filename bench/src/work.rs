@@ -7,7 +7,7 @@ use reference::pair::carried;
 use reference::rewrite::Move;
 use reference::start;
 use reference::testkit::{accepted_slip, move_list, Random, Slip};
-use reference::word::word_file;
+use reference::word::{letters, word_file};
 use reference::Field;
 use walnut::{Refusal, STORED_BYTES};
 
@@ -71,6 +71,12 @@ pub enum Work {
     },
     Reduction {
         word: Vec<u8>,
+    },
+    /// Words whose handles are taken out. The C begins at the front for each step, or works as the library does.
+    Handles {
+        words: Vec<Vec<u8>>,
+        limit: u16,
+        again: bool,
     },
     /// A word that is stored, or a stored form that is restored.
     Storing {
@@ -185,6 +191,22 @@ fn words_ending(who: Who, length: usize, labels: &[u8]) -> u32 {
     }
 }
 
+/// Takes handles out of a word: twice the answer with 1 if a handle is left, and the bytes written.
+fn handles(who: Who, word: &[u8], limit: u16, again: bool, out: &mut [u8]) -> (u32, usize) {
+    let came = |came: Result<(bool, usize), u8>| match came {
+        Ok((left, bytes)) => (u32::from(left), bytes),
+        Err(answer) => (2 * u32::from(answer), 0),
+    };
+    match who {
+        Who::Library => {
+            let left = walnut::handle_reduce(word, limit, out);
+            came(left.map(|(new, left)| (left, new.len())).map_err(Refusal::number))
+        }
+        Who::Rust => came(plain::handles(word, limit, out)),
+        Who::C => plain_c::handles(word, limit, again, out),
+    }
+}
+
 impl Work {
     /// Does the work once into an output of 5,006 bytes: its number, and how many bytes it wrote.
     pub fn run(&self, who: Who, out: &mut [u8]) -> (u32, usize) {
@@ -230,6 +252,10 @@ impl Work {
             }
             (Work::Reduction { word }, Who::Rust) => (0, plain::free_reduce(word, out).unwrap_or(0)),
             (Work::Reduction { word }, Who::C) => (0, plain_c::free_reduce(word, out)),
+            (Work::Handles { words, limit, again }, who) => {
+                let taken = words.iter().map(|word| handles(who, word, *limit, *again, out));
+                taken.fold((0, 0), |(numbers, _), (number, bytes)| (numbers + number, bytes))
+            }
             (Work::Storing { word }, Who::Library) => {
                 (0, walnut::store(word, out).map_or(0, |written| written.len()))
             }
@@ -345,8 +371,33 @@ fn stored(random: &mut Random, letters: usize) -> Vec<u8> {
     out[..bytes].to_vec()
 }
 
+/// Signatures as signers make them, at strength 128 and freely reduced.
+fn signatures() -> Vec<Vec<u8>> {
+    let file = |line: &str| {
+        let digits: Vec<u8> = line.bytes().map(|digit| (digit as char).to_digit(16).unwrap() as u8).collect();
+        digits.chunks(2).map(|two| 16 * two[0] + two[1]).collect()
+    };
+    let lines = include_str!("../signatures.txt").lines();
+    lines.filter(|line| !line.starts_with('#')).map(file).collect()
+}
+
+/// Handles of signatures, or of one other word, with as many steps as there may be.
+fn taking(words: Vec<Vec<u8>>, again: bool) -> Work {
+    Work::Handles { words, limit: u16::MAX, again }
+}
+
+/// The letters of the first signatures, one after another, as one word.
+fn joined(count: usize) -> Vec<u8> {
+    word_file(&signatures()[..count].iter().flat_map(|word| letters(word)).collect::<Vec<_>>())
+}
+
+/// b1 5,000 times, and then b7 and its inverse 2,500 times.
+fn far_apart() -> Vec<u8> {
+    word_file(&[vec![0; 5_000], [6, 14].repeat(2_500)].concat())
+}
+
 /// How many cases there are.
-pub const CASES: usize = 22;
+pub const CASES: usize = 28;
 
 /// The case of a number, the same in every run.
 pub fn case(number: usize) -> Case {
@@ -376,6 +427,12 @@ pub fn case(number: usize) -> Case {
         18 => ("100 copies, whole", 1, copies(random, false)),
         19 => ("storing, 10,000 letters", 1, Work::Storing { word: word_file(&random.word(LONGEST)) }),
         20 => ("restoring, 10,000 letters", 1, Work::Restoring { stored: stored(random, LONGEST) }),
+        21 => ("handles of a signature", signatures().len(), taking(signatures(), false)),
+        22 => ("the same, C from the front", signatures().len(), taking(signatures(), true)),
+        23 => ("handles, random, 1,283", 1, taking(vec![word_file(&random.word(typical(small)))], false)),
+        24 => ("handles, eight signatures", 1, taking(vec![joined(8)], false)),
+        25 => ("handles, tangled, 10,000", 1, taking(vec![word_file(&random.tangled_word(LONGEST))], false)),
+        26 => ("handles far apart, 10,000", 1, taking(vec![far_apart()], false)),
         _ => ("words of length 12 in a list", 1, Work::Spreading { length: 12, labels: [2, 3, 0, 1] }),
     };
     Case { name, parts, work }

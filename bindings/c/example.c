@@ -192,6 +192,34 @@ static int moves(void)
     return 0;
 }
 
+/* Handles taken out, and the shorter of two words. */
+static void handles(void)
+{
+    /* b1 b2 b3 b2^-1 b1^-1 */
+    const uint8_t word[5] = {0x00, 0x05, 0x01, 0x29, 0x80};
+    walnut_handles handles = walnut_handle_reduce(word, sizeof word, 1, out, sizeof out);
+    print_hex("b1 b2 b3 b2^-1 b1^-1 in 1 step is", out, handles.bytes);
+    printf("a handle is left in it: %s\n", handles.left ? "yes" : "no");
+    handles = walnut_handle_reduce(word, sizeof word, 65535, out, sizeof out);
+    print_hex("in 65535 steps it is", out, handles.bytes);
+    printf("a handle is left in it: %s\n", handles.left ? "yes" : "no");
+
+    /* the step would leave 10,002 letters */
+    uint8_t codes[3336];
+    memset(codes, 1, sizeof codes);
+    codes[0] = 0;
+    codes[sizeof codes - 1] = 8;
+    uint8_t grows[2 + sizeof codes / 2];
+    size_t bytes = walnut_write_word(codes, sizeof codes, out, sizeof out).bytes;
+    memcpy(grows, out, bytes);
+    printf("b1, 3334 times b2 and b1^-1 in 1 step: answer %u\n",
+           walnut_handle_reduce(grows, bytes, 1, out, sizeof out).answer);
+
+    const uint8_t three[4] = {0x00, 0x03, 0x00, 0x80}, one[3] = {0x00, 0x01, 0x00};
+    if (walnut_shorter(three, sizeof three, one, sizeof one).which == 2)
+        print_hex("the shorter of 00 03 00 80 and 00 01 00 is", one, sizeof one);
+}
+
 /* How often strands cross. */
 static void crossings(void)
 {
@@ -258,6 +286,7 @@ int main(void)
     words();
     if (keys(key) != 0 || moves() != 0)
         return 1;
+    handles();
     crossings();
     spreading();
     verdicts(key);

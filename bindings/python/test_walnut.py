@@ -186,6 +186,35 @@ class Spreading(Case):
         self.raised(TypeError, "labels: bytes are needed", walnut.words_ending, 2, "0123")
 
 
+class Handles(Case):
+    def test_steps(self):
+        # b1 b2 b3 b2^-1 b1^-1 is b1 b3^-1 b2 b3 b1^-1, and then b3^-1 b2^-1 b1 b2 b3
+        word = bytes.fromhex("00 05 01 29 80")
+        self.assertEqual(walnut.handle_reduce(word, 0), (word, True))
+        self.assertEqual(walnut.handle_reduce(word, 1), (bytes.fromhex("00 05 0A 12 80"), True))
+        for limit in ((), (2,), (65535,)):
+            self.assertEqual(walnut.handle_reduce(word, *limit), (bytes.fromhex("00 05 A9 01 20"), False))
+
+    def test_refusals(self):
+        # the step would leave 10,002 letters
+        grows = walnut.write_word(["b1", *["b2"] * 3334, "b1^-1"])
+        self.refused(32, walnut.handle_reduce, grows, 1)
+        self.assertEqual(walnut.handle_reduce(grows, 0), (grows, True))
+        self.refused(9, walnut.handle_reduce, b"", 1)
+        for limit in (-1, 65536):
+            self.raised(ValueError, f"limit: {limit} is no limit", walnut.handle_reduce, bytes(2), limit)
+        self.raised(TypeError, "limit: a whole number is needed, not str", walnut.handle_reduce, bytes(2), "1")
+        self.raised(TypeError, "word: bytes are needed", walnut.handle_reduce, "b1", 1)
+
+    def test_the_shorter_of_two(self):
+        one, two, none = bytes((0, 1, 0)), bytes((0, 1, 16)), bytes(2)
+        pairs = [(one, none), (none, one), (two, one), (one, two)]
+        self.assertEqual([walnut.shorter(*pair) for pair in pairs], [none, none, two, one])
+        self.assertEqual(walnut.shorter([0, 1, 0], iter(none)), none)
+        self.refused(9, walnut.shorter, b"", bytes((0, 1)))
+        self.refused(11, walnut.shorter, one, bytes((0, 1)))
+
+
 class Moves(Case):
     def test_the_list_of_two_moves(self):
         moves, file = [(0, walnut.TURN), (3, walnut.REMOVE)], bytes([0, 2, 0, 0, 0, 3, 3, 1])

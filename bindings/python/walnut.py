@@ -17,10 +17,10 @@ import operator
 import os
 from typing import Any, Iterable, List, Optional, Tuple, Union
 
-__version__ = "0.5.0"
+__version__ = "0.6.0"
 
 # walnut.h: begin; tools/interface writes these lines
-from ctypes import POINTER, Structure, c_bool, c_char_p, c_int32, c_size_t, c_uint32, c_uint8
+from ctypes import POINTER, Structure, c_bool, c_char_p, c_int32, c_size_t, c_uint16, c_uint32, c_uint8
 
 # bytes of a key file over the field with 32 elements
 KEY_BYTES = 83
@@ -43,7 +43,7 @@ MOVES = 4096
 # the most letters of the words that walnut_words_ending counts
 SPREAD_LENGTH = 12
 # bytes of stack that a call may take
-STACK_BYTES = 32768
+STACK_BYTES = 65536
 
 
 class _Element(Structure):
@@ -62,6 +62,19 @@ class _Written(Structure):
     """The number of bytes written to the front of the output. On a refusal it is 0. Bytes after them do not change."""
 
     _fields_ = [("answer", c_uint8), ("bytes", c_size_t)]
+
+
+class _Handles(Structure):
+    """The number of bytes written to the front of the output, and whether the word there has a handle. On a refusal
+    they are 0 and false. Bytes after them do not change."""
+
+    _fields_ = [("answer", c_uint8), ("bytes", c_size_t), ("left", c_bool)]
+
+
+class _Choice(Structure):
+    """Which of two files is the shorter: 1 for the first, 2 for the second. On a refusal it is 0."""
+
+    _fields_ = [("answer", c_uint8), ("which", c_uint8)]
 
 
 class _Cloak(Structure):
@@ -132,6 +145,8 @@ _FUNCTIONS: Any = {
     "walnut_store": (_Written, c_char_p, c_size_t, POINTER(c_uint8), c_size_t),
     "walnut_restore": (_Written, c_char_p, c_size_t, POINTER(c_uint8), c_size_t),
     "walnut_rewrite": (_Written, c_char_p, c_size_t, c_char_p, c_size_t, POINTER(c_uint8), c_size_t),
+    "walnut_handle_reduce": (_Handles, c_char_p, c_size_t, c_uint16, POINTER(c_uint8), c_size_t),
+    "walnut_shorter": (_Choice, c_char_p, c_size_t, c_char_p, c_size_t),
     "walnut_verify": (c_uint8, c_char_p, c_size_t, c_char_p, c_size_t, c_char_p, c_size_t),
     "walnut_first_half": (_Halved, c_char_p, c_size_t, c_char_p, c_size_t),
     "walnut_second_half": (c_uint8, _Half, c_char_p, c_size_t),
@@ -201,6 +216,7 @@ class Answer(enum.IntEnum):
     TWO_LABELS = 27
     STORED_SIZES = 28
     STORED_BITS = 29
+    HANDLES_FULL = 32
     LENGTH_OR_LIST = 35
     # answers.txt: end
 
@@ -238,6 +254,7 @@ TEXTS = {
     27: "a label is over 7, or both labels are equal",
     28: "the stored form has fewer than 6 bytes, or its sizes disagree with its letters or length",
     29: "a generator of the stored form is 7, or its filler bits are not all zero",
+    32: "a step that takes a handle out would leave more than 10,000 letters",
     35: "the length is over 12, or the list is not four labels, 0 to 3 each once",
     # answers.txt: end
 }
@@ -644,6 +661,22 @@ def rewrite(word: Bytes, moves: Union[bytes, bytearray, memoryview, Iterable[Mov
     """The word file that moves leave: the bytes of a move list's file, or (place, kind) of each move."""
     file = moves if isinstance(moves, (bytes, bytearray, memoryview)) else _moves_file(moves)
     return _word_written(_lib.walnut_rewrite, word=word, moves=file)
+
+
+def handle_reduce(word: Bytes, limit: int = 65535) -> Tuple[bytes, bool]:
+    """The word file that is left when handles are taken out in at most `limit` steps, and whether a handle is left in
+    it. The new word is the same braid, and may be longer: shorter chooses."""
+    out = (c_uint8 * WORD_BYTES)()
+    steps = _whole(limit, 65535, "limit", "limit of two bytes")
+    handles = _lib.walnut_handle_reduce(*_slices(word=word), steps, out, WORD_BYTES)
+    return _granted(handles.answer, (bytes(out[: handles.bytes]), handles.left))
+
+
+def shorter(a: Bytes, b: Bytes) -> bytes:
+    """The shorter of two word files, the first on a tie."""
+    first, second = _bytes(a, "a"), _bytes(b, "b")
+    choice = _lib.walnut_shorter(first, len(first), second, len(second))
+    return _granted(choice.answer, second if choice.which == 2 else first)
 
 
 def verify(key: Bytes, digest: Bytes, word: Bytes) -> None:

@@ -1,5 +1,5 @@
 //! A second, independent road to the operations of document 01 ("Loan-slip signatures: braid words, keys and
-//! moves") and of document 02's sections 1, 2, 4, 6, 7 and 13, to run beside another implementation.
+//! moves") and of document 02's sections 1, 2, 4, 6, 7, 9 and 13, to run beside another implementation.
 //!
 //! It is written for plainness, not speed, and takes another way wherever there is one:
 //!
@@ -13,6 +13,7 @@
 //!   size has its place ([`key`]), and the signs and the generators of a stored form have strings of their own
 //!   ([`stored`]);
 //! - free reduction removes the first cancelling neighbours, again and again ([`reduce`]);
+//! - a step that takes a handle out looks for all handles of the whole word ([`handles`]);
 //! - a move splices other letters into a run of letters, and the next one starts from what it left
 //!   ([`rewrite`](mod@rewrite));
 //! - how often two strands cross is found by following these two alone, without a list of labels ([`crossing`]);
@@ -39,6 +40,7 @@ pub mod desk;
 pub mod digest;
 pub mod field;
 pub mod half;
+pub mod handles;
 pub mod key;
 pub mod letter;
 pub mod matrix;
@@ -57,6 +59,7 @@ pub use crossing::{crossings, Crossing};
 pub use digest::encode_digest;
 pub use field::{product, reciprocal, Element, Field};
 pub use half::{first_half, second_half, Half, Halved};
+pub use handles::{handle_reduce, shorter, Choice, Handles};
 pub use key::{file_entries, read_key, write_key, Key};
 pub use matrix::{matrix_product, Matrix};
 pub use pair::{multiply, start, Pair};

@@ -111,6 +111,24 @@ fn moves() -> Result<(), Refusal> {
     Ok(())
 }
 
+/// Handles taken out, and the shorter of two words.
+fn handles() -> Result<(), Refusal> {
+    let (word, mut out) = ([0x00, 0x05, 0x01, 0x29, 0x80], [0; WORD_BYTES]);
+    for (text, limit) in [("b1 b2 b3 b2^-1 b1^-1 in 1 step is", 1), ("in 65535 steps it is", u16::MAX)] {
+        let (new, left) = walnut::handle_reduce(&word, limit, &mut out)?;
+        println!("{text} {}", hex(new));
+        println!("a handle is left in it: {}", yes_or_no(left));
+    }
+    let mut codes = [1; 3336];
+    (codes[0], codes[3335]) = (0, 8);
+    let grows = walnut::write_word(&codes, &mut out)?.to_vec();
+    let answer = answer(walnut::handle_reduce(&grows, 1, &mut out));
+    println!("b1, 3334 times b2 and b1^-1 in 1 step: answer {answer}");
+    let shorter = walnut::shorter(&[0x00, 0x03, 0x00, 0x80], &[0x00, 0x01, 0x00])?;
+    println!("the shorter of 00 03 00 80 and 00 01 00 is {}", hex(shorter));
+    Ok(())
+}
+
 /// How often strands cross.
 fn crossings() -> Result<(), Refusal> {
     println!("strands 0 and 2 cross in b1 b2: {}", walnut::crossings(&[0, 2, 0x01], 0, 2)?);
@@ -199,6 +217,7 @@ fn main() -> Result<(), Box<dyn Error>> {
     words()?;
     let key = keys()?;
     moves()?;
+    handles()?;
     crossings()?;
     spreading()?;
     verdicts(&key)?;

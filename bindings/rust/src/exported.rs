@@ -25,6 +25,24 @@ pub struct Written {
     pub bytes: usize,
 }
 
+/// The number of bytes written to the front of the output, and whether the word there has a handle. On a refusal they
+/// are 0 and false. Bytes after them do not change.
+#[repr(C)]
+#[derive(Clone, Copy, Debug, PartialEq, Eq)]
+pub struct Handles {
+    pub answer: u8,
+    pub bytes: usize,
+    pub left: bool,
+}
+
+/// Which of two files is the shorter: 1 for the first, 2 for the second. On a refusal it is 0.
+#[repr(C)]
+#[derive(Clone, Copy, Debug, PartialEq, Eq)]
+pub struct Choice {
+    pub answer: u8,
+    pub which: u8,
+}
+
 /// Whether a word cloaks. On a refusal it is false.
 #[repr(C)]
 #[derive(Clone, Copy, Debug, PartialEq, Eq)]
@@ -121,6 +139,8 @@ extern "C" {
         out: *mut u8,
         len: usize,
     ) -> Written;
+    pub fn walnut_handle_reduce(word: *const u8, n: usize, limit: u16, out: *mut u8, len: usize) -> Handles;
+    pub fn walnut_shorter(a: *const u8, an: usize, b: *const u8, bn: usize) -> Choice;
     pub fn walnut_verify(
         key: *const u8,
         kn: usize,

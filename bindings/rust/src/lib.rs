@@ -229,6 +229,26 @@ pub fn rewrite<'a>(word: &[u8], moves: &[u8], out: &'a mut [u8]) -> Result<&'a m
     written(file, out)
 }
 
+/// Takes handles out of a word file in at most `limit` steps; gives the part of the output that holds the new word, and
+/// whether a handle is left in it. The new word is the same braid, and may be longer: [`shorter`] chooses.
+pub fn handle_reduce<'a>(
+    word: &[u8],
+    limit: u16,
+    out: &'a mut [u8],
+) -> Result<(&'a mut [u8], bool), Refusal> {
+    // SAFETY: see above.
+    let handles =
+        unsafe { walnut_handle_reduce(word.as_ptr(), word.len(), limit, out.as_mut_ptr(), out.len()) };
+    granted(handles.answer, (&mut out[..handles.bytes], handles.left))
+}
+
+/// The shorter of two word files, the first on a tie.
+pub fn shorter<'a>(a: &'a [u8], b: &'a [u8]) -> Result<&'a [u8], Refusal> {
+    // SAFETY: see above.
+    let choice = unsafe { walnut_shorter(a.as_ptr(), a.len(), b.as_ptr(), b.len()) };
+    granted(choice.answer, if choice.which == 2 { b } else { a })
+}
+
 /// The verdict, over the key's field: is the word a signature of the digest under the key?
 /// [`Refusal::MATRICES_DIFFER`] if it is not.
 pub fn verify(key: &[u8], digest: &[u8], word: &[u8]) -> Result<(), Refusal> {

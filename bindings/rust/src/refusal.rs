@@ -36,6 +36,7 @@ fn text(number: u8) -> &'static str {
         27 => "a label is over 7, or both labels are equal",
         28 => "the stored form has fewer than 6 bytes, or its sizes disagree with its letters or length",
         29 => "a generator of the stored form is 7, or its filler bits are not all zero",
+        32 => "a step that takes a handle out would leave more than 10,000 letters",
         35 => "the length is over 12, or the list is not four labels, 0 to 3 each once",
         // answers.txt: end
         _ => "an answer that this binding does not know",
@@ -107,6 +108,8 @@ impl Refusal {
     pub const STORED_SIZES: Refusal = Refusal(28);
     /// A generator of the stored form is 7, or its filler bits are not all zero.
     pub const STORED_BITS: Refusal = Refusal(29);
+    /// A step that takes a handle out would leave more than 10,000 letters.
+    pub const HANDLES_FULL: Refusal = Refusal(32);
     /// The length is over 12, or the list is not four labels, 0 to 3 each once.
     pub const LENGTH_OR_LIST: Refusal = Refusal(35);
     // answers.txt: end

@@ -185,6 +185,32 @@ fn words_that_spread() {
 }
 
 #[test]
+fn handles_and_the_shorter_word() {
+    // b1 b2 b3 b2^-1 b1^-1 is b1 b3^-1 b2 b3 b1^-1, and then b3^-1 b2^-1 b1 b2 b3
+    let (word, mut out) = ([0x00, 0x05, 0x01, 0x29, 0x80], [9; WORD_BYTES]);
+    let one_step = walnut::handle_reduce(&word, 1, &mut out);
+    assert_eq!(one_step, Ok((&mut [0x00, 0x05, 0x0A, 0x12, 0x80][..], true)));
+    let all = walnut::handle_reduce(&word, u16::MAX, &mut out);
+    assert_eq!(all, Ok((&mut [0x00, 0x05, 0xA9, 0x01, 0x20][..], false)));
+    assert_eq!(walnut::handle_reduce(&word, 0, &mut out), Ok((&mut word.clone()[..], true)));
+    // b1, b2 3,334 times, b1^-1: a step would leave 10,002 letters
+    let mut grows = vec![0x11; 2 + 3_336 / 2];
+    (grows[0], grows[1], grows[2], grows[1_669]) = (0x0D, 0x08, 0x01, 0x18);
+    let mut kept = [9; WORD_BYTES];
+    assert_eq!(walnut::handle_reduce(&grows, 1, &mut kept), Err(Refusal::HANDLES_FULL));
+    assert_eq!(walnut::handle_reduce(&grows, 1, &mut kept[1..]), Err(Refusal::OUTPUT_SHORT));
+    assert_eq!(kept, [9; WORD_BYTES]);
+
+    let (one, two, none) = ([0, 1, 0x00], [0, 1, 0x10], [0, 0]);
+    assert_eq!(walnut::shorter(&one, &none), Ok(&none[..]));
+    assert_eq!(walnut::shorter(&none, &one), Ok(&none[..]));
+    // on a tie the first, as the very slice that was passed
+    assert!(std::ptr::eq(walnut::shorter(&two, &one).unwrap(), &two[..]));
+    assert_eq!(walnut::shorter(&[], &[0, 1]), Err(Refusal::WORD_SHORT));
+    assert_eq!(walnut::shorter(&one, &[0, 1]), Err(Refusal::WORD_LENGTH));
+}
+
+#[test]
 fn moves_by_a_builder() {
     let moves = Moves::new().turn(0).remove(3);
     assert_eq!(moves.file(), [0, 2, 0, 0, 0, 3, 3, 1]);

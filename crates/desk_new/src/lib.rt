@@ -68,7 +68,8 @@ fn letters(file: &[u8], stored: bool) -> usize {
     w.letters
 }
 
-// How many letters and bytes became how many. The last two say which of the files is a stored form.
+// How many letters and bytes became how many, in a line that is not ended. The last two say which of the files is a
+// stored form.
 fn sizes(old: &[u8], new: &[u8], from_stored: bool, to_stored: bool) {
     print::text(b"letters");
     print::number(letters(old, from_stored));
@@ -78,32 +79,42 @@ fn sizes(old: &[u8], new: &[u8], from_stored: bool, to_stored: bool) {
     print::number(old.len());
     print::text(b" to");
     print::number(new.len());
-    print::text(b"\n");
 }
 
 fn tell(answer: u8) {
     desk_io::tell(desk_line::answer_line(answer));
 }
 
-// What was made of a file goes to the file that argument `new` names, and the account of it to standard output. The
-// last two say which of the files is a stored form.
-fn end(made: Made, old: &[u8], new: usize, alone: bool, from_stored: bool, to_stored: bool)
+// What was made of a file goes to the file that argument `new` names, and its answer to standard output. Says whether a
+// file was written.
+fn placed(made: Made, new: usize, alone: bool) -> bool
     requires { ⌜ Counts (made .bytes) (made .file) ⌝ }
 {
     if !made.read {
         print::text(b"no answer\n");
-        return;
+        return false;
     }
     let answer = made.answer;
     let file = made.file;
     let bytes = made.bytes;
     if answer == 0 && !put_at(2, new, &file[..bytes], alone) {
         print::text(b"not written\n");
-        return;
+        return false;
     }
     tell(answer);
-    if answer == 0 {
+    answer == 0
+}
+
+// What was made of a file is placed, and a line says how many letters and bytes became how many. The last two say which
+// of the files is a stored form.
+fn end(made: Made, old: &[u8], new: usize, alone: bool, from_stored: bool, to_stored: bool)
+    requires { ⌜ Counts (made .bytes) (made .file) ⌝ }
+{
+    let file = made.file;
+    let bytes = made.bytes;
+    if placed(made, new, alone) {
         sizes(old, &file[..bytes], from_stored, to_stored);
+        print::text(b"\n");
     }
 }
 
@@ -153,6 +164,48 @@ fn reduce() {
     end(made, text::part(&word, 0, n), 4, true, false, false);
 }
 
+// Whether a handle is left, at the end of the line with the sizes.
+fn handles_left(left: bool) {
+    if left {
+        print::text(b", handles left: yes\n");
+    } else {
+        print::text(b", handles left: no\n");
+    }
+}
+
+// What was made by taking handles out is placed, and the line of sizes also says whether a handle is left.
+fn end_handles(made: Made, left: bool, old: &[u8])
+    requires { ⌜ Counts (made .bytes) (made .file) ⌝ }
+{
+    let file = made.file;
+    let bytes = made.bytes;
+    if placed(made, 5, true) {
+        sizes(old, &file[..bytes], false, false);
+        handles_left(left);
+    }
+}
+
+// Takes handles out of a word in at most so many steps.
+fn steps(limit: u16) {
+    let mut word = [0u8; desk_line::WORD_ROOM];
+    let w = desk_io::file(3, &mut word);
+    let taken = desk_handles::take_handles(&word, limit, w);
+    let n = w.bytes;
+    end_handles(taken.made, taken.left, text::part(&word, 0, n));
+}
+
+// Takes handles out of a word: a name beside the new file, the word, the greatest number of steps, the new word.
+fn handles() {
+    let mut argument = io::buffer();
+    let n = os::arg(4, &mut argument);
+    let limit = desk_number::number_of(&argument[..n]);
+    if limit < desk_number::NONE {
+        steps(limit as u16);
+    } else {
+        desk_io::misused(b"handles takes at most 65535 steps, in decimal\n");
+    }
+}
+
 // Stores a word: a name beside the new file, the word, its stored form.
 fn store() {
     let mut word = [0u8; desk_line::WORD_ROOM];
@@ -183,13 +236,15 @@ pub fn new_word() {
         rewrite();
     } else if base::equal(verb, b"reduce") && n == 5 {
         reduce();
+    } else if base::equal(verb, b"handles") && n == 6 {
+        handles();
     } else if base::equal(verb, b"store") && n == 5 {
         store();
     } else if base::equal(verb, b"restore") && n == 5 {
         restore();
     } else {
         desk_io::misused(
-            b"new_word takes a verb and, after a name beside the new file, the verb's files: shorten KEY DIGEST SIGNATURE NEW, rewrite WORD MOVES NEW, reduce WORD NEW, store WORD NEW or restore STORED NEW\n",
+            b"new_word takes a verb and, after a name beside the new file, the verb's files: shorten KEY DIGEST SIGNATURE NEW, rewrite WORD MOVES NEW, reduce WORD NEW, handles WORD LIMIT NEW, store WORD NEW or restore STORED NEW\n",
         );
     }
 }

@@ -2,20 +2,16 @@
 use Prim.Native.Nat.{ℕ, suc, _+_, _-_, _^_, _≤_, _<_}
 use mathlib.Core.Path.{_≡_, refl, sym, ap, ap₂, subst, _∙_}
 use mathlib.Core.Bool.{Bool, true, false, cond}
-use mathlib.Core.List.{List, [], _∷_, _++_, append-assoc}
+use mathlib.Core.List.{List}
 use native.Mathlib.Nat.{pow-le-pow-right}
 use native.Mathlib.Decide.{decLe}
 use native.Mathlib.Numerals.{add-one}
 use native.Mathlib.Omega.{arith}
-use lib.ListN.{length, take, drop, getD, replicate, length-append, List·getD-eq-default}
-use lib.Seq.{take-append-seam}
+use lib.ListN.{length, getD, replicate, List·getD-eq-default}
 use Rattle.base.specs.Questions.{firstNo}
-use Rattle.base.specs.Lists.{firstFrom, overlaid}
+use Rattle.base.specs.Lists.{firstFrom}
 use Rattle.base.proofs.QuestionLaws.{granted-zero, granted-refused}
-use Rattle.text.specs.Decimal.{decimal}
-use Rattle.base.specs.steps.Laying.{Laid}
 use Rattle.text.specs.Texts.{TellsIn}
-use Rattle.text.proofs.DecimalLaws.{decimal-short}
 use Rattle.word_spread.specs.Spread.{allLists, allEndings, lengthQuestions, EndsAll, listAt}
 use Rattle.word_spread.proofs.CountLaws.{length-endings, ending-at}
 use Rattle.word_spread.proofs.SpreadAnswer.{nonzero, all-long}
@@ -99,21 +95,3 @@ module _ (f : ℕ → Bool) where
   pub first-none : (k : ℕ) → k ≡ 13 → firstFrom f k (13 - k) ≡ 13
   unfolding firstFrom
   first-none k e = rw e refl
-
--- a length in decimal at the front of three bytes, and a byte after it
-module _ (n : ℕ) (h : n < 13) where
-  pub length-short : length (decimal n) ≤ 2
-  length-short = decimal-short n 2 (omega arith) (omega arith)
-
-  module _ {before after : List ℕ} {end : ℕ} (a : Laid 0 (decimal n ++ (10 ∷ [])) before after end) where
-    pub end-is : end ≡ length (decimal n) + 1
-    end-is = omega (arith, a .ends, length-append (decimal n) (10 ∷ []))
-
-    pub front-is : take (end - 1) after ≡ decimal n
-    unfolding overlaid
-    front-is =
-        let size : end - 1 ≡ length (decimal n) = omega (arith, end-is) in
-        let rest = drop (length (decimal n ++ (10 ∷ []))) before in
-        ap (λ (k : ℕ). take k after) size
-        ∙ ap (take (length (decimal n))) (a .lies ∙ append-assoc (decimal n) (10 ∷ []) rest)
-        ∙ take-append-seam (decimal n) (10 ∷ rest)

@@ -1,9 +1,6 @@
 // The text of how words of a length spread over the 24 lists.
 use desk_text::Text;
-ghost use Prim.Native.Nat.{_<_};
 ghost use mathlib.Core.Path.{_≡_};
-ghost use Rattle.base.specs.Lists.{equal as equalTo};
-ghost use Rattle.text.specs.Decimal.{decimal};
 ghost use Rattle.text.specs.Texts.{TellsIn};
 ghost use Rattle.desk_text.specs.Room.{textSize};
 ghost use Rattle.desk_spread.specs.SpreadLines.{spreadText, usualLength, lengthOf};
@@ -30,23 +27,13 @@ pub fn usual_text() -> Text
     spread_text(2)
 }
 
-// Does an argument write this length in decimal?
-fn writes(argument: &[u8], length: usize) -> bool
-    requires { ⌜ length < 13 ⌝ }
-    ensures { λ r. ⌜ r ≡ equalTo (now (argument .entry)) (decimal length) ⌝ }
-{
-    let mut text = [0u8; 3];
-    let end = text::decimal(&mut text, 0, length as u32, b'\n');
-    base::equal(argument, &text[..end - 1])
-}
-
 // The length that an argument writes, 0 to 12; 13 for any other argument.
 fn length_of(argument: &[u8]) -> usize
     ensures { λ r. ⌜ r ≡ lengthOf (now (argument .entry)) ⌝ }
 {
     let mut n = 0;
     while n < 13 {
-        if writes(argument, n) {
+        if desk_number::writes(argument, n as u32) {
             return n;
         }
         n += 1;

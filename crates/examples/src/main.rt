@@ -27,6 +27,8 @@ fn run(operation: u8, a: &[u8], b: &[u8], c: &[u8], d: &[u8]) {
         b'W' => words::read(a),
         b'A' => words::letter(a, b),
         b'S' => words::second(a),
+        b'H' => words::handles(a, b),
+        b'X' => words::shorter(a, b),
         b'K' => keys::read(a),
         b'N' => keys::write(a, b, c, d),
         b'C' => keys::cloaks(a, b, c),

@@ -1,4 +1,4 @@
-// Word files: read, and written from codes, from a word or from a digest.
+// Word files: read, and written from codes, from a word or from a digest; the shorter of two.
 use crate::FILL;
 use crate::input::first;
 use crate::input::wide;
@@ -28,6 +28,41 @@ pub(crate) fn letter(file: &[u8], place: &[u8]) {
 // Prints the second letter of a word, from a reader of words that is opened, moved on once, and read.
 pub(crate) fn second(file: &[u8]) {
     show_letter(word_reader::second(file));
+}
+
+// A limit of steps: two bytes, the high one first; 0 if there are fewer.
+fn limit(bytes: &[u8]) -> u16 {
+    if bytes.len() < 2 {
+        return 0;
+    }
+    base::two_bytes(bytes, 0) as u16
+}
+
+// Takes handles out of a word. Prints the answer, the number of bytes written, whether a handle is left, the bytes
+// written, and whether the rest of the output kept its bytes.
+pub(crate) fn handles(word: &[u8], steps: &[u8]) {
+    let mut out = [FILL; 5002];
+    let done = handle_reducer::handle_reduce(word, limit(steps), &mut out);
+    print::answer(done.answer);
+    print::number(done.bytes);
+    print::choice(done.left, b" left", b" none");
+    print::output(&out, done.bytes, FILL);
+}
+
+// Prints the answer, which of two words is the shorter, and the bytes of its file. The words lie one after the other,
+// and the first has so many bytes.
+pub(crate) fn shorter(both: &[u8], bytes: &[u8]) {
+    let n = wide(first(bytes));
+    if both.len() < n {
+        return;
+    }
+    let a = &both[0..n];
+    let b = &both[n..];
+    let chosen = word_shorter::choose(a, b);
+    print::answer(chosen.answer);
+    print::number(wide(chosen.which));
+    print::hex(word_shorter::shorter(a, b));
+    print::text(b"\n");
 }
 
 // Writes a word file: L from codes, F by free reduction, D from a digest, R by rewriting.

@@ -12,19 +12,23 @@ ghost use Rattle.slip_verdict.specs.Verdict.{verdict};
 ghost use Rattle.slip_verdict.specs.Halves.{MakesHalf, secondHalfQuestions};
 ghost use Rattle.slip_cloaking.specs.Cloaking.{Cloaks};
 ghost use Rattle.move_rewriter.specs.Rewriter.{Rewrote};
+ghost use Rattle.handle_reducer.specs.Reducing.{TookHandles};
 ghost use Rattle.walnut.specs.Exported.{keyFrom, halfFrom};
 ghost use Rattle.word_reduction.specs.Reducer.{WroteReduced};
 ghost use Rattle.word_stored.specs.Stored.{WroteStored, WroteRestored};
 ghost use Rattle.slip_digest.specs.Digest.{WroteEncoded};
 ghost use Rattle.word_crossing.specs.Crossings.{Crosses};
 ghost use Rattle.word_spread.specs.Spread.{Ends};
+ghost use Rattle.word_shorter.specs.Shorter.{Chose};
 use field::Element;
+use handle_reducer::Handles;
 use pair::Pair;
 use slip_cloaking::Cloak;
 use slip_verdict::Half;
 use word::Word;
 use word::Written;
 use word_crossing::Crossing;
+use word_shorter::Choice;
 use word_spread::Count;
 
 // What the key reader gives: its answer, whether the key's field is the larger one, the T-values, the pair Pub(S) and
@@ -200,6 +204,23 @@ pub extern "C" fn walnut_rewrite(word: &[u8], moves: &[u8], out: &mut [u8]) -> W
         ⌝ }
 {
     move_rewriter::rewrite(word, moves, out)
+}
+
+#[no_mangle]
+pub extern "C" fn walnut_handle_reduce(word: &[u8], limit: u16, out: &mut [u8]) -> Handles
+    ensures { λ r.
+        ⌜
+        TookHandles (now (word .entry)) limit (now (out .entry)) (now (out .exit)) (r .answer) (r .bytes) (r .left)
+        ⌝ }
+{
+    handle_reducer::handle_reduce(word, limit, out)
+}
+
+#[no_mangle]
+pub extern "C" fn walnut_shorter(a: &[u8], b: &[u8]) -> Choice
+    ensures { λ r. ⌜ Chose (now (a .entry)) (now (b .entry)) (r .answer) (r .which) ⌝ }
+{
+    word_shorter::choose(a, b)
 }
 
 #[no_mangle]

@@ -63,6 +63,12 @@ impl Fixed {
         self
     }
 
+    /// The second number is this.
+    pub fn second(mut self, number: i64) -> Fixed {
+        self.expected.numbers[1] = number;
+        self
+    }
+
     /// These bytes come back, or are what the lent pair then is.
     pub fn bytes(self, bytes: Vec<u8>) -> Fixed {
         Fixed { expected: self.expected.bytes(bytes), ..self }
@@ -72,7 +78,7 @@ impl Fixed {
     /// words reports its length.
     pub fn writes(mut self, file: &[u8]) -> Fixed {
         self.expected.bytes[GUARD..GUARD + file.len()].copy_from_slice(file);
-        if self.input.facts().numbers == ["bytes"] {
+        if self.input.facts().numbers.first() == Some(&"bytes") {
             self.expected.numbers[0] = file.len() as i64;
         }
         self

@@ -6,6 +6,7 @@ pub mod encode_digest;
 pub mod file_entries;
 pub mod first_half;
 pub mod free_reduce;
+pub mod handle_reduce;
 pub mod multiply;
 pub mod product;
 pub mod read_key;
@@ -14,6 +15,7 @@ pub mod reciprocal;
 pub mod restore;
 pub mod rewrite;
 pub mod second_half;
+pub mod shorter;
 pub mod start;
 pub mod store;
 pub mod verify;
@@ -26,7 +28,7 @@ use reference::Field;
 use crate::operation::Op;
 
 /// All of them, in the order of `walnut.h`.
-pub const ALL: [Op; 20] = [
+pub const ALL: [Op; 22] = [
     &product::Product,
     &reciprocal::Reciprocal,
     &start::Start,
@@ -41,6 +43,8 @@ pub const ALL: [Op; 20] = [
     &store::Store,
     &restore::Restore,
     &rewrite::Rewrite,
+    &handle_reduce::HandleReduce,
+    &shorter::Shorter,
     &verify::Verify,
     &first_half::FirstHalf,
     &second_half::SecondHalf,
@@ -69,12 +73,12 @@ mod tests {
         assert_eq!(declared.collect::<Vec<_>>(), listed);
     }
 
-    /// The papers have the numbers 0 to 29 and 35 so far, and each is some operation's.
+    /// The papers have the numbers 0 to 29, 32 and 35 so far, and each is some operation's.
     #[test]
     fn every_number_is_given() {
         let given = |number: u8| ALL.iter().any(|operation| operation.facts().questions.contains(&number));
-        assert!((1..=29).chain([35]).all(given));
-        assert!(![0, 30, 34, 36].into_iter().any(given));
+        assert!((1..=29).chain([32, 35]).all(given));
+        assert!(![0, 30, 31, 33, 34, 36].into_iter().any(given));
     }
 
     /// 7 and 17 cannot be given over the larger field, and all others can.

@@ -42,6 +42,7 @@ length-of-spec =
     Inv-loop
     μ-loop
     loop-holds
+    (λ c. omega arith)
     (λ c κs. omega arith)
     returns
     (λ c. omega arith)

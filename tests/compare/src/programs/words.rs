@@ -1,5 +1,5 @@
-//! The program `new_word`, on files, by its verbs: shorten, rewrite, reduce, store and restore. The lines that it writes, and the new
-//! file, are those of the reference; on a refusal the file that was there is as it was.
+//! The program `new_word`, on files, by its verbs: shorten, rewrite, reduce, handles, store and restore. The lines that
+//! it writes, and the new file, are those of the reference; on a refusal the file that was there is as it was.
 
 use std::ffi::OsStr;
 use std::path::{Path, PathBuf};
@@ -8,11 +8,12 @@ use std::{env, fs, process};
 
 use reference::stored::{stored_letters, MOST_STORED};
 use reference::word::letters;
-use reference::{free_reduce, restore, rewrite, store, verify, Field, Written};
+use reference::{free_reduce, handle_reduce, restore, rewrite, store, verify, Field, Handles, Written};
 
 use crate::make::{files, Maker, Size};
 use crate::operation::Op;
 use crate::operations::free_reduce::FreeReduce;
+use crate::operations::handle_reduce::HandleReduce;
 use crate::operations::restore::Restore;
 use crate::operations::rewrite::Rewrite;
 use crate::operations::store::Store;
@@ -35,9 +36,13 @@ struct Verb {
     operation: Op,
     fields: &'static [Field],
     word: usize,
+    /// How many of the parts are files. A part after these is a number of two bytes, passed in decimal.
+    files: usize,
     /// How many letters the file has that is read, and how many the new one.
     letters: [fn(&[u8]) -> usize; 2],
     made: fn(&[Vec<u8>], &mut [u8]) -> Written,
+    /// What stands at the end of the line of sizes.
+    more: fn(&[Vec<u8>]) -> &'static str,
 }
 
 /// The letters of a word's file, and of a stored form.
@@ -51,48 +56,84 @@ fn of_stored(file: &[u8]) -> usize {
 
 const WORDS: [fn(&[u8]) -> usize; 2] = [of_word, of_word];
 
-const VERBS: [Verb; 5] = [
+const VERBS: [Verb; 6] = [
     Verb {
         name: "shorten",
         operation: &Verify,
         fields: &Field::BOTH,
         word: 2,
+        files: 3,
         letters: WORDS,
         made: shortened,
+        more: |_| "",
     },
     Verb {
         name: "rewrite",
         operation: &Rewrite,
         fields: &[Field::Gf32],
         word: 0,
+        files: 2,
         letters: WORDS,
         made: |parts, out| rewrite(&parts[0], &parts[1], out),
+        more: |_| "",
     },
     Verb {
         name: "reduce",
         operation: &FreeReduce,
         fields: &[Field::Gf32],
         word: 0,
+        files: 1,
         letters: WORDS,
         made: |parts, out| free_reduce(&parts[0], out),
+        more: |_| "",
+    },
+    Verb {
+        name: "handles",
+        operation: &HandleReduce,
+        fields: &[Field::Gf32],
+        word: 0,
+        files: 1,
+        letters: WORDS,
+        made: |parts, out| {
+            let Handles { answer, bytes, .. } = handles(parts, out);
+            Written { answer, bytes }
+        },
+        more: |parts| match handles(parts, &mut [0; MOST_STORED]).left {
+            true => ", handles left: yes",
+            false => ", handles left: no",
+        },
     },
     Verb {
         name: "store",
         operation: &Store,
         fields: &[Field::Gf32],
         word: 0,
+        files: 1,
         letters: [of_word, of_stored],
         made: |parts, out| store(&parts[0], out),
+        more: |_| "",
     },
     Verb {
         name: "restore",
         operation: &Restore,
         fields: &[Field::Gf32],
         word: 0,
+        files: 1,
         letters: [of_stored, of_word],
         made: |parts, out| restore(&parts[0], out),
+        more: |_| "",
     },
 ];
+
+/// The number in a part of two bytes.
+fn number(part: &[u8]) -> u16 {
+    u16::from_be_bytes(part.try_into().expect("two bytes"))
+}
+
+/// A word's handles taken out, with the limit in the second part.
+fn handles(parts: &[Vec<u8>], out: &mut [u8]) -> Handles {
+    handle_reduce(&parts[0], number(&parts[1]), out)
+}
 
 /// A slip's freely reduced word, where the slip opens with both.
 fn shortened(parts: &[Vec<u8>], out: &mut [u8]) -> Written {
@@ -131,9 +172,10 @@ impl Place {
     /// Runs the program by a verb on these parts, and counts the answer.
     fn compare(&self, verb: &Verb, counts: &mut Counts, parts: &[Vec<u8>]) -> Checked {
         let mut paths = vec![self.folder.join(".beside")];
-        for (name, part) in ["first file", "-second", "third"].iter().zip(parts) {
+        for (name, part) in ["first file", "-second", "third"].iter().zip(&parts[..verb.files]) {
             paths.push(self.put(name, part)?);
         }
+        paths.extend(parts[verb.files..].iter().map(|part| number(part).to_string().into()));
         let new = self.put("the new word", BEFORE)?;
         let before = changed(&new)?;
         paths.push(new.clone());
@@ -143,7 +185,7 @@ impl Place {
 
         let mut out = vec![0; MOST_STORED];
         let written = (verb.made)(parts, &mut out);
-        let expected = lines(verb, &written, &parts[verb.word], &out[..written.bytes]);
+        let expected = lines(verb, &written, parts, &out[..written.bytes]);
         let found = String::from_utf8_lossy(&output.stdout);
         let file = fs::read(&new).map_err(|error| format!("{}: {error}\n", new.display()))?;
         let untouched = file == BEFORE && changed(&new)? == before;
@@ -168,11 +210,12 @@ fn changed(path: &Path) -> Checked<SystemTime> {
 }
 
 /// What the program must write about a word.
-fn lines(verb: &Verb, written: &Written, old: &[u8], new: &[u8]) -> String {
+fn lines(verb: &Verb, written: &Written, parts: &[Vec<u8>], new: &[u8]) -> String {
     match written.answer {
         0 => {
+            let (old, more) = (&parts[verb.word], (verb.more)(parts));
             let [from, to] = [verb.letters[0](old), verb.letters[1](new)];
-            format!("answer 0\nletters {from} to {to}, bytes {} to {}\n", old.len(), new.len())
+            format!("answer 0\nletters {from} to {to}, bytes {} to {}{more}\n", old.len(), new.len())
         }
         answer => format!("answer {answer}\n"),
     }
@@ -194,7 +237,7 @@ fn all(place: &Place, verb: &Verb, field: Field, maker: &mut Maker) -> Checked<S
     for turn in 0..DAMAGED {
         let case = maker.with_faults(verb.operation, field, &[], Size::Short).expect("none can stand");
         let mut parts = case.0.parts;
-        let at = turn % parts.len();
+        let at = turn % verb.files;
         files::damage(&mut maker.random, &mut parts[at], false);
         place.compare(verb, counts, &parts)?;
         parts[at].extend(vec![0; 70_000]);
@@ -205,7 +248,7 @@ fn all(place: &Place, verb: &Verb, field: Field, maker: &mut Maker) -> Checked<S
     counts.summary(&format!("{}{over}", verb.name), &answers)
 }
 
-/// Runs the five verbs: a line for each, and for each field where there are two.
+/// Runs the six verbs: a line for each, and for each field where there are two.
 pub fn check(programs: &Path, maker: &mut Maker) -> Checked<Vec<String>> {
     let folder = env::temp_dir().join(format!("walnut words {}", process::id()));
     fs::create_dir_all(&folder).map_err(|error| format!("{}: {error}\n", folder.display()))?;

@@ -1,4 +1,4 @@
--- `desk_spread::writes` meets its contract: the length in decimal, without the byte after it, is compared.
+-- `desk_number::writes` meets its contract: the number in decimal, without the byte after it, is compared.
 use Prim.Native.Nat.{ℕ, _+_, _-_, _≤_}
 use mathlib.Core.Path.{_≡_, sym, ap, _∙_}
 use native.Mathlib.Omega.{arith}
@@ -7,9 +7,9 @@ use lib.ListN.{length}
 use lib.Seq.{length-take-le}
 use Rattle.base.specs.Lists.{equal}
 use Rattle.text.specs.Decimal.{decimal}
-use Rattle.desk_spread.proofs.SpreadTexts.{length-short, end-is, front-is}
-use Rattle.desk_spread.proofs.writes.Statement.{statement}
-use Rattle.desk_spread.proofs.writes.Tie as tie
+use Rattle.desk_number.proofs.NumberLaws.{number-short, end-is, front-is}
+use Rattle.desk_number.proofs.writes.Statement.{statement}
+use Rattle.desk_number.proofs.writes.Tie as tie
 
 -- the text, and where it ends
 module _ (c : tie.After-decimal) where
@@ -17,16 +17,16 @@ module _ (c : tie.After-decimal) where
   start = c .before .before .before
 
   abbrev n : ℕ
-  n = start .args .length
+  n = start .args .number
 
   ends : c .decimal .result ≡ length (decimal n) + 1
   ends = end-is n (start .pre) (c .decimal .ensures)
 
   within : c .decimal .result - 1 ≤ length (c .decimal .last .0)
-  within = omega (arith, ends, length-short n (start .pre), c .decimal .kept .0)
+  within = omega (arith, ends, number-short n (start .pre), c .decimal .kept .0)
 
 decimal-requires : tie.Need-decimal-requires
-decimal-requires c κs = let s = c .before .before in omega (arith, length-short (s .args .length) (s .pre))
+decimal-requires c κs = let s = c .before .before in omega (arith, number-short (s .args .number) (s .pre))
 
 sub-text : tie.Need-sub-text
 sub-text c = omega (arith, ends (c .before))
@@ -46,7 +46,6 @@ pub writes-spec : {M : Type 1} → statement M
 writes-spec =
     tie.close
     (tie.spec
-    (λ c. search needs)
     (λ c. search needs)
     decimal-requires
     sub-text

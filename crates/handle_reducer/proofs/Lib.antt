@@ -1,0 +1,5 @@
+pub mod HandleAnswer
+pub mod HandlesKeepMeaning
+pub mod CodeReducer
+pub mod ReducerContract
+pub mod WrongReducers

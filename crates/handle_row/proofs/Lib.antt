@@ -1,0 +1,4 @@
+pub mod PlaceLaws
+pub mod Beginnings
+pub mod EndLaws
+pub mod RowEnds

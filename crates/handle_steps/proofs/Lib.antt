@@ -1,0 +1,3 @@
+pub mod GapLaws
+pub mod TurnLaws
+pub mod RunEnds

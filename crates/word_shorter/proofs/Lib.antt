@@ -1,0 +1,2 @@
+pub mod ShorterLaws
+pub mod WrongPrograms
