@@ -1,6 +1,6 @@
-/* The key reader, the verdict whole and by halves, cloaking, the lent multiplier, the rewriter, free reduction, taking
-   handles out, stored forms, crossings and spreading in plain C, as one would write them by hand: for the library's
-   times to stand beside. */
+/* The key reader, the verdict whole and by halves, cloaking, the lent multiplier, the rewriter, free reduction,
+   taking handles out, shortening, stored forms, crossings and spreading in plain C, as one would write them by
+   hand: for the library's times to stand beside. */
 #include <stdbool.h>
 #include <stddef.h>
 #include <stdint.h>
@@ -772,4 +772,192 @@ uint32_t plain_words_ending(size_t length, const uint8_t *labels, size_t n)
         memcpy(counts, more, sizeof counts);
     }
     return counts[6 * labels[0] + 2 * (labels[1] - (labels[0] < labels[1])) + (labels[3] < labels[2])];
+}
+
+/* ---- Shortening by arcs ---- */
+
+#define REACH 256
+
+/* Cancels letters that far swaps bring together. last[g + 1] is the place after the latest kept letter of generator g,
+   and before[i] what it was when letter i was kept. The letters left. */
+static size_t swap_cancel(uint8_t *codes, size_t n)
+{
+    uint16_t last[9] = {0}, before[LETTERS];
+    uint8_t gone[LETTERS] = {0};
+    size_t m = 0;
+    for (size_t i = 0; i < n; i++) {
+        unsigned h = codes[i] & 7;
+        uint16_t c = last[h + 1];
+        if (c && codes[c - 1] == (codes[i] ^ 8) && last[h] < c && last[h + 2] < c) {
+            gone[i] = gone[c - 1] = 1;
+            last[h + 1] = before[c - 1];
+        } else {
+            before[i] = c;
+            last[h + 1] = (uint16_t)(i + 1);
+        }
+    }
+    for (size_t i = 0; i < n; i++) {
+        codes[m] = codes[i];
+        m += !gone[i];
+    }
+    return m;
+}
+
+/* A part of the word along which a strand of sign u crosses with one sign: where the part lies, and where the strand is
+   before and after it. */
+struct arc {
+    size_t from, to;
+    unsigned u, start, end;
+};
+
+/* The longest arc through the letter at a place, at most REACH letters to each side. */
+static struct arc arc_through(const uint8_t *w, size_t n, size_t k, unsigned u)
+{
+    unsigned x = (w[k] & 7) + ((w[k] >> 3) != u), p = x, y = x;
+    size_t b = k, e = k, least = k > REACH ? k - REACH : 0, most = n - k > REACH ? k + REACH : n;
+    for (; b > least; b--) {
+        unsigned h = w[b - 1] & 7, t = w[b - 1] >> 3;
+        if (h == p) {
+            if (t == u)
+                break;
+            p++;
+        } else if (h + 1 == p) {
+            if (t != u)
+                break;
+            p--;
+        }
+    }
+    for (; e < most; e++) {
+        unsigned h = w[e] & 7, t = w[e] >> 3;
+        if (h == y) {
+            if (t != u)
+                break;
+            y++;
+        } else if (h + 1 == y) {
+            if (t == u)
+                break;
+            y--;
+        }
+    }
+    struct arc arc = {b, e, u, p, y};
+    return arc;
+}
+
+/* What the first pass keeps of a letter of the part: the gap, with 8 for a strand that gives way to the left; 0 for the
+   strand's own letters. */
+static unsigned choose(uint8_t c, unsigned *q, uint8_t *costs, unsigned coin)
+{
+    unsigned h = c & 7;
+    if (h == *q) {
+        ++*q;
+        return 0;
+    }
+    if (h + 1 == *q) {
+        --*q;
+        return 0;
+    }
+    unsigned g = h > *q ? h : h + 1, less = costs[g - 1], more = costs[g + 1];
+    unsigned left = less < more || (less == more && coin);
+    costs[g] = (uint8_t)(1 + (left ? less : more));
+    return g | left << 3;
+}
+
+/* The strand's place at a letter, from the one before. */
+static unsigned give_way(unsigned z, unsigned kept)
+{
+    return z != (kept & 7) ? z : kept & 8 ? z - 1 : z + 1;
+}
+
+/* For each letter of the part that is not the strand's own: 8 times the new strand's place, and the gap; for an own one
+   0. */
+static void plan_arc(const uint8_t *part, const struct arc *arc, unsigned from_end, unsigned coin, uint8_t *plan)
+{
+    size_t m = arc->to - arc->from;
+    unsigned near = from_end ? arc->end : arc->start, far = from_end ? arc->start : arc->end, q = far, z = near;
+    uint8_t costs[8];
+    for (unsigned i = 0; i < 8; i++)
+        costs[i] = (uint8_t)(i > far ? i - far : far - i);
+    if (from_end) {
+        for (size_t i = 0; i < m; i++)
+            plan[i] = (uint8_t)choose(part[i], &q, costs, coin);
+        for (size_t i = m; i-- > 0;)
+            if (plan[i]) {
+                z = give_way(z, plan[i]);
+                plan[i] = (uint8_t)(8 * z | (plan[i] & 7));
+            }
+    } else {
+        for (size_t i = m; i-- > 0;)
+            plan[i] = (uint8_t)choose(part[i], &q, costs, coin);
+        for (size_t i = 0; i < m; i++)
+            if (plan[i]) {
+                z = give_way(z, plan[i]);
+                plan[i] = (uint8_t)(8 * z | (plan[i] & 7));
+            }
+    }
+}
+
+/* Lays the strand anew; the letters of the new part, or more than the old one has. */
+static size_t lay_arc(const uint8_t *part, const struct arc *arc, const uint8_t *plan, uint8_t *laid)
+{
+    size_t m = arc->to - arc->from, k = 0;
+    unsigned z = arc->start, u = arc->u;
+    for (size_t i = 0; i <= m; i++) {
+        unsigned to = i < m ? plan[i] >> 3 : arc->end;
+        if (i < m && !plan[i])
+            continue;
+        for (; z < to && k < m; z++)
+            laid[k++] = (uint8_t)(z | u << 3);
+        for (; z > to && k < m; z--)
+            laid[k++] = (uint8_t)((z - 1) | (u ^ 1) << 3);
+        if (z != to || (i < m && k == m))
+            return m + 1;
+        if (i < m)
+            laid[k++] = (uint8_t)((z < (plan[i] & 7u) ? plan[i] & 7 : (plan[i] & 7) - 1) | (part[i] & 8));
+    }
+    return k;
+}
+
+/* So many steps for each letter. The letters left. */
+static size_t shorten_by_arcs(uint8_t *w, size_t n, unsigned effort)
+{
+    uint8_t plan[2 * REACH], laid[2 * REACH];
+    uint64_t s = 1;
+    for (size_t steps = effort * n; steps > 0 && n > 0; steps--) {
+        s = s * 48271 % 2147483647;
+        size_t k = s % n, v = s / n;
+        struct arc arc = arc_through(w, n, k, v & 1);
+        plan_arc(w + arc.from, &arc, v >> 1 & 1, v >> 2 & 1, plan);
+        size_t m = arc.to - arc.from, l = lay_arc(w + arc.from, &arc, plan, laid);
+        if (l > m)
+            continue;
+        memcpy(w + arc.from, laid, l);
+        if (l < m) {
+            memmove(w + arc.from + l, w + arc.to, n - arc.to);
+            n -= m - l;
+        }
+    }
+    return n;
+}
+
+/* The shorter of two words: arcs on the word, and arcs on the word without handles if that has fewer letters to begin
+   with. Letters swap and cancel before and after. The bytes written; 0 on a refusal. */
+size_t plain_shorten(const uint8_t *word, size_t wn, uint16_t effort, uint8_t *out, size_t len)
+{
+    uint8_t first[LETTERS + 2], second[LETTERS + 2];
+    size_t n, m = ROOM;
+    bool left;
+    if (len < WORD_BYTES || read_word(word, wn, &n))
+        return 0;
+    for (size_t k = 0; k < n; k++)
+        first[k] = second[k] = (uint8_t)code_at(word + 2, k);
+    if (effort)
+        m = take_handles(second, n, 65535, &left);
+    if (m != ROOM)
+        m = swap_cancel(second, m);
+    n = swap_cancel(first, n);
+    bool tried = m < n;
+    n = swap_cancel(first, shorten_by_arcs(first, n, effort));
+    if (tried)
+        m = swap_cancel(second, shorten_by_arcs(second, m, effort));
+    return tried && m < n ? write_codes(second, m, out) : write_codes(first, n, out);
 }

@@ -56,10 +56,11 @@ some() {
         for each in "$@"; do
             slip "$each" || break
             done=$((done + 1))
-            [ $((slips % 100)) -ne 0 ] || progress "$all"
+            [ $((slips % 20)) -ne 0 ] || progress "$all"
         done
         IFS= read -r line && [ "$line" = 'ended 0' ] || { ended=no; cat >/dev/null; }
-    } < <("$bin/new_word" shorten "$beside" "$key" "${arguments[@]}" </dev/null 2>"$said"; echo "ended $?")
+    } < <("$bin/new_word" shorten "$beside" "${numbers[@]}" "$key" "${arguments[@]}" </dev/null 2>"$said"
+        echo "ended $?")
     no_progress
     # The names that cannot be written were reported before the run.
     grep -v '\.new/\.: ' -- "$said" >&2

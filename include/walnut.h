@@ -79,7 +79,7 @@ extern "C" {
 
 /* The version of this header and of its library. The first number is also the number after libwalnut.so. */
 #define WALNUT_VERSION_MAJOR 0
-#define WALNUT_VERSION_MINOR 6
+#define WALNUT_VERSION_MINOR 7
 #define WALNUT_VERSION_PATCH 0
 
 /* Marks a function whose result must be used. A compiler that knows the mark warns if a caller drops the result. */
@@ -186,7 +186,7 @@ static inline const char *walnut_text(uint8_t answer)
 #define WALNUT_LETTERS 10000 /* the most letters of a word */
 #define WALNUT_MOVES 4096 /* the most moves of a list */
 #define WALNUT_SPREAD_LENGTH 12 /* the most letters of the words that walnut_words_ending counts */
-#define WALNUT_STACK_BYTES 65536 /* bytes of stack that a call may take */
+#define WALNUT_STACK_BYTES 98304 /* bytes of stack that a call may take */
 
 /* An element of a field. On a refusal it is 0. */
 typedef struct { uint8_t answer; uint8_t value; } walnut_element;
@@ -308,6 +308,13 @@ WALNUT_MUST_USE walnut_handles walnut_handle_reduce(const uint8_t *word, size_t 
 /* Says which of two word files has fewer bytes, the first on a tie. Answers: 9, 10, 11, 12, 13 for the first file, then
    the same for the second, or 0. Changes nothing. */
 WALNUT_MUST_USE walnut_choice walnut_shorter(const uint8_t *a, size_t an, const uint8_t *b, size_t bn);
+
+/* Writes a shorter word file that means what the word means: it carries every pair where the word does, and every slip
+   gets the same verdict with it. It never has more letters than the word, and it is freely reduced. Which of the words
+   with this meaning it is, is left free; it depends on word and effort alone. The effort is the number of steps of the
+   search for each letter. 0 only swaps and cancels letters, 5 is usual, and more takes longer and saves little. Answers:
+   15, 9, 10, 11, 12, 13, 0. Changes the reported bytes of out, on 0 only. */
+WALNUT_MUST_USE walnut_written walnut_shorten(const uint8_t *word, size_t n, uint16_t effort, uint8_t *out, size_t len);
 
 /* The verdict: is the word a signature of the digest under the key? Answers: 1 to 7, 26, 8 to 14, or 0 for yes. Changes
    nothing. */

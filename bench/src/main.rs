@@ -3,10 +3,12 @@
 //! `bench` prints the least time of several rounds for each, and the library's as a ratio to the others'.
 //! `bench again CASE WHO` only does the work, 10 times, in the function `again`, for a counter of instructions to
 //! watch (WHO 0 the library, 1 Rust, 2 C); it prints the case's name and the parts that were done. `bench cases` prints
-//! the cases' numbers.
+//! the cases' numbers. `bench saving` measures how much shortening saves, and how fast.
 
 mod plain;
 mod plain_c;
+mod saving;
+mod turns;
 mod work;
 
 use std::env;
@@ -111,6 +113,7 @@ fn main() -> ExitCode {
             true
         }
         ["again", number, who] => counted(number, who),
+        ["saving"] => saving::saving(),
         _ => false,
     };
     if well {

@@ -32,6 +32,7 @@ extern "C" {
         len: usize,
     ) -> usize;
     fn plain_reduce(word: *const u8, wn: usize, out: *mut u8, len: usize) -> usize;
+    fn plain_shorten(word: *const u8, wn: usize, effort: u16, out: *mut u8, len: usize) -> usize;
     fn plain_handles(
         word: *const u8,
         wn: usize,
@@ -106,6 +107,11 @@ pub fn handles(word: &[u8], limit: u16, again: bool, out: &mut [u8]) -> (u32, us
     // SAFETY: see above.
     let bytes = unsafe { plain_handles(word.as_ptr(), word.len(), limit, again, file, len, &mut number) };
     (number, bytes)
+}
+
+pub fn shorten(word: &[u8], effort: u16, out: &mut [u8]) -> usize {
+    // SAFETY: see above.
+    unsafe { plain_shorten(word.as_ptr(), word.len(), effort, out.as_mut_ptr(), out.len()) }
 }
 
 pub fn crossings(word: &[u8], a: u8, b: u8) -> i32 {

@@ -178,6 +178,10 @@ static int moves(void)
     const uint8_t both[3] = {0x00, 0x02, 0x08};
     written = walnut_free_reduce(both, sizeof both, out, sizeof out);
     print_hex("00 02 08 freely reduced is", out, written.bytes);
+    /* b1 b2 b1 b2^-1 b1^-1 is the braid b2 */
+    const uint8_t turned[5] = {0x00, 0x05, 0x01, 0x09, 0x80};
+    written = walnut_shorten(turned, sizeof turned, 5, out, sizeof out);
+    print_hex("00 05 01 09 80 shortened is", out, written.bytes);
     const uint8_t seven[6] = {0x00, 0x07, 0x09, 0x23, 0xC5, 0xE0};
     uint8_t shelf[WALNUT_STORED_BYTES];
     written = walnut_store(seven, sizeof seven, shelf, sizeof shelf);

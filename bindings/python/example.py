@@ -77,6 +77,7 @@ moves = [(0, walnut.TURN), (3, walnut.REMOVE)]
 print("kind 3 at place 0 and then kind 1 at place 3 is", text(walnut.write_moves(moves)))
 print("on 00 05 01 03 B0 it gives", text(walnut.rewrite(bytes.fromhex("00 05 01 03 B0"), moves)))
 print("00 02 08 freely reduced is", text(walnut.free_reduce(bytes.fromhex("00 02 08"))))
+print("00 05 01 09 80 shortened is", text(walnut.shorten(bytes.fromhex("00 05 01 09 80"))))
 stored = walnut.store(bytes.fromhex("00 07 09 23 C5 E0"))
 print("00 07 09 23 C5 E0 stored is", text(stored))
 print("restored it is", text(walnut.restore(stored)))

@@ -171,6 +171,21 @@ class Crossings(Case):
         self.raised(TypeError, "row: a whole number is needed, not str", walnut.place, "1", 2)
 
 
+class Shortening(Case):
+    def test_efforts(self):
+        # b1 b2 b1 b2^-1 b1^-1 is b2, by a turn; b1 b3 b1^-1 is b3, by a swap
+        turned, swapped = walnut.write_word("b1 b2 b1 b2^-1 b1^-1"), walnut.write_word("b1 b3 b1^-1")
+        self.assertEqual(walnut.spelled(walnut.shorten(turned)), "b2")
+        self.assertEqual(walnut.shorten(turned, 0), turned)
+        self.assertEqual(walnut.shorten(turned, effort=65535), walnut.write_word("b2"))
+        self.assertEqual(walnut.spelled(walnut.shorten(swapped, 0)), "b3")
+        self.refused(13, walnut.shorten, bytes.fromhex("00 01 01"))
+        for effort in (-1, 65536):
+            self.raised(ValueError, f"effort: {effort} is no effort", walnut.shorten, turned, effort)
+        self.raised(TypeError, "effort: a whole number is needed, not float", walnut.shorten, turned, 5.0)
+        self.raised(TypeError, "word: bytes are needed", walnut.shorten, "0000")
+
+
 class Spreading(Case):
     def test_words_ending(self):
         # of the 36 words of two letters 12 bring the list back, and 8 exchange both its halves

@@ -17,7 +17,7 @@ import operator
 import os
 from typing import Any, Iterable, List, Optional, Tuple, Union
 
-__version__ = "0.6.0"
+__version__ = "0.7.0"
 
 # walnut.h: begin; tools/interface writes these lines
 from ctypes import POINTER, Structure, c_bool, c_char_p, c_int32, c_size_t, c_uint16, c_uint32, c_uint8
@@ -43,7 +43,7 @@ MOVES = 4096
 # the most letters of the words that walnut_words_ending counts
 SPREAD_LENGTH = 12
 # bytes of stack that a call may take
-STACK_BYTES = 65536
+STACK_BYTES = 98304
 
 
 class _Element(Structure):
@@ -147,6 +147,7 @@ _FUNCTIONS: Any = {
     "walnut_rewrite": (_Written, c_char_p, c_size_t, c_char_p, c_size_t, POINTER(c_uint8), c_size_t),
     "walnut_handle_reduce": (_Handles, c_char_p, c_size_t, c_uint16, POINTER(c_uint8), c_size_t),
     "walnut_shorter": (_Choice, c_char_p, c_size_t, c_char_p, c_size_t),
+    "walnut_shorten": (_Written, c_char_p, c_size_t, c_uint16, POINTER(c_uint8), c_size_t),
     "walnut_verify": (c_uint8, c_char_p, c_size_t, c_char_p, c_size_t, c_char_p, c_size_t),
     "walnut_first_half": (_Halved, c_char_p, c_size_t, c_char_p, c_size_t),
     "walnut_second_half": (c_uint8, _Half, c_char_p, c_size_t),
@@ -677,6 +678,16 @@ def shorter(a: Bytes, b: Bytes) -> bytes:
     first, second = _bytes(a, "a"), _bytes(b, "b")
     choice = _lib.walnut_shorter(first, len(first), second, len(second))
     return _granted(choice.answer, second if choice.which == 2 else first)
+
+
+def shorten(word: Bytes, effort: int = 5) -> bytes:
+    """A word file that means what the word means, has at most as many letters, and is freely reduced. The effort is the
+    number of steps of the search for each letter: 0 only swaps and cancels. The result depends on word and effort
+    alone."""
+    out = (c_uint8 * WORD_BYTES)()
+    steps = _whole(effort, 65535, "effort", "effort")
+    written = _lib.walnut_shorten(*_slices(word=word), steps, out, WORD_BYTES)
+    return _granted(written.answer, bytes(out[: written.bytes]))
 
 
 def verify(key: Bytes, digest: Bytes, word: Bytes) -> None:

@@ -1,4 +1,4 @@
-"""Draws a braid as an SVG picture. Strands go from left to right, the first place on top, each in the colour of its
+"""Draws a braid, or two of them one above the other, as an SVG picture. Strands go from left to right, the first place on top, each in the colour of its
 label. At a positive letter b_i the strand from place i goes over; at an inverse letter it goes under. The 28 crossing
 numbers stand beside the braid, as a triangle of shades."""
 
@@ -21,11 +21,13 @@ MARGIN = 46
 ROW_HIGH = (STRANDS - 1) * HIGH + 62
 CELL = 22
 BESIDE = 40
+HEAD = 24
 
 
-def main(path, picture):
-    file, codes, _ = word(path)
-    files.write(picture, svg(codes, crossings(file)).encode())
+def main(*paths):
+    *paths, picture = paths
+    drawn = [(codes, crossings(file)) for file, codes, _ in map(word, paths)]
+    files.write(picture, svg(drawn).encode())
 
 
 # ---- what the letters do, asked of the library
@@ -143,21 +145,40 @@ rect { stroke: #bbb }
 </style>"""
 
 
-def svg(codes, counts):
+def across(codes):
+    """How wide the rows of a braid are."""
+    return max(min(len(codes), ROW), 1) * WIDE
+
+
+def braid(codes, counts, top, left):
+    """One braid from a height on, with its crossing numbers: its parts, and the height at which it ends."""
     lists = orders(codes)
     starts = range(0, max(len(codes), 1), ROW)
-    rows = [row(codes[k : k + ROW], lists[k : k + ROW + 1], k, 36 + k // ROW * ROW_HIGH) for k in starts]
-    left = MARGIN + max(min(len(codes), ROW), 1) * WIDE + BESIDE + 16
-    width = left + (STRANDS - 1) * CELL + 20
+    rows = [row(codes[k : k + ROW], lists[k : k + ROW + 1], k, top + 36 + k // ROW * ROW_HIGH) for k in starts]
     high = max(len(rows) * ROW_HIGH, 36 + STRANDS * CELL)
+    return [*rows, triangle(counts, left, top + 36)], top + high
+
+
+def svg(drawn):
+    """The picture of words, each with its crossing numbers. Of two words each has its number of letters above it."""
+    left = MARGIN + max(across(codes) for codes, _ in drawn) + BESIDE + 16
+    width = left + (STRANDS - 1) * CELL + 20
+    parts, high = [], 0
+    for codes, counts in drawn:
+        if len(drawn) > 1:
+            letters = files.count(len(codes), "letter")
+            parts.append(f'<text class="right" x="{MARGIN}" y="{high + HEAD - 6}">{letters}</text>')
+            high += HEAD
+        one, high = braid(codes, counts, high, left)
+        parts += one
+    words = " and one of ".join(str(len(codes)) for codes, _ in drawn)
     return "\n".join(
         [
             f'<svg xmlns="http://www.w3.org/2000/svg" viewBox="0 0 {width} {high}" width="{width}" height="{high}">',
-            f"<title>a braid word of {len(codes)} letters on {STRANDS} strands</title>",
+            f"<title>a braid word of {words} letters on {STRANDS} strands</title>",
             STYLE,
             f'<rect width="{width}" height="{high}" fill="#fff" style="stroke:none"/>',
-            *rows,
-            triangle(counts, left, 36),
+            *parts,
             "</svg>",
             "",
         ]

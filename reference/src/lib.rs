@@ -14,6 +14,8 @@
 //!   ([`stored`]);
 //! - free reduction removes the first cancelling neighbours, again and again ([`reduce`]);
 //! - a step that takes a handle out looks for all handles of the whole word ([`handles`]);
+//! - an arc is split into its strand's places and the gaps of the other letters before it is laid anew ([`shortener`]);
+//!   this operation is not the papers', and its search is the same as the library's;
 //! - a move splices other letters into a run of letters, and the next one starts from what it left
 //!   ([`rewrite`](mod@rewrite));
 //! - how often two strands cross is found by following these two alone, without a list of labels ([`crossing`]);
@@ -48,6 +50,7 @@ pub mod pair;
 pub mod questions;
 pub mod reduce;
 pub mod rewrite;
+pub mod shortener;
 pub mod spread;
 pub mod stored;
 pub mod testkit;
@@ -65,6 +68,7 @@ pub use matrix::{matrix_product, Matrix};
 pub use pair::{multiply, start, Pair};
 pub use reduce::free_reduce;
 pub use rewrite::rewrite;
+pub use shortener::shorten;
 pub use spread::{words_ending, Count};
 pub use stored::{restore, store};
 pub use verdict::verify;

@@ -1,13 +1,15 @@
 //! What tests need: a small generator of numbers and of what they are made of ([`Random`]), matrices with an inverse
 //! and without one ([`matrices`]), slips that the verdict accepts ([`slips`]), move lists that the rewriter accepts
-//! ([`walks`]), and words that cloak ([`cloaks`]).
+//! ([`walks`]), words that cloak ([`cloaks`]), and words to shorten ([`braids`]).
 
+pub mod braids;
 pub mod cloaks;
 pub mod matrices;
 pub mod random;
 pub mod slips;
 pub mod walks;
 
+pub use braids::signatures;
 pub use cloaks::inserted;
 pub use matrices::inverse_matrix;
 pub use random::Random;

@@ -103,6 +103,8 @@ fn moves() -> Result<(), Refusal> {
     let moved = walnut::rewrite(&[0, 5, 0x01, 0x03, 0xB0], &moves, &mut out)?;
     println!("on 00 05 01 03 B0 it gives {}", hex(moved));
     println!("00 02 08 freely reduced is {}", hex(walnut::free_reduce(&[0, 2, 8], &mut out)?));
+    let short = walnut::shorten(&[0x00, 0x05, 0x01, 0x09, 0x80], 5, &mut out)?;
+    println!("00 05 01 09 80 shortened is {}", hex(short));
     let mut shelf = [0; STORED_BYTES];
     let stored = walnut::store(&[0x00, 0x07, 0x09, 0x23, 0xC5, 0xE0], &mut shelf)?;
     println!("00 07 09 23 C5 E0 stored is {}", hex(stored));

@@ -141,6 +141,7 @@ extern "C" {
     ) -> Written;
     pub fn walnut_handle_reduce(word: *const u8, n: usize, limit: u16, out: *mut u8, len: usize) -> Handles;
     pub fn walnut_shorter(a: *const u8, an: usize, b: *const u8, bn: usize) -> Choice;
+    pub fn walnut_shorten(word: *const u8, n: usize, effort: u16, out: *mut u8, len: usize) -> Written;
     pub fn walnut_verify(
         key: *const u8,
         kn: usize,

@@ -21,4 +21,4 @@ pub const MOVES: usize = 4096;
 /// The most letters of the words that walnut_words_ending counts.
 pub const SPREAD_LENGTH: usize = 12;
 /// Bytes of stack that a call may take.
-pub const STACK_BYTES: usize = 65536;
+pub const STACK_BYTES: usize = 98304;

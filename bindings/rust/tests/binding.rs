@@ -112,6 +112,20 @@ fn nothing_lent_changes_on_a_refusal() {
     assert_eq!(key, [9; KEY_BYTES]);
 }
 
+/// b1 b2 b1 b2^-1 b1^-1 is b2 by a turn, which swapping and cancelling does not find.
+#[test]
+fn shorter_words() {
+    let (turned, mut out) = ([0x00, 0x05, 0x01, 0x09, 0x80], [9; WORD_BYTES]);
+    assert_eq!(walnut::shorten(&turned, 0, &mut out), Ok(&mut turned.clone()[..]));
+    for effort in [5, u16::MAX] {
+        assert_eq!(walnut::shorten(&turned, effort, &mut out), Ok(&mut [0x00, 0x01, 0x10][..]));
+    }
+    assert_eq!(walnut::shorten(&[0, 1, 1], 5, &mut out), Err(Refusal::WORD_FILLER));
+    let mut short = [9; WORD_BYTES - 1];
+    assert_eq!(walnut::shorten(&turned, 5, &mut short), Err(Refusal::OUTPUT_SHORT));
+    assert_eq!(short, [9; WORD_BYTES - 1]);
+}
+
 #[test]
 fn letters_as_codes_and_as_text() {
     let codes = walnut::codes(SEVEN).unwrap();

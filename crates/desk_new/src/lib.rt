@@ -118,28 +118,37 @@ fn end(made: Made, old: &[u8], new: usize, alone: bool, from_stored: bool, to_st
     }
 }
 
+// The number that an argument writes, 0 to 65,535; 65,536 for any other argument.
+fn number_at(at: usize) -> usize {
+    let mut name = io::buffer();
+    let n = os::arg(at, &mut name);
+    desk_number::number_of(&name[..n])
+}
+
 // One slip: digest, signature and new signature are the three arguments from a place on.
-fn slip(key: &[u8; desk_line::KEY_ROOM], k: Got, at: usize, alone: bool)
+fn slip(key: &[u8; desk_line::KEY_ROOM], k: Got, at: usize, alone: bool, effort: u16)
     requires { ⌜ at < 18446744073709551614 ⌝ }
 {
     let mut digest = [0u8; desk_line::DIGEST_ROOM];
     let mut word = [0u8; desk_line::WORD_ROOM];
     let d = desk_io::file(at, &mut digest);
     let w = desk_io::file(at + 1, &mut word);
-    let made = desk_words::shorten(key, &digest, &word, k, d, w);
+    let made = desk_words::shorten(key, &digest, &word, k, d, w, effort);
     let n = w.bytes;
     end(made, text::part(&word, 0, n), at + 2, alone, false, false);
 }
 
-// Shortens slips under one key: a name beside the new files, the key, then digest, signature and new signature of each
-// slip. Of many slips none is waited for.
-fn shorten() {
+// Shortens slips under one key: a name beside the new files, the effort, the key, then digest, signature and new
+// signature of each slip. Of many slips none is waited for.
+fn shorten(arguments: usize, effort: u16)
+    requires { ⌜ 7 < arguments ⌝ }
+{
     let mut key = [0u8; desk_line::KEY_ROOM];
-    let k = desk_io::file(3, &mut key);
-    let n = os::arg_count() / 3;
+    let k = desk_io::file(4, &mut key);
+    let n = (arguments - 2) / 3;
     let mut i = 1;
     while i < n {
-        slip(&key, k, 3 * i + 1, n == 2);
+        slip(&key, k, 3 * i + 2, n == 2, effort);
         i += 1;
     }
 }
@@ -196,9 +205,7 @@ fn steps(limit: u16) {
 
 // Takes handles out of a word: a name beside the new file, the word, the greatest number of steps, the new word.
 fn handles() {
-    let mut argument = io::buffer();
-    let n = os::arg(4, &mut argument);
-    let limit = desk_number::number_of(&argument[..n]);
+    let limit = number_at(4);
     if limit < desk_number::NONE {
         steps(limit as u16);
     } else {
@@ -230,8 +237,9 @@ pub fn new_word() {
     let m = os::arg(1, &mut name);
     let verb = &name[..m];
     let n = os::arg_count();
-    if base::equal(verb, b"shorten") && 6 < n && n % 3 == 1 {
-        shorten();
+    let effort = number_at(3);
+    if base::equal(verb, b"shorten") && 7 < n && n % 3 == 2 && effort < desk_number::NONE {
+        shorten(n, effort as u16);
     } else if base::equal(verb, b"rewrite") && n == 6 {
         rewrite();
     } else if base::equal(verb, b"reduce") && n == 5 {
@@ -244,7 +252,7 @@ pub fn new_word() {
         restore();
     } else {
         desk_io::misused(
-            b"new_word takes a verb and, after a name beside the new file, the verb's files: shorten KEY DIGEST SIGNATURE NEW, rewrite WORD MOVES NEW, reduce WORD NEW, handles WORD LIMIT NEW, store WORD NEW or restore STORED NEW\n",
+            b"new_word takes a verb and, after a name beside the new file, the verb's files: shorten EFFORT KEY DIGEST SIGNATURE NEW, rewrite WORD MOVES NEW, reduce WORD NEW, handles WORD LIMIT NEW, store WORD NEW or restore STORED NEW\n",
         );
     }
 }

@@ -2,7 +2,7 @@
 -- what is enough to judge it. What is written of these is what is written of the whole files, of any length.
 use Prim.Native.Nat.{ℕ, _<_}
 use native.Mathlib.Omega.{arith}
-use mathlib.Core.Path.{refl, ap}
+use mathlib.Core.Path.{refl, _∙_}
 use mathlib.Core.List.{[]}
 use lib.ListN.{take}
 use Rattle.text.proofs.EnoughLaws.{granted-alike, enough-granted}
@@ -42,11 +42,10 @@ enough-to-restore n h =
     )
 
 pub enough-to-shorten : (k d w : ℕ) → EnoughOfFiles k d w → 5002 < w → EnoughToShorten k d w
-unfolding toWrite
 enough-to-shorten k d w enough h = (
   enough,
-  λ key digest word. granted-alike (shortFile (take w word)) (shortFile word) [] [] (enough key digest word)
-      (λ z. ap shortFile (whole-word w h word (opened-word (take k key) (take d digest) (take w word) z))) refl,
+  λ key digest word z. whole-word w h word
+      (opened-word (take k key) (take d digest) (take w word) (enough key digest word ∙ z)),
 )
 
 pub enough-to-rewrite : (w m : ℕ) → 5002 < w → 12290 < m → EnoughToRewrite w m

@@ -11,6 +11,8 @@ use Rattle.base.specs.Lists.{overlaid}
 use Rattle.base.proofs.QuestionLaws.{granted-zero, granted-refused, granted-ap}
 use Rattle.base.proofs.ListLaws.{take-overlaid}
 use Rattle.word.specs.Words.{Wrote}
+use Rattle.word.specs.Reduction.{Irreducible}
+use Rattle.slip_verdict.specs.Verdict.{verdict}
 use Rattle.desk_words.specs.Making.{toWrite, noAnswer, MakesNew, Shortens, Rewrites}
 use Rattle.desk_words.specs.declared.Made.{Made}
 
@@ -45,7 +47,7 @@ unfolding toWrite
 unread answer new e b = rw e (bare-makes answer new b refl refl)
 
 -- the answer is a refusal
-pub refused : {made : Made} (answer : ℕ) (new : List ℕ) → (answer ≡ 0 → ⊥) → Bare true answer made
+refused : {made : Made} (answer : ℕ) (new : List ℕ) → (answer ≡ 0 → ⊥) → Bare true answer made
     → MakesNew true answer new made
 unfolding toWrite
 refused answer new h b = bare-makes answer new b refl (granted-refused new [] h)
@@ -88,10 +90,36 @@ bytes-within m = rw (m .bytes-are, m .file-is) (simp length-append (omega arith)
 unanswered : {made : Made} → Bare false noAnswer made → made .answer ≡ 0 → ⊥
 unanswered b z = omega (arith, b .answer-is)
 
+-- no letters are irreducible
+none-irreducible : Irreducible []
+none-irreducible k h = absurd (omega (arith, h))
+
 -- what the two larger verbs make where a file could not be read, and where all could
 pub shortens-unread : {read : Bool} {key digest word : List ℕ} {made : Made} → read ≡ false → Bare false noAnswer made
     → Shortens read key digest word made
-shortens-unread e b = record { makes = unread _ _ e b; opens = λ z. absurd (unanswered b z) }
+shortens-unread e b =
+    record {
+      new = [];
+      makes = unread _ _ e b;
+      not-longer = omega arith;
+      irreducible = none-irreducible;
+      keeps = λ z. absurd (unanswered b z);
+      opens = λ z. absurd (unanswered b z);
+    }
+
+-- a slip that is refused
+pub shortens-refused : {key digest word : List ℕ} {made : Made} → (verdict key digest word ≡ 0 → ⊥)
+    → Bare true (verdict key digest word) made
+    → Shortens true key digest word made
+shortens-refused h b =
+    record {
+      new = [];
+      makes = refused _ _ h b;
+      not-longer = omega arith;
+      irreducible = none-irreducible;
+      keeps = λ z. absurd (h (sym (b .answer-is) ∙ z));
+      opens = λ z. absurd (h (sym (b .answer-is) ∙ z));
+    }
 
 pub shortens-as : {read : Bool} {k d w key digest word : List ℕ} {made : Made} → read ≡ true → k ≡ key → d ≡ digest
     → w ≡ word

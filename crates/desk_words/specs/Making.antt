@@ -1,5 +1,5 @@
 -- The verbs of the desk that make a new file: what they answer, what they write, and how large a buffer has to be.
-use Prim.Native.Nat.{ℕ}
+use Prim.Native.Nat.{ℕ, _≤_}
 use mathlib.Core.Path.{_≡_}
 use mathlib.Core.Bool.{Bool, true, cond}
 use mathlib.Core.List.{List, []}
@@ -8,7 +8,7 @@ use Rattle.base.specs.Questions.{firstNo, granted}
 use Rattle.base.specs.Lists.{overlaid}
 use Rattle.text.specs.Enough.{Enough, EnoughOfTwo, EnoughOfThree}
 use Rattle.word.specs.Words.{codes, wordAnswer, wordFile}
-use Rattle.word.specs.Reduction.{reduced}
+use Rattle.word.specs.Reduction.{reduced, Irreducible}
 use Rattle.word_stored.specs.Stored.{maxStored, storedFile, storedCodes, storedAnswer}
 use Rattle.slip_verdict.specs.Verdict.{verdict}
 use Rattle.move_kinds.specs.Rewriting.{rewritten, rewriterQuestions}
@@ -35,9 +35,14 @@ pub record MakesNew (read : Bool) (answer : ℕ) (new : List ℕ) (made : Made) 
 abbrev pub shortFile : List ℕ → List ℕ
 shortFile word = wordFile (reduced (codes word))
 
--- shortening a slip: the verdict's answer, and the file of the freely reduced word, which opens the slip too
+-- shortening a slip: the verdict's answer, and the file of a shorter word, which opens the slip too
 pub record Shortens (read : Bool) (key digest word : List ℕ) (made : Made) : Type 0 where
-  pub makes : MakesNew read (verdict key digest word) (shortFile word) made
+  -- The letters of the new word. Which word it is, is left free; the next five lines hold of it.
+  pub new : List ℕ
+  pub makes : MakesNew read (verdict key digest word) (wordFile new) made
+  pub not-longer : length new ≤ length (codes word)
+  pub irreducible : Irreducible new
+  pub keeps : made .answer ≡ 0 → SameMeaning word (take (made .bytes) (made .file))
   pub opens : made .answer ≡ 0 → verdict key digest (take (made .bytes) (made .file)) ≡ 0
 
 -- the rewriter's answer, where its output has room
@@ -63,11 +68,11 @@ Restores read file made = MakesNew read (storedAnswer file) (wordFile (storedCod
 
 -- These numbers of bytes are enough to read of a slip to shorten it, of a word and a move list to rewrite it, of a word
 -- to reduce or store it, and of a stored form to restore it: the answer and the bytes written are those for the whole
--- files, however long they are.
+-- files, however long they are. Of a slip that opens, the whole word was read.
 abbrev pub EnoughToShorten : ℕ → ℕ → ℕ → Type 0
 EnoughToShorten k d w =
     EnoughOfThree k d w verdict
-    × EnoughOfThree k d w (λ key digest word. toWrite true (verdict key digest word) (shortFile word))
+    × ((key digest word : List ℕ) → verdict key digest word ≡ 0 → take w word ≡ word)
 
 abbrev pub EnoughToRewrite : ℕ → ℕ → Type 0
 EnoughToRewrite w m =

@@ -4,6 +4,7 @@ use desk_line::Got;
 ghost use mathlib.Core.Path.{_≡_};
 ghost use mathlib.Core.Bool.{true, false, _&&_};
 ghost use lib.ListN.{length, take, replicate};
+ghost use Rattle.word_shortener.specs.Shortener.{Shortened};
 ghost use Rattle.desk_words.specs.Making.{noAnswer, Shortens, Rewrites, Reduces, EnoughToShorten};
 ghost use Rattle.desk_words.specs.Making.{EnoughToRewrite, EnoughToReduce, Stores, Restores};
 ghost use Rattle.desk_words.specs.Making.{EnoughToStore, EnoughToRestore};
@@ -110,16 +111,35 @@ fn rewritten(word: &[u8], moves: &[u8]) -> Made
     }
 }
 
-// The word of a slip, freely reduced if the slip opens. The new word is judged before it is given. No contract asks for
+// A word made shorter by a search of so many steps a letter.
+fn short(word: &[u8], effort: u16) -> Made
+    ensures { λ r.
+        ⌜
+        (r .read ≡ true) × Shortened (now (word .entry)) (replicate 5006 0) (r .file) (r .answer) (r .bytes)
+        ⌝ }
+{
+    let mut file = [0u8; word_store::MAX_STORED];
+    let written = word_shortener::shorten_word(word, effort, &mut file);
+    let answer = written.answer;
+    let bytes = written.bytes;
+    Made {
+        read: true,
+        answer,
+        bytes,
+        file,
+    }
+}
+
+// The word of a slip, made shorter if the slip opens. The new word is judged before it is given. No contract asks for
 // this second verdict, which is proved to be 0.
-fn shortened(key: &[u8], digest: &[u8], word: &[u8]) -> Made
+fn shortened(key: &[u8], digest: &[u8], word: &[u8], effort: u16) -> Made
     ensures { λ r. ⌜ Shortens true (now (key .entry)) (now (digest .entry)) (now (word .entry)) r ⌝ }
 {
     let answer = slip_verdict::verify(key, digest, word);
     if answer != 0 {
         return Made::bare(true, answer);
     }
-    let made = reduced(word);
+    let made = short(word, effort);
     let file = made.file;
     let bytes = made.bytes;
     let again = slip_verdict::verify(key, digest, &file[..bytes]);
@@ -129,7 +149,7 @@ fn shortened(key: &[u8], digest: &[u8], word: &[u8]) -> Made
     made
 }
 
-// Shortens a slip in three files, each judged by its own bytes.
+// Shortens a slip in three files, each judged by its own bytes, by a search of so many steps a letter.
 pub fn shorten(
     key: &[u8; desk_line::KEY_ROOM],
     digest: &[u8; desk_line::DIGEST_ROOM],
@@ -137,6 +157,7 @@ pub fn shorten(
     k: Got,
     d: Got,
     w: Got,
+    effort: u16,
 ) -> Made
     ensures { λ r.
         ⌜
@@ -157,7 +178,7 @@ pub fn shorten(
     if !desk_line::all_read(k, d, w) {
         return Made::unread();
     }
-    shortened(k_read, d_read, w_read)
+    shortened(k_read, d_read, w_read, effort)
 }
 
 // Rewrites the word in a file by the move list in another file.

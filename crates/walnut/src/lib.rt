@@ -20,6 +20,7 @@ ghost use Rattle.slip_digest.specs.Digest.{WroteEncoded};
 ghost use Rattle.word_crossing.specs.Crossings.{Crosses};
 ghost use Rattle.word_spread.specs.Spread.{Ends};
 ghost use Rattle.word_shorter.specs.Shorter.{Chose};
+ghost use Rattle.word_shortener.specs.Shortener.{Shortened};
 use field::Element;
 use handle_reducer::Handles;
 use pair::Pair;
@@ -221,6 +222,13 @@ pub extern "C" fn walnut_shorter(a: &[u8], b: &[u8]) -> Choice
     ensures { λ r. ⌜ Chose (now (a .entry)) (now (b .entry)) (r .answer) (r .which) ⌝ }
 {
     word_shorter::choose(a, b)
+}
+
+#[no_mangle]
+pub extern "C" fn walnut_shorten(word: &[u8], effort: u16, out: &mut [u8]) -> Written
+    ensures { λ r. ⌜ Shortened (now (word .entry)) (now (out .entry)) (now (out .exit)) (r .answer) (r .bytes) ⌝ }
+{
+    word_shortener::shorten_word(word, effort, out)
 }
 
 #[no_mangle]

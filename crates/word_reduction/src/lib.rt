@@ -19,7 +19,7 @@ ghost use Rattle.base.specs.Digits.{halves};
 ghost use Rattle.word.specs.Letters.{isLetter, inverse};
 ghost use Rattle.word.specs.Reduction.{reduced, Irreducible};
 ghost use Rattle.word_reduction.specs.Reducer.{WroteReduced};
-ghost use Rattle.word_reduction.specs.steps.Stack.{MayCome};
+ghost use Rattle.word_reduction.specs.steps.Stack.{MayCome, Pushed};
 
 // Is the letter the inverse of the last of the n codes on the stack?
 fn cancels(stack: &[u8], n: usize, c: u8) -> bool
@@ -34,12 +34,13 @@ fn cancels(stack: &[u8], n: usize, c: u8) -> bool
     c == other
 }
 
-// Pushes a letter onto a stack of n codes. Returns how many codes the stack then has.
-fn push(stack: &mut [u8], n: usize, c: u8) -> usize
+// Pushes a letter onto a stack of n codes. Returns how many codes the stack then has. The codes after them do not
+// change.
+pub fn push(stack: &mut [u8], n: usize, c: u8) -> usize
     requires { ⌜
         (n < length (now stack)) × Irreducible (take n (now stack)) × (every isLetter (take n (now stack)) ≡ true)
         ⌝ }
-    ensures { λ r. ⌜ (r ≤ n + 1) × (take r (now (stack .exit)) ≡ reduced (take n (now (stack .entry)) ++ (c ∷ []))) ⌝ }
+    ensures { λ r. ⌜ Pushed n (c ∷ []) (now (stack .entry)) (now (stack .exit)) r ⌝ }
 {
     if cancels(stack, n, c) {
         return n - 1;

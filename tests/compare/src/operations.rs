@@ -15,6 +15,7 @@ pub mod reciprocal;
 pub mod restore;
 pub mod rewrite;
 pub mod second_half;
+pub mod shorten;
 pub mod shorter;
 pub mod start;
 pub mod store;
@@ -28,7 +29,7 @@ use reference::Field;
 use crate::operation::Op;
 
 /// All of them, in the order of `walnut.h`.
-pub const ALL: [Op; 22] = [
+pub const ALL: [Op; 23] = [
     &product::Product,
     &reciprocal::Reciprocal,
     &start::Start,
@@ -45,6 +46,7 @@ pub const ALL: [Op; 22] = [
     &rewrite::Rewrite,
     &handle_reduce::HandleReduce,
     &shorter::Shorter,
+    &shorten::Shorten,
     &verify::Verify,
     &first_half::FirstHalf,
     &second_half::SecondHalf,

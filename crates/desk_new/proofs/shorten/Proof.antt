@@ -6,10 +6,10 @@ use Rattle.desk_new.proofs.shorten.Statement.{statement}
 use Rattle.desk_new.proofs.shorten.Tie as tie
 
 abbrev Inv-loop : tie.InvT-loop
-Inv-loop key k n i₀ i = 3 * n ≤ 18446744073709551615
+Inv-loop arguments effort key k n i₀ i = 3 * n ≤ 18446744073709551613
 
 abbrev μ-loop : tie.MeasureT-loop
-μ-loop key k n i₀ i = n - i
+μ-loop arguments effort key k n i₀ i = n - i
 
 pub shorten-spec : {M : Type 1} → statement M
 shorten-spec =
@@ -19,7 +19,7 @@ shorten-spec =
     μ-loop
     (λ c. search needs)
     (λ c κs. search needs)
-    (λ c κs. search needs)
+    (λ c. search needs)
     (λ c. search needs)
     (λ c. search needs)
     (λ c. search needs)

@@ -1,8 +1,10 @@
 -- `word_reduction::push` meets its contract: a letter that is the last code's inverse cancels against it. Any other
 -- letter is stored behind it.
-use mathlib.Core.Path.{sym, _∙_}
+use Prim.Native.Nat.{_+_}
+use mathlib.Core.Path.{refl, sym, _∙_}
 use native.Mathlib.Omega.{arith}
 use borrow.Author.Needs.{needs}
+use lib.Seq.{drop-set-lt}
 use Rattle.word_reduction.proofs.StackLaws.{meets-some, push-cancels, push-stays}
 use Rattle.word_reduction.proofs.push.Statement.{statement}
 use Rattle.word_reduction.proofs.push.Tie as tie
@@ -20,6 +22,7 @@ returns c =
       omega arith,
       push-cancels (a .stack .now) (a .n) (a .c) (b .pre .0) (b .pre .1) (b .pre .2)
           (sym (c .before .cancels .ensures) ∙ c .if1 .taken),
+      refl,
     )
 
 returns-2 : tie.Need-returns-2
@@ -29,6 +32,7 @@ returns-2 c =
       omega arith,
       push-stays (a .stack .now) (a .n) (a .c) (b .pre .0) (b .pre .1)
           (sym (c .before .cancels .ensures) ∙ c .if1 .left),
+      drop-set-lt (a .n + 1) (a .stack .now) (a .n) (a .c) (omega arith),
     )
 
 pub push-spec : {M : Type 1} → statement M

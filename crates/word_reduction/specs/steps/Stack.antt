@@ -2,12 +2,12 @@
 use Prim.Native.Nat.{ℕ, _+_, _≤_}
 use mathlib.Core.Path.{_≡_}
 use mathlib.Core.Bool.{true}
-use mathlib.Core.List.{List}
-use lib.ListN.{length, take}
+use mathlib.Core.List.{List, _++_}
+use lib.ListN.{length, take, drop}
 use Rattle.base.specs.Lists.{every}
 use Rattle.word.specs.Letters.{isLetter}
 use Rattle.word.specs.Words.{codes}
-use Rattle.word.specs.Reduction.{Irreducible}
+use Rattle.word.specs.Reduction.{reduced, Irreducible}
 
 -- The condition for pushing codes onto a stack. Only private contracts cite it. The stack has room for the codes behind
 -- its first n codes. These n codes are letters, of which no two neighbours cancel. The codes to push are letters
@@ -17,3 +17,11 @@ MayCome n stack codes =
     × Irreducible (take n stack)
     × (every isLetter (take n stack) ≡ true)
     × (every isLetter codes ≡ true)
+
+-- What a push of codes leaves: the first r codes are the freely reduced word of the n codes and the codes pushed. The
+-- codes after place n do not change. Only private contracts cite it.
+abbrev pub Pushed : ℕ → List ℕ → List ℕ → List ℕ → ℕ → Type 0
+Pushed n codes before after r =
+    (r ≤ n + 1)
+    × (take r after ≡ reduced (take n before ++ codes))
+    × (drop (n + 1) after ≡ drop (n + 1) before)

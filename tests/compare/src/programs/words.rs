@@ -8,7 +8,9 @@ use std::{env, fs, process};
 
 use reference::stored::{stored_letters, MOST_STORED};
 use reference::word::letters;
-use reference::{free_reduce, handle_reduce, restore, rewrite, store, verify, Field, Handles, Written};
+use reference::{
+    free_reduce, handle_reduce, restore, rewrite, shorten, store, verify, Field, Handles, Written,
+};
 
 use crate::make::{files, Maker, Size};
 use crate::operation::Op;
@@ -33,6 +35,8 @@ const BEFORE: &[u8] = b"what was there";
 /// what the reference makes of them.
 struct Verb {
     name: &'static str,
+    /// The numbers before the files.
+    numbers: &'static [&'static str],
     operation: Op,
     fields: &'static [Field],
     word: usize,
@@ -59,6 +63,7 @@ const WORDS: [fn(&[u8]) -> usize; 2] = [of_word, of_word];
 const VERBS: [Verb; 6] = [
     Verb {
         name: "shorten",
+        numbers: &["5"],
         operation: &Verify,
         fields: &Field::BOTH,
         word: 2,
@@ -69,6 +74,7 @@ const VERBS: [Verb; 6] = [
     },
     Verb {
         name: "rewrite",
+        numbers: &[],
         operation: &Rewrite,
         fields: &[Field::Gf32],
         word: 0,
@@ -79,6 +85,7 @@ const VERBS: [Verb; 6] = [
     },
     Verb {
         name: "reduce",
+        numbers: &[],
         operation: &FreeReduce,
         fields: &[Field::Gf32],
         word: 0,
@@ -89,6 +96,7 @@ const VERBS: [Verb; 6] = [
     },
     Verb {
         name: "handles",
+        numbers: &[],
         operation: &HandleReduce,
         fields: &[Field::Gf32],
         word: 0,
@@ -105,6 +113,7 @@ const VERBS: [Verb; 6] = [
     },
     Verb {
         name: "store",
+        numbers: &[],
         operation: &Store,
         fields: &[Field::Gf32],
         word: 0,
@@ -115,6 +124,7 @@ const VERBS: [Verb; 6] = [
     },
     Verb {
         name: "restore",
+        numbers: &[],
         operation: &Restore,
         fields: &[Field::Gf32],
         word: 0,
@@ -135,11 +145,11 @@ fn handles(parts: &[Vec<u8>], out: &mut [u8]) -> Handles {
     handle_reduce(&parts[0], number(&parts[1]), out)
 }
 
-/// A slip's freely reduced word, where the slip opens with both.
+/// A slip's word, shortened with effort 5, where the slip opens with both.
 fn shortened(parts: &[Vec<u8>], out: &mut [u8]) -> Written {
     match verify(&parts[0], &parts[1], &parts[2]) {
         0 => {
-            let written = free_reduce(&parts[2], out);
+            let written = shorten(&parts[2], 5, out);
             match verify(&parts[0], &parts[1], &out[..written.bytes]) {
                 0 => written,
                 answer => Written::refusal(answer),
@@ -171,7 +181,8 @@ impl Place {
 
     /// Runs the program by a verb on these parts, and counts the answer.
     fn compare(&self, verb: &Verb, counts: &mut Counts, parts: &[Vec<u8>]) -> Checked {
-        let mut paths = vec![self.folder.join(".beside")];
+        let beside = self.folder.join(".beside");
+        let mut paths = Vec::new();
         for (name, part) in ["first file", "-second", "third"].iter().zip(&parts[..verb.files]) {
             paths.push(self.put(name, part)?);
         }
@@ -179,7 +190,8 @@ impl Place {
         let new = self.put("the new word", BEFORE)?;
         let before = changed(&new)?;
         paths.push(new.clone());
-        let mut arguments: Vec<&OsStr> = vec![verb.name.as_ref()];
+        let mut arguments: Vec<&OsStr> = vec![verb.name.as_ref(), beside.as_os_str()];
+        arguments.extend(verb.numbers.iter().map(OsStr::new));
         arguments.extend(paths.iter().map(|path| path.as_os_str()));
         let output = ran(&self.program, &arguments, &[])?;
 
@@ -190,7 +202,7 @@ impl Place {
         let file = fs::read(&new).map_err(|error| format!("{}: {error}\n", new.display()))?;
         let untouched = file == BEFORE && changed(&new)? == before;
         let well = if written.answer == 0 { file == out[..written.bytes] } else { untouched };
-        if found != expected || !output.stderr.is_empty() || !well || paths[0].exists() {
+        if found != expected || !output.stderr.is_empty() || !well || beside.exists() {
             let (name, file) = (verb.name, show::hex(&file));
             let parts: String =
                 parts.iter().map(|part| format!("  [{}]: {}\n", part.len(), show::hex(part))).collect();

@@ -1,0 +1,160 @@
+//! How much shortening saves, and how long it takes: for each class of words the library at several efforts beside
+//! plain C of the same search, and beside other ways to shorten a word.
+//!
+//! `bench saving` prints a line for each class and way: class, way, effort, letters before and after, microseconds a
+//! word of the library, and of plain C where there is one (0 where there is none). `bench/picture` draws these lines.
+
+use std::hint::black_box;
+use std::time::{Duration, Instant};
+
+use reference::testkit::{signatures, Random};
+use reference::word::{letters, word_file};
+use walnut::WORD_BYTES;
+
+use crate::plain_c;
+use crate::turns::turned;
+
+/// The efforts that are measured.
+const EFFORTS: [u16; 7] = [0, 1, 2, 5, 10, 20, 50];
+
+/// How often random turns are tried for each letter.
+const TURNS: [usize; 4] = [10, 100, 1_000, 10_000];
+
+/// The rounds for a word: the least and the most, and how long they may take between.
+const LEAST: usize = 5;
+const MOST: usize = 50;
+const LONG: Duration = Duration::from_millis(100);
+
+/// The letters of the random word.
+const LONGEST: usize = 10_000;
+
+/// The largest limit of handle reduction.
+const LIMIT: u16 = u16::MAX;
+
+/// Words of one kind.
+struct Class {
+    name: &'static str,
+    words: Vec<Vec<u8>>,
+}
+
+/// A way to shorten a word file: the bytes written, 0 on a refusal.
+type Way<'a> = &'a dyn Fn(&[u8], &mut [u8]) -> usize;
+
+/// What a way makes of a word; the word itself on a refusal.
+fn made(word: &[u8], way: impl Fn(&[u8], &mut [u8]) -> usize) -> Vec<u8> {
+    let mut out = vec![0; WORD_BYTES];
+    match way(word, &mut out) {
+        0 => word.to_vec(),
+        bytes => out[..bytes].to_vec(),
+    }
+}
+
+/// Handle reduction; 0 on a refusal.
+fn handles(word: &[u8], out: &mut [u8]) -> usize {
+    walnut::handle_reduce(word, LIMIT, out).map_or(0, |(reduced, _)| reduced.len())
+}
+
+/// So many random letters, none of which cancels the one before it.
+fn random_word(count: usize) -> Vec<u8> {
+    let (random, mut codes) = (&mut Random::seeded(1), Vec::new());
+    while codes.len() < count {
+        let letter = random.letter();
+        if codes.last() != Some(&(letter ^ 8)) {
+            codes.push(letter);
+        }
+    }
+    codes
+}
+
+fn classes() -> [Class; 5] {
+    let rewritten = signatures("stoch32");
+    let reduced = rewritten.iter().map(|word| made(word, handles)).collect();
+    let random = vec![word_file(&random_word(LONGEST))];
+    [
+        Class { name: "signatures, 128", words: signatures("sig32") },
+        Class { name: "signatures, 256", words: signatures("sig256") },
+        Class { name: "after stochastic rewriting", words: rewritten },
+        Class { name: "the same, then handles", words: reduced },
+        Class { name: "random, 10,000 letters", words: random },
+    ]
+}
+
+/// The microseconds that each way takes for a word. The ways are measured in turn, and of each word the least time
+/// counts; the mean is over the words.
+fn times<const WAYS: usize>(words: &[Vec<u8>], ways: [Way; WAYS]) -> [f64; WAYS] {
+    let (mut out, mut sums) = (vec![0; WORD_BYTES], [0.0; WAYS]);
+    for word in words {
+        let (mut least, mut rounds, all) = ([f64::INFINITY; WAYS], 0, Instant::now());
+        while rounds < LEAST || rounds < MOST && all.elapsed() < LONG {
+            for (time, way) in least.iter_mut().zip(ways) {
+                let start = Instant::now();
+                black_box(way(black_box(word), black_box(&mut out)));
+                *time = time.min(start.elapsed().as_secs_f64());
+            }
+            rounds += 1;
+        }
+        sums.iter_mut().zip(least).for_each(|(sum, time)| *sum += time);
+    }
+    sums.map(|sum| sum * 1e6 / words.len() as f64)
+}
+
+/// The letters of all words.
+fn sum(words: &[Vec<u8>]) -> usize {
+    words.iter().map(|word| letters(word).len()).sum()
+}
+
+/// Prints the line of a way over a class.
+fn line(class: &Class, way: &str, effort: usize, after: usize, micros: [f64; 2]) {
+    let (name, count) = (class.name, class.words.len());
+    let (before, after) = (sum(&class.words) as f64 / count as f64, after as f64 / count as f64);
+    println!("{name}\t{way}\t{effort}\t{before:.1}\t{after:.1}\t{:.1}\t{:.1}", micros[0], micros[1]);
+}
+
+/// A way of the library's that no C is held beside. There is no line if it refuses a word.
+fn alone(class: &Class, name: &str, way: Way) {
+    if class.words.iter().any(|word| way(word, &mut [0; WORD_BYTES]) == 0) {
+        return;
+    }
+    let after: Vec<Vec<u8>> = class.words.iter().map(|word| made(word, way)).collect();
+    let [micros] = times(&class.words, [way]);
+    line(class, name, 0, sum(&after), [micros, 0.0]);
+}
+
+/// Arcs at an effort; false if the library and plain C differ.
+fn arcs(class: &Class, effort: u16) -> bool {
+    let library =
+        |word: &[u8], out: &mut [u8]| walnut::shorten(word, effort, out).map_or(0, |written| written.len());
+    let plain = |word: &[u8], out: &mut [u8]| plain_c::shorten(word, effort, out);
+    let after: Vec<Vec<u8>> = class.words.iter().map(|word| made(word, library)).collect();
+    let same = class.words.iter().zip(&after).all(|(word, short)| made(word, plain) == *short);
+    line(class, "arcs", effort.into(), sum(&after), times(&class.words, [&library, &plain]));
+    same
+}
+
+/// Random turns, so many for each letter, once over the words.
+fn turns(class: &Class, tries: usize) {
+    let start = Instant::now();
+    let after = class.words.iter().map(|word| turned(&letters(word), tries).len()).sum();
+    let micros = start.elapsed().as_secs_f64() * 1e6 / class.words.len() as f64;
+    line(class, "turns", tries, after, [micros, 0.0]);
+}
+
+/// Prints all lines; false if the library and plain C differ.
+pub fn saving() -> bool {
+    let mut same = true;
+    for class in classes() {
+        alone(&class, "free reduction", &|word, out| {
+            walnut::free_reduce(word, out).map_or(0, |file| file.len())
+        });
+        alone(&class, "handles", &handles);
+        for effort in EFFORTS {
+            let agreed = arcs(&class, effort);
+            if !agreed {
+                println!("{}: the library and plain C differ at effort {effort}", class.name);
+            }
+            same &= agreed;
+        }
+        TURNS.into_iter().for_each(|tries| turns(&class, tries));
+    }
+    same
+}

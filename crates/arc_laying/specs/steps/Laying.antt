@@ -1,0 +1,40 @@
+-- How far a new part is laid. Only private contracts cite these definitions.
+use Prim.Native.Nat.{ℕ, _+_, _≤_, _<_}
+use mathlib.Core.Path.{_≡_}
+use mathlib.Core.Bool.{Bool, true, false}
+use mathlib.Core.List.{List}
+use mathlib.Core.Logic.{_⊎_}
+use lib.ListN.{length, take}
+use Rattle.arc_laying.specs.declared.Laying.{Laying}
+use Rattle.braid_arcs.specs.Arcs.{Arc}
+
+-- what is read of the part, and what is written, are arcs with the same start and the same other letters
+pub record Laid (under : Bool) (p : ℕ) (part out : List ℕ) (read written old new : ℕ) : Type 0 where
+  pub others : List ℕ
+  pub was : Arc under p (take read part) old others
+  pub is : Arc under p (take written out) new others
+
+-- before a turn
+pub record Ready (under : Bool) (p : ℕ) (part out : List ℕ) (s : Laying) : Type 0 where
+  pub reads : s .read ≤ length part
+  pub writes : s .written ≤ length part
+  pub room : length part ≤ length out
+  pub few : length part < 65536
+  pub laid : Laid under p part out (s .read) (s .written) (s .old) (s .new)
+
+-- A turn leads from s to r. More is read or written than before, or the turn is refused. A refused part counts as one
+-- letter longer than the old part.
+pub record Turned (under : Bool) (p : ℕ) (part out : List ℕ) (s r : Laying) : Type 0 where
+  pub reads : r .read ≤ length part
+  pub further : s .read + s .written < r .read + r .written
+  pub laid : (r .written ≡ length part + 1)
+      ⊎ ((r .written ≤ length part) × Laid under p part out (r .read) (r .written) (r .old) (r .new))
+
+-- something is left to do: a letter to read, or a step of the strand to its end
+abbrev pub Unfinished : ℕ → Laying → Type 0
+Unfinished n s = s .read ≡ n → s .new ≡ s .old → ⊥
+
+-- is there a turn to make? Not after a refusal, and not if nothing is left to do
+pub record GoesOn (n : ℕ) (s : Laying) (r : Bool) : Type 0 where
+  pub yes : r ≡ true → (s .written ≤ n) × Unfinished n s
+  pub stop : r ≡ false → (n < s .written) ⊎ ((s .read ≡ n) × (s .new ≡ s .old))

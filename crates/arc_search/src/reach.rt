@@ -1,0 +1,92 @@
+// How far a strand goes over all others, or under all others, from a letter back and on.
+ghost use Prim.Native.Nat.{_+_, _≤_, _<_};
+ghost use lib.ListN.{length};
+
+// Where an arc begins or ends: the place in the word, and the place of the strand.
+pub(crate) struct Reach {
+    pub at: usize,
+    pub strand: u8,
+}
+
+// The place of the strand after a letter, or 8 if the strand's own letter has the wrong sign.
+fn after(c: u8, x: u8, under: bool) -> u8
+    requires { ⌜ x ≤ 7 ⌝ }
+    ensures { λ r. ⌜ r ≤ 8 ⌝ }
+{
+    let g = c % 8;
+    let right = (8 <= c) == under;
+    if g == x {
+        if right {
+            return x + 1;
+        }
+        return 8;
+    }
+    if g + 1 == x {
+        if right {
+            return 8;
+        }
+        return x - 1;
+    }
+    x
+}
+
+// The lowest place to which an arc may go back from place k.
+fn lowest(k: usize) -> usize
+    ensures { λ r. ⌜ (r ≤ k) × (k ≤ r + 256) ⌝ }
+{
+    if k < 256 {
+        return 0;
+    }
+    k - 256
+}
+
+// The highest place to which an arc may go on from place k of n letters.
+fn highest(k: usize, n: usize) -> usize
+    requires { ⌜ (k ≤ n) × (k < 65536) ⌝ }
+    ensures { λ r. ⌜ (k ≤ r) × (r ≤ k + 256) × (r ≤ n) ⌝ }
+{
+    if k + 256 < n {
+        return k + 256;
+    }
+    n
+}
+
+// Goes back from place k, over at most 256 letters. The strand stands at place x before letter k.
+pub(crate) fn back(codes: &[u8], k: usize, x: u8, under: bool) -> Reach
+    requires { ⌜ (k ≤ length (now codes)) × (k < 65536) × (x ≤ 7) ⌝ }
+    ensures { λ r. ⌜ (r .at ≤ k) × (k ≤ r .at + 256) × (r .strand ≤ 7) ⌝ }
+{
+    let mut low = lowest(k);
+    let mut at = k;
+    let mut strand = x;
+    while low < at {
+        let y = after(codes[at - 1], strand, !under);
+        if y == 8 {
+            low = at;
+        } else {
+            strand = y;
+            at -= 1;
+        }
+    }
+    Reach { at, strand }
+}
+
+// Goes on from place k of a word of n codes, over at most 256 letters.
+pub(crate) fn on(codes: &[u8], n: usize, k: usize, x: u8, under: bool) -> Reach
+    requires { ⌜ (k ≤ n) × (n ≤ length (now codes)) × (n < 65536) × (x ≤ 7) ⌝ }
+    ensures { λ r. ⌜ (k ≤ r .at) × (r .at ≤ k + 256) × (r .at ≤ n) × (r .strand ≤ 7) ⌝ }
+{
+    let mut high = highest(k, n);
+    let mut at = k;
+    let mut strand = x;
+    while at < high {
+        let y = after(codes[at], strand, under);
+        if y == 8 {
+            high = at;
+        } else {
+            strand = y;
+            at += 1;
+        }
+    }
+    Reach { at, strand }
+}

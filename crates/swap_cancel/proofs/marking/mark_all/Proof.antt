@@ -1,0 +1,83 @@
+-- `swap_cancel::marking::mark_all` meets its contract. The loop's invariant: the letters that are not marked are the
+-- same braid as the word, and the rows have the latest letters.
+use Prim.Native.Nat.{ℕ, _-_, _≤_}
+use mathlib.Core.Path.{_≡_, refl, sym, subst, _∙_}
+use mathlib.Core.List.{List, [], _∷_}
+use native.Mathlib.Omega.{arith}
+use borrow.Author.Tests.{eqb-true}
+use lib.Dec.{eqb}
+use lib.ListN.{length, take, getD}
+use Rattle.base.specs.Lists.{every}
+use Rattle.base.proofs.ListLaws.{every-all}
+use Rattle.braid_same.specs.SameBraid.{SameBraid}
+use Rattle.braid_same.proofs.Laws.{same-none, same-then}
+use Rattle.swap_cancel.specs.steps.Marking.{kept, Marked}
+use Rattle.swap_cancel.proofs.KeptLaws.{kept-all}
+use Rattle.swap_cancel.proofs.MarkingLaws.{none-marked}
+use Rattle.swap_cancel.proofs.marking.mark_all.Statement.{statement}
+use Rattle.swap_cancel.proofs.marking.mark_all.Tie as tie
+
+abbrev Inv-loop : tie.InvT-loop
+Inv-loop codes₀ n before₀ last₀ k₀ codes before last k =
+    (k ≤ n)
+    × Marked n codes before last k
+    × (length codes ≡ length codes₀)
+    × (length before ≡ length before₀)
+    × SameBraid (take n codes₀) (kept (take n codes))
+
+abbrev μ-loop : tie.MeasureT-loop
+μ-loop codes₀ n before₀ last₀ k₀ codes before last k = n - k
+
+abbrev ten-zeros : List ℕ
+ten-zeros = 0 ∷ 0 ∷ 0 ∷ 0 ∷ 0 ∷ 0 ∷ 0 ∷ 0 ∷ 0 ∷ 0 ∷ []
+
+zeros : (j : ℕ) → getD ten-zeros j 0 ≡ 0
+unfolding every
+zeros j = eqb-true (getD ten-zeros j 0) 0 (every-all (λ (x : ℕ). eqb x 0) refl ten-zeros refl j)
+
+loop-holds : tie.Need-loop-holds Inv-loop μ-loop
+loop-holds c =
+    let b = c .before .before in
+    let a = b .args in
+    let word = take (a .n) (a .codes .now) in
+    let same = subst (λ (v : List ℕ). SameBraid word v) (sym (kept-all word (b .pre .3))) (same-none word) in (
+      omega arith,
+      none-marked (a .n) (a .codes .now) (a .before .now) ten-zeros (b .pre .0) (b .pre .1) (b .pre .2) refl zeros
+          (b .pre .3),
+      refl,
+      refl,
+      same,
+    )
+
+slice-aggregate-read-one : tie.Need-slice-aggregate-read-one Inv-loop μ-loop
+slice-aggregate-read-one c = sym (c .before .before .before .before .loop .inv .1 .ten)
+
+read-one-requires : tie.Need-read-one-requires Inv-loop μ-loop
+read-one-requires c κs = (c .before .before .before .before .loop .inv .1, omega arith)
+
+loop-again : tie.Need-loop-again Inv-loop μ-loop
+loop-again c =
+    let r = c .before .before .before .before .before .read-one in
+    let l = c .before .before .before .before .before .before .before .before .before .before .loop in (
+      omega arith,
+      r .ensures .0,
+      r .kept .0 ∙ l .inv .2,
+      r .kept .1 .1 .1 .0 ∙ l .inv .3,
+      same-then (l .inv .4) (r .ensures .1),
+    )
+
+same-length : tie.Need-same-length Inv-loop μ-loop
+same-length c = c .before .loop .inv .2
+
+same-length-2 : tie.Need-same-length-2 Inv-loop μ-loop
+same-length-2 c = c .before .loop .inv .3
+
+returns : tie.Need-returns Inv-loop μ-loop
+returns c = c .before .loop .inv .4
+
+pub mark-all-spec : {M : Type 1} → statement M
+mark-all-spec =
+    tie.close
+    (tie.spec Inv-loop μ-loop loop-holds slice-aggregate-read-one read-one-requires (λ c. omega arith)
+    (λ c. omega arith)
+    loop-again same-length same-length-2 returns)

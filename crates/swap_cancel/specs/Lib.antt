@@ -1,0 +1,2 @@
+pub mod SwapCancel
+pub mod steps

@@ -1,0 +1,3 @@
+pub mod RouteLaws
+pub mod ShortenerLaws
+pub mod ShorteningKeepsMeaning

@@ -1,0 +1,121 @@
+//! Shortening. The contract leaves free which word is written. Library and reference do the same search, so they are held
+//! to each other byte for byte, and the new word to what must hold of it whatever the search is.
+
+use reference::reduce::freely_reduced;
+use reference::testkit::signatures;
+use reference::word::{letters, word_file};
+
+use crate::case::GUARD;
+use crate::operation::prelude::*;
+use crate::operations::read_word::words_of_b1;
+use crate::plan::Failure;
+
+pub struct Shorten;
+
+/// The effort as a byte: damage cannot make it so large that the reference takes long. Byte 255 stands for 65,535.
+const EFFORT: Part = Part { name: "effort", form: Form::Fixed(1) };
+
+fn effort_of(byte: u8) -> u16 {
+    if byte == 255 {
+        65_535
+    } else {
+        byte.into()
+    }
+}
+
+/// The letters of the words of each class of tests/signatures.txt: before, and at efforts 0, 1 and 5. The reference has
+/// made these numbers.
+const SAVED: [(&str, usize, [usize; 3]); 3] = [
+    ("sig32", 11_516, [10_504, 8_062, 7_660]),
+    ("sig256", 21_854, [19_658, 15_508, 14_874]),
+    ("stoch32", 10_798, [8_562, 3_328, 3_034]),
+];
+
+/// How many random words of some hundred letters are shortened.
+const MIDDLING: usize = 40;
+
+impl Operation for Shorten {
+    fn facts(&self) -> Facts {
+        let facts = Facts::of("shorten", &[15, 9, 10, 11, 12, 13], &[parts::WORD, EFFORT]);
+        Facts { output: WORDS, numbers: &["bytes"], share: 7, ..facts }
+    }
+
+    /// The longest words get little effort, since the reference is slow.
+    fn make(&self, maker: &mut Maker, _: Field, faults: &[u8], size: Size) -> Option<Parts> {
+        let word = maker.word(faults, size);
+        let effort = match size {
+            Size::Long => maker.random.pick(&[0, 0, 1]),
+            Size::Middle => maker.random.pick(&[0, 1, 5]),
+            Size::Short => maker.random.pick(&[0, 1, 2, 5, 50, 250]),
+        };
+        Some(vec![word, vec![effort]])
+    }
+
+    fn call(&self, by: By, input: &Input) -> Outcome {
+        let ([word, _], effort) = (input.slices(), effort_of(input.parts[1][0]));
+        input.lending(|out| {
+            let (bytes, room) = (out.as_mut_ptr(), out.len());
+            match by {
+                // SAFETY: see `Operation::call`.
+                By::Library => {
+                    outcome!(unsafe { walnut_shorten(word.as_ptr(), word.len(), effort, bytes, room) }, bytes)
+                }
+                By::Reference => outcome!(reference::shorten(word, effort, out), bytes),
+            }
+        })
+    }
+
+    /// Words whose shortest form is known: b1 b2 b1 b2⁻¹ b1⁻¹ is b2, b1 b3 b1⁻¹ is b3, and positive words stay.
+    fn fixed(&self) -> Vec<Fixed> {
+        let shorten = |name: &str, word: &[u8], effort: u8| Fixed::of(&Shorten, name, &[word, &[effort]]);
+        let turned = hex("00 05 01 09 80");
+        let mut cases = vec![
+            shorten("b1 b2 b1 b2⁻¹ b1⁻¹", &turned, 5).writes(&hex("00 01 10")),
+            shorten("b1 b2 b1 b2⁻¹ b1⁻¹ without effort", &turned, 0).writes(&turned),
+            shorten("b1 b3 b1⁻¹", &hex("00 03 02 80"), 0).writes(&hex("00 01 20")),
+            shorten("b1 b1⁻¹", &hex("00 02 08"), 0).writes(&hex("00 00")),
+            shorten("b7 b1 b7⁻¹ b1⁻¹", &hex("00 04 60 E8"), 255).writes(&hex("00 00")),
+            shorten("no letters", &hex("00 00"), 255).writes(&hex("00 00")),
+            shorten("the seven letters", &hex(SEVEN), 0).writes(&hex(SEVEN)),
+            shorten("number 10,001", &hex("27 11"), 1).refused(10),
+        ];
+        cases.extend(
+            words_of_b1().into_iter().map(|(_, file)| shorten("b1 repeated", &file, 1).writes(&file)),
+        );
+        cases
+    }
+
+    /// The signatures, whose letters are counted, and words of some hundred letters, before and after free reduction.
+    fn small(&self, run: &mut Run) -> Checked {
+        for (class, before, after) in SAVED {
+            let words = signatures(class);
+            assert_eq!(words.iter().map(|word| letters(word).len()).sum::<usize>(), before, "{class}");
+            for (effort, saved) in [0, 1, 5].into_iter().zip(after) {
+                let mut sum = 0;
+                for word in &words {
+                    sum += shortened(run, word, effort)?;
+                }
+                assert_eq!(sum, saved, "{class}: letters at effort {effort}");
+            }
+        }
+        for _ in 0..MIDDLING {
+            let codes = run.maker.codes(Size::Middle);
+            for codes in [freely_reduced(&codes), codes] {
+                shortened(run, &word_file(&codes), 5)?;
+            }
+        }
+        Ok(())
+    }
+}
+
+/// Compares on one word, and holds the new one to what holds of it whatever the search is: the new one's letters.
+fn shortened(run: &mut Run, word: &[u8], effort: u8) -> Checked<usize> {
+    let input = run.maker.input(&Shorten, Field::Gf32, vec![word.to_vec(), vec![effort]]);
+    let outcome = run.input(input.clone(), Some(0))?;
+    let written = &outcome.bytes[GUARD..][..outcome.numbers[0] as usize];
+    let (old, new) = (letters(word), letters(written));
+    match run.maker.random.fault_of_shorter(&old, &new) {
+        Some(fault) => Err(Box::new(Failure::Unexpected(input, fault.to_string()))),
+        None => Ok(new.len()),
+    }
+}
