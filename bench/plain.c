@@ -1,5 +1,5 @@
-/* The key reader, the verdict whole and by halves, cloaking, the lent multiplier, the rewriter, free reduction,
-   taking handles out, shortening, stored forms, crossings and spreading in plain C, as one would write them by
+/* The key reader, the verdict whole and by halves, cloaking, the lent multiplier, the rewriter, free reduction, taking
+   handles out, shortening, stored forms, the Y dialect, crossings and spreading in plain C, as one would write them by
    hand: for the library's times to stand beside. */
 #include <stdbool.h>
 #include <stddef.h>
@@ -960,4 +960,52 @@ size_t plain_shorten(const uint8_t *word, size_t wn, uint16_t effort, uint8_t *o
     if (tried)
         m = swap_cancel(second, shorten_by_arcs(second, m, effort));
     return tried && m < n ? write_codes(second, m, out) : write_codes(first, n, out);
+}
+
+/* The length of a run of letters and the letters, for each of the sixteen codes. */
+typedef struct {
+    uint8_t letters[16][7], numbers[16];
+} runs;
+
+/* The runs of the codes in the other dialect, for parts of 7; false if they are no parts of 7. */
+static bool make_runs(runs *table, bool to_y, const uint8_t *parts, size_t pn)
+{
+    size_t sum = 0;
+    for (size_t i = 0; i < pn; i++) {
+        if (parts[i] == 0 || (sum += parts[i]) > 7)
+            return false;
+    }
+    if (sum != 7)
+        return false;
+    size_t part = 0, end = parts[0];
+    for (uint8_t g = 0; g < 7; g++) {
+        if (g == end)
+            end += parts[++part];
+        uint8_t n = to_y ? (g + 1u < end ? 2 : 1) : (uint8_t)(end - g);
+        for (uint8_t i = 0; i < n; i++) {
+            uint8_t letter = to_y ? (i ? (uint8_t)(g + 1) | 8 : g) : (uint8_t)(g + i);
+            table->letters[g][i] = letter;
+            table->letters[g | 8][n - 1 - i] = letter ^ 8;
+        }
+        table->numbers[g] = table->numbers[g | 8] = n;
+    }
+    return true;
+}
+
+/* A word turned into the other dialect, letter by letter. The bytes written; 0 on a refusal. */
+size_t plain_convert(bool to_y, const uint8_t *word, size_t wn, const uint8_t *parts, size_t pn, uint8_t *out, size_t len)
+{
+    size_t n, at = 0;
+    runs table;
+    if (len < WORD_BYTES || read_word(word, wn, &n) || !make_runs(&table, to_y, parts, pn))
+        return 0;
+    uint8_t codes[LETTERS];
+    for (size_t k = 0; k < n; k++) {
+        uint8_t c = word[2 + k / 2] >> (k % 2 ? 0 : 4) & 15, count = table.numbers[c];
+        if (at + count > LETTERS)
+            return 0;
+        for (uint8_t i = 0; i < count; i++)
+            codes[at++] = table.letters[c][i];
+    }
+    return write_codes(codes, at, out);
 }

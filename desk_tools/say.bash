@@ -200,6 +200,15 @@ about_handles() {
     esac
 }
 
+# about_converted ANSWER WORD PARTS: a word or parts that cannot be turned into the other dialect.
+about_converted() {
+    case $1 in
+        33) say "the parts are '$3'; parts are numbers from 1 to 7 that sum to 7, with commas between, such as 4,3" ;;
+        34) say "the word is '$2', $(count "$(first_two "$2")" letter); each letter becomes several letters" ;;
+        *) about_reduce "$1" "$2" ;;
+    esac
+}
+
 # about_restore ANSWER STORED: a refused stored form.
 about_restore() {
     case $1 in

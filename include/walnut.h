@@ -29,6 +29,10 @@
  *
  *     00 07 09 23 C5 E0                     7 letters: b1 b2^-1 b3 b4 b5^-1 b6 b7^-1, and half a byte 0
  *
+ * Y WORD. A word in the Y generators y1 to y7 of source 000 has the form of a word, and the codes of y1 to y7 and of
+ * their inverses are those of b1 to b7 and of theirs. Which braid it stands for depends on parts of 7, which are handed
+ * over apart.
+ *
  * STORED FORM of a word, with signs and generators apart. Three numbers of 2 bytes hold the number of letters, at most
  * 10,000, the bytes of signs and the bytes of generators. The signs follow, one bit a letter, 1 for an inverse. Then
  * come the generators' numbers less one, three bits a letter. Zero bits fill the last byte of the signs and the last
@@ -79,7 +83,7 @@ extern "C" {
 
 /* The version of this header and of its library. The first number is also the number after libwalnut.so. */
 #define WALNUT_VERSION_MAJOR 0
-#define WALNUT_VERSION_MINOR 7
+#define WALNUT_VERSION_MINOR 8
 #define WALNUT_VERSION_PATCH 0
 
 /* Marks a function whose result must be used. A compiler that knows the mark warns if a caller drops the result. */
@@ -123,6 +127,8 @@ enum walnut_answer {
     WALNUT_ANSWER_STORED_SIZES = 28,
     WALNUT_ANSWER_STORED_BITS = 29,
     WALNUT_ANSWER_HANDLES_FULL = 32,
+    WALNUT_ANSWER_PARTS = 33,
+    WALNUT_ANSWER_NEW_WORD_FULL = 34,
     WALNUT_ANSWER_LENGTH_OR_LIST = 35,
     /* answers.txt: end */
 };
@@ -154,7 +160,7 @@ static inline const char *walnut_text(uint8_t answer)
     case 19: return "the move list states more than 4,096 moves";
     case 20: return "the move list's length is not 2 + 3 times its number of moves";
     case 21: return "a move's kind is unknown: kinds are 1, 2, 3, 16 to 22 and 24 to 30";
-    case 22: return "a move reaches past the end of the word";
+    case 22: return "a move, or a pair to replace, reaches past the end of the word";
     case 23: return "the letters at the move's place do not match this kind of move";
     case 24: return "an insertion would leave more than 10,000 letters";
     case 25: return "the list to cloak for is not 8 bytes, 0 to 7 each once";
@@ -163,6 +169,8 @@ static inline const char *walnut_text(uint8_t answer)
     case 28: return "the stored form has fewer than 6 bytes, or its sizes disagree with its letters or length";
     case 29: return "a generator of the stored form is 7, or its filler bits are not all zero";
     case 32: return "a step that takes a handle out would leave more than 10,000 letters";
+    case 33: return "the parts are empty, hold a zero or do not sum to 7";
+    case 34: return "the new word would have more than 10,000 letters";
     case 35: return "the length is over 12, or the list is not four labels, 0 to 3 each once";
     /* answers.txt: end */
     default: return "an answer that this header does not know";
@@ -291,6 +299,23 @@ WALNUT_MUST_USE walnut_written walnut_store(const uint8_t *word, size_t n, uint8
 /* Writes the word file of a stored form. Answers: 15, 28, 10, 28, 29, 0. Changes the reported bytes of out, on 0
    only. */
 WALNUT_MUST_USE walnut_written walnut_restore(const uint8_t *stored, size_t n, uint8_t *out, size_t len);
+
+/* Turns a word file from Artin to Y generators, for parts of 7, one part to a byte, and writes the Y word without free
+   reduction. Answers: 15, 9, 10, 11, 12, 13, 33, 34, 0. Changes the reported bytes of out, on 0 only. */
+WALNUT_MUST_USE walnut_written walnut_to_y(const uint8_t *word, size_t n, const uint8_t *parts, size_t pn,
+                                           uint8_t *out, size_t len);
+
+/* Turns a word file from Y to Artin generators, for parts of 7, one part to a byte, and writes the Artin word without
+   free reduction. Answers: 15, 9, 10, 11, 12, 13, 33, 34, 0. Changes the reported bytes of out, on 0 only. */
+WALNUT_MUST_USE walnut_written walnut_from_y(const uint8_t *word, size_t n, const uint8_t *parts, size_t pn,
+                                             uint8_t *out, size_t len);
+
+/* Replaces the two letters at a place of a Y word, for parts 4 and 3, by the first relation of source 000's Appendix A
+   that holds them, and writes the new Y word without free reduction. The place counts letters from 0. If no relation
+   holds the two letters, it writes the word itself. Answers: 15, 9, 10, 11, 12, 13, 22, 34, 0. Changes the reported
+   bytes of out, on 0 only. */
+WALNUT_MUST_USE walnut_written walnut_replace_pair(const uint8_t *word, size_t n, size_t place, uint8_t *out,
+                                                   size_t len);
 
 /* Makes the moves of a list on a word file, one after another, and writes the word that they leave. Answers: 15, 9, 10,
    11, 12, 13, 18, 19, 20, then move by move 21, 22, 23, 24, or 0. Changes the reported bytes of out, on 0 only. */

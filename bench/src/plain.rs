@@ -631,6 +631,46 @@ pub fn restore(stored: &[u8], out: &mut [u8]) -> Result<usize, u8> {
     Ok(write_codes(&codes, out))
 }
 
+/// The runs of the sixteen codes in the other dialect, for parts of 7.
+fn runs(to_y: bool, parts: &[u8]) -> Result<[Vec<u8>; 16], u8> {
+    let sum: usize = parts.iter().map(|part| usize::from(*part)).sum();
+    if sum != 7 || parts.contains(&0) {
+        return Err(33);
+    }
+    let mut runs: [Vec<u8>; 16] = Default::default();
+    let (mut part, mut end) = (0, parts[0]);
+    for g in 0..7 {
+        if g == end {
+            part += 1;
+            end += parts[part];
+        }
+        runs[usize::from(g)] = match to_y {
+            true if g + 1 < end => vec![g, (g + 1) | 8],
+            true => vec![g],
+            false => (g..end).collect(),
+        };
+        runs[usize::from(g) + 8] = runs[usize::from(g)].iter().rev().map(|code| code ^ 8).collect();
+    }
+    Ok(runs)
+}
+
+/// A word turned into the other dialect, letter by letter.
+pub fn convert(to_y: bool, word: &[u8], parts: &[u8], out: &mut [u8]) -> Result<usize, u8> {
+    if out.len() < WORD_BYTES {
+        return Err(15);
+    }
+    let letters = read_word(word)?;
+    let runs = runs(to_y, parts)?;
+    let mut codes = Vec::with_capacity(LETTERS);
+    for code in letters {
+        codes.extend_from_slice(&runs[usize::from(code)]);
+        if codes.len() > LETTERS {
+            return Err(34);
+        }
+    }
+    Ok(write_codes(&codes, out))
+}
+
 /// How often two labels cross: one walk counts all pairs, by the label at a letter's place and the next.
 pub fn crossings(word: &[u8], a: u8, b: u8) -> Result<i32, u8> {
     let letters = read_word(word)?;

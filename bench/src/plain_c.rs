@@ -44,6 +44,15 @@ extern "C" {
     ) -> usize;
     fn plain_store(word: *const u8, n: usize, out: *mut u8, len: usize) -> usize;
     fn plain_restore(stored: *const u8, n: usize, out: *mut u8, len: usize) -> usize;
+    fn plain_convert(
+        to_y: bool,
+        word: *const u8,
+        wn: usize,
+        parts: *const u8,
+        pn: usize,
+        out: *mut u8,
+        len: usize,
+    ) -> usize;
     fn plain_crossings(word: *const u8, wn: usize, a: u8, b: u8) -> i32;
     fn plain_words_ending(length: usize, labels: *const u8, n: usize) -> u32;
 }
@@ -132,4 +141,10 @@ pub fn restore(stored: &[u8], out: &mut [u8]) -> usize {
 pub fn words_ending(length: usize, labels: &[u8]) -> u32 {
     // SAFETY: see above.
     unsafe { plain_words_ending(length, labels.as_ptr(), labels.len()) }
+}
+
+pub fn convert(to_y: bool, word: &[u8], parts: &[u8], out: &mut [u8]) -> usize {
+    let (list, count) = (parts.as_ptr(), parts.len());
+    // SAFETY: see above.
+    unsafe { plain_convert(to_y, word.as_ptr(), word.len(), list, count, out.as_mut_ptr(), out.len()) }
 }

@@ -22,6 +22,9 @@ const fn typical(field: Field) -> usize {
     }
 }
 
+/// The parts of 7 for conversions.
+const PARTS: [u8; 2] = [4, 3];
+
 /// The letters of the longest word.
 const LONGEST: usize = 10_000;
 
@@ -84,6 +87,11 @@ pub enum Work {
     },
     Restoring {
         stored: Vec<u8>,
+    },
+    /// A word turned into the other dialect, for parts 4 and 3.
+    Converting {
+        to_y: bool,
+        word: Vec<u8>,
     },
     Keys(Vec<Vec<u8>>),
     Crossings {
@@ -266,6 +274,14 @@ impl Work {
             }
             (Work::Restoring { stored }, Who::Rust) => (0, plain::restore(stored, out).unwrap_or(0)),
             (Work::Restoring { stored }, Who::C) => (0, plain_c::restore(stored, out)),
+            (Work::Converting { to_y, word }, Who::Library) => {
+                let convert = if *to_y { walnut::to_y } else { walnut::from_y };
+                (0, convert(word, &PARTS, out).map_or(0, |written| written.len()))
+            }
+            (Work::Converting { to_y, word }, Who::Rust) => {
+                (0, plain::convert(*to_y, word, &PARTS, out).unwrap_or(0))
+            }
+            (Work::Converting { to_y, word }, Who::C) => (0, plain_c::convert(*to_y, word, &PARTS, out)),
             (Work::Keys(files), who) => (files.iter().map(|file| key_answer(file, who)).sum(), 0),
             (Work::Crossings { word }, _) => (crossings(who, word, 0, 1) as u32, 0),
             (Work::Spreading { length, labels }, _) => (words_ending(who, black_box(*length), labels), 0),
@@ -396,8 +412,13 @@ fn far_apart() -> Vec<u8> {
     word_file(&[vec![0; 5_000], [6, 14].repeat(2_500)].concat())
 }
 
+/// A word of so many letters to turn into the other dialect.
+fn converting(random: &mut Random, to_y: bool, letters: usize) -> Work {
+    Work::Converting { to_y, word: word_file(&random.word(letters)) }
+}
+
 /// How many cases there are.
-pub const CASES: usize = 28;
+pub const CASES: usize = 30;
 
 /// The case of a number, the same in every run.
 pub fn case(number: usize) -> Case {
@@ -433,7 +454,9 @@ pub fn case(number: usize) -> Case {
         24 => ("handles, eight signatures", 1, taking(vec![joined(8)], false)),
         25 => ("handles, tangled, 10,000", 1, taking(vec![word_file(&random.tangled_word(LONGEST))], false)),
         26 => ("handles far apart, 10,000", 1, taking(vec![far_apart()], false)),
-        _ => ("words of length 12 in a list", 1, Work::Spreading { length: 12, labels: [2, 3, 0, 1] }),
+        27 => ("words of length 12 in a list", 1, Work::Spreading { length: 12, labels: [2, 3, 0, 1] }),
+        28 => ("to Y, 1,283 letters", 1, converting(random, true, typical(small))),
+        _ => ("from Y, 1,283 letters", 1, converting(random, false, typical(small))),
     };
     Case { name, parts, work }
 }

@@ -163,7 +163,7 @@ static int keys(uint8_t key[WALNUT_KEY_BYTES])
     return 0;
 }
 
-/* Moves, free reduction, stored forms and digests. */
+/* Moves, free reduction, stored forms, the Y dialect and digests. */
 static int moves(void)
 {
     const uint8_t three[4] = {0x00, 0x03, 0x01, 0x00}, turn[5] = {0, 1, 0, 0, 3};
@@ -188,6 +188,18 @@ static int moves(void)
     print_hex("00 07 09 23 C5 E0 stored is", shelf, written.bytes);
     written = walnut_restore(shelf, written.bytes, out, sizeof out);
     print_hex("restored it is", out, written.bytes);
+    const uint8_t parts[2] = {4, 3}, fours[2] = {4, 4}, near[3] = {0x00, 0x02, 0x01}, third[3] = {0x00, 0x01, 0xA0};
+    const uint8_t pair[3] = {0x00, 0x02, 0x6B}, none[2] = {0, 0};
+    written = walnut_to_y(near, sizeof near, parts, sizeof parts, out, sizeof out);
+    print_hex("00 02 01 in Y letters for parts 4 and 3 is", out, written.bytes);
+    written = walnut_from_y(third, sizeof third, parts, sizeof parts, out, sizeof out);
+    print_hex("00 01 A0 in Artin letters for parts 4 and 3 is", out, written.bytes);
+    written = walnut_to_y(none, sizeof none, fours, sizeof fours, out, sizeof out);
+    printf("with parts 4 and 4: answer %u\n", written.answer);
+    written = walnut_replace_pair(pair, sizeof pair, 0, out, sizeof out);
+    print_hex("the pair at place 0 of 00 02 6B becomes", out, written.bytes);
+    written = walnut_replace_pair(pair, sizeof pair, 1, out, sizeof out);
+    printf("the pair at place 1: answer %u\n", written.answer);
     uint8_t sixes[WALNUT_DIGEST_BYTES];
     memset(sixes, 0x66, sizeof sixes);
     if (walnut_encode_digest(sixes, sizeof sixes, out, sizeof out).bytes != 2 + 64 * 6)

@@ -81,6 +81,14 @@ print("00 05 01 09 80 shortened is", text(walnut.shorten(bytes.fromhex("00 05 01
 stored = walnut.store(bytes.fromhex("00 07 09 23 C5 E0"))
 print("00 07 09 23 C5 E0 stored is", text(stored))
 print("restored it is", text(walnut.restore(stored)))
+parts = [4, 3]
+y_word = walnut.to_y(bytes.fromhex("00 02 01"), parts)
+print("00 02 01 in Y letters for parts 4 and 3 is", text(y_word))
+print("00 01 A0 in Artin letters for parts 4 and 3 is", text(walnut.from_y(bytes.fromhex("00 01 A0"), parts)))
+print("with parts 4 and 4: answer", answer_of(walnut.to_y, bytes(2), [4, 4]))
+pair = bytes.fromhex("00 02 6B")
+print("the pair at place 0 of 00 02 6B becomes", text(walnut.replace_pair(pair, 0)))
+print("the pair at place 1: answer", answer_of(walnut.replace_pair, pair, 1))
 print("half byte 6 gives", text(walnut.encode_digest([0x66] * 32)[2:8]))
 
 word = walnut.write_word("b1 b2 b3 b2^-1 b1^-1")

@@ -230,6 +230,28 @@ class Handles(Case):
         self.refused(11, walnut.shorter, one, bytes((0, 1)))
 
 
+class Dialect(Case):
+    def test_conversions(self):
+        word, parts = bytes.fromhex("00 02 01"), [4, 3]
+        # b1 b2 is y1 y2^-1 y2 y3^-1
+        self.assertEqual(walnut.to_y(word, parts), bytes.fromhex("00 04 09 1A"))
+        # y1 y2 is b1 b2 b3 b4 b2 b3 b4
+        self.assertEqual(walnut.from_y(word, bytes(parts)), bytes.fromhex("00 07 01 23 12 30"))
+        self.assertEqual(walnut.free_reduce(walnut.from_y(walnut.to_y(word, parts), parts)), word)
+        for parts in ((), (4, 0, 3), (4, 4), (255, 8)):
+            self.refused(33, walnut.to_y, word, parts)
+            self.refused(33, walnut.from_y, word, parts)
+        self.refused(34, walnut.to_y, walnut.write_word([0] * 5001), [4, 3])
+        self.raised(TypeError, "parts: bytes are needed", walnut.to_y, word, "43")
+
+    def test_pairs(self):
+        pair = bytes.fromhex("00 02 6B")
+        self.assertEqual(walnut.replace_pair(pair, 0), bytes.fromhex("00 02 B6"))
+        for place in (1, 2, 10000, 2**64, 2**70):
+            self.refused(22, walnut.replace_pair, pair, place)
+        self.raised(ValueError, "place: -1 is no place", walnut.replace_pair, pair, -1)
+
+
 class Moves(Case):
     def test_the_list_of_two_moves(self):
         moves, file = [(0, walnut.TURN), (3, walnut.REMOVE)], bytes([0, 2, 0, 0, 0, 3, 3, 1])

@@ -17,7 +17,7 @@ import operator
 import os
 from typing import Any, Iterable, List, Optional, Tuple, Union
 
-__version__ = "0.7.0"
+__version__ = "0.8.0"
 
 # walnut.h: begin; tools/interface writes these lines
 from ctypes import POINTER, Structure, c_bool, c_char_p, c_int32, c_size_t, c_uint16, c_uint32, c_uint8
@@ -144,6 +144,9 @@ _FUNCTIONS: Any = {
     "walnut_free_reduce": (_Written, c_char_p, c_size_t, POINTER(c_uint8), c_size_t),
     "walnut_store": (_Written, c_char_p, c_size_t, POINTER(c_uint8), c_size_t),
     "walnut_restore": (_Written, c_char_p, c_size_t, POINTER(c_uint8), c_size_t),
+    "walnut_to_y": (_Written, c_char_p, c_size_t, c_char_p, c_size_t, POINTER(c_uint8), c_size_t),
+    "walnut_from_y": (_Written, c_char_p, c_size_t, c_char_p, c_size_t, POINTER(c_uint8), c_size_t),
+    "walnut_replace_pair": (_Written, c_char_p, c_size_t, c_size_t, POINTER(c_uint8), c_size_t),
     "walnut_rewrite": (_Written, c_char_p, c_size_t, c_char_p, c_size_t, POINTER(c_uint8), c_size_t),
     "walnut_handle_reduce": (_Handles, c_char_p, c_size_t, c_uint16, POINTER(c_uint8), c_size_t),
     "walnut_shorter": (_Choice, c_char_p, c_size_t, c_char_p, c_size_t),
@@ -218,6 +221,8 @@ class Answer(enum.IntEnum):
     STORED_SIZES = 28
     STORED_BITS = 29
     HANDLES_FULL = 32
+    PARTS = 33
+    NEW_WORD_FULL = 34
     LENGTH_OR_LIST = 35
     # answers.txt: end
 
@@ -247,7 +252,7 @@ TEXTS = {
     19: "the move list states more than 4,096 moves",
     20: "the move list's length is not 2 + 3 times its number of moves",
     21: "a move's kind is unknown: kinds are 1, 2, 3, 16 to 22 and 24 to 30",
-    22: "a move reaches past the end of the word",
+    22: "a move, or a pair to replace, reaches past the end of the word",
     23: "the letters at the move's place do not match this kind of move",
     24: "an insertion would leave more than 10,000 letters",
     25: "the list to cloak for is not 8 bytes, 0 to 7 each once",
@@ -256,6 +261,8 @@ TEXTS = {
     28: "the stored form has fewer than 6 bytes, or its sizes disagree with its letters or length",
     29: "a generator of the stored form is 7, or its filler bits are not all zero",
     32: "a step that takes a handle out would leave more than 10,000 letters",
+    33: "the parts are empty, hold a zero or do not sum to 7",
+    34: "the new word would have more than 10,000 letters",
     35: "the length is over 12, or the list is not four labels, 0 to 3 each once",
     # answers.txt: end
 }
@@ -656,6 +663,26 @@ def store(word: Bytes) -> bytes:
 def restore(stored: Bytes) -> bytes:
     """The word file of a stored form."""
     return _word_written(_lib.walnut_restore, stored=stored)
+
+
+def to_y(word: Bytes, parts: Bytes) -> bytes:
+    """The Y word of an Artin word, for parts of 7, such as [4, 3]. Nothing is cancelled."""
+    return _word_written(_lib.walnut_to_y, word=word, parts=parts)
+
+
+def from_y(word: Bytes, parts: Bytes) -> bytes:
+    """The Artin word of a Y word, for parts of 7, such as [4, 3]. Nothing is cancelled."""
+    return _word_written(_lib.walnut_from_y, word=word, parts=parts)
+
+
+def replace_pair(word: Bytes, place: int) -> bytes:
+    """The Y word with the two letters at a place replaced, for parts 4 and 3, by the first relation of source 000's
+    Appendix A that holds them; the word itself if no relation holds them."""
+    # a place that the library cannot take is past the end, as any place past the last letter is
+    at = _whole(min(_index(place, "place"), LETTERS), LETTERS, "place", "place")
+    out = (c_uint8 * WORD_BYTES)()
+    written = _lib.walnut_replace_pair(*_slices(word=word), at, out, WORD_BYTES)
+    return _granted(written.answer, bytes(out[: written.bytes]))
 
 
 def rewrite(word: Bytes, moves: Union[bytes, bytearray, memoryview, Iterable[Move]]) -> bytes:

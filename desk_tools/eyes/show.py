@@ -23,16 +23,29 @@ def places(first, count):
 # ---- words
 
 
-def show_word(path):
+def show_word(path, dialect=None):
     codes, size = word(path)[1:]
-    print_letters(f"a word of {count(len(codes), 'letter')} in {size} bytes", codes)
+    told = f"{count(len(codes), 'letter')} in {size} bytes"
+    if dialect == "--y":
+        print_rows(f"a word of Y letters: {told}", codes, y_text)
+    else:
+        print_letters(f"a word of {told}", codes)
 
 
-def print_letters(told, codes):
+def y_text(code):
+    """A letter of the Y dialect. Which strands it crosses depends on the parts, which the file does not hold."""
+    return letter_text(code).replace("b", "y")
+
+
+def print_rows(told, codes, text):
     print(f"# {told}; each row begins with the place of its first letter")
     width = len(str(len(codes)))
     for place in range(0, len(codes), ROW):
-        print(f"{place:{width}}: " + " ".join(letter_text(code) for code in codes[place : place + ROW]))
+        print(f"{place:{width}}: " + " ".join(text(code) for code in codes[place : place + ROW]))
+
+
+def print_letters(told, codes):
+    print_rows(told, codes, letter_text)
     *_, positions = (pair.positions for pair in strands(codes))
     print(f"# strands 0 to 7 end at positions {numbers(positions)}; positions count from 1")
 

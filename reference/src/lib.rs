@@ -1,5 +1,5 @@
 //! A second, independent road to the operations of document 01 ("Loan-slip signatures: braid words, keys and
-//! moves") and of document 02's sections 1, 2, 4, 6, 7, 9 and 13, to run beside another implementation.
+//! moves") and of document 02's sections 1, 2, 4, 6, 7, 9, 11 and 13, to run beside another implementation.
 //!
 //! It is written for plainness, not speed, and takes another way wherever there is one:
 //!
@@ -21,6 +21,8 @@
 //! - how often two strands cross is found by following these two alone, without a list of labels ([`crossing`]);
 //! - how many words end in a list is counted by making every word of up to eight letters, and beyond that by powers of a
 //!   matrix ([`spread`]);
+//! - parts of 7 are the generators at which they end, and the relations of the Y dialect are signed numbers
+//!   ([`dialect`]);
 //! - the halves of a verdict work both sides out otherwise than the whole verdict: the target half byte by half byte,
 //!   and the signature's letters from the identity matrix ([`half`]);
 //! - the questions stand in lists, in the paper's order, and the answer is the number of the first one
@@ -39,6 +41,7 @@ pub mod bits;
 pub mod cloak;
 pub mod crossing;
 pub mod desk;
+pub mod dialect;
 pub mod digest;
 pub mod field;
 pub mod half;
@@ -59,6 +62,7 @@ pub mod word;
 
 pub use cloak::{cloaks, Cloak};
 pub use crossing::{crossings, Crossing};
+pub use dialect::{from_y, replace_pair, to_y};
 pub use digest::encode_digest;
 pub use field::{product, reciprocal, Element, Field};
 pub use half::{first_half, second_half, Half, Halved};

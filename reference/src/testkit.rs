@@ -1,10 +1,11 @@
 //! What tests need: a small generator of numbers and of what they are made of ([`Random`]), matrices with an inverse
 //! and without one ([`matrices`]), slips that the verdict accepts ([`slips`]), move lists that the rewriter accepts
-//! ([`walks`]), words that cloak ([`cloaks`]), and words to shorten ([`braids`]).
+//! ([`walks`]), words that cloak ([`cloaks`]), words to shorten ([`braids`]), and parts of a number ([`parts`]).
 
 pub mod braids;
 pub mod cloaks;
 pub mod matrices;
+pub mod parts;
 pub mod random;
 pub mod slips;
 pub mod walks;
@@ -12,6 +13,7 @@ pub mod walks;
 pub use braids::signatures;
 pub use cloaks::inserted;
 pub use matrices::inverse_matrix;
+pub use parts::compositions;
 pub use random::Random;
 pub use slips::{accepted_slip, Slip};
 pub use walks::{exponent_sum, move_list, Walk};

@@ -93,7 +93,7 @@ fn keys() -> Result<Vec<u8>, Refusal> {
     Ok(key)
 }
 
-/// Moves, free reduction, stored forms and digests.
+/// Moves, free reduction, stored forms, the Y dialect and digests.
 fn moves() -> Result<(), Refusal> {
     let mut out = [0; WORD_BYTES];
     let moved = walnut::rewrite(&[0, 3, 1, 0], &[0, 1, 0, 0, 3], &mut out)?;
@@ -109,6 +109,14 @@ fn moves() -> Result<(), Refusal> {
     let stored = walnut::store(&[0x00, 0x07, 0x09, 0x23, 0xC5, 0xE0], &mut shelf)?;
     println!("00 07 09 23 C5 E0 stored is {}", hex(stored));
     println!("restored it is {}", hex(walnut::restore(stored, &mut out)?));
+    let (parts, pair) = ([4, 3], [0x00, 0x02, 0x6B]);
+    let y_word = walnut::to_y(&[0x00, 0x02, 0x01], &parts, &mut out)?;
+    println!("00 02 01 in Y letters for parts 4 and 3 is {}", hex(y_word));
+    let artin = walnut::from_y(&[0x00, 0x01, 0xA0], &parts, &mut out)?;
+    println!("00 01 A0 in Artin letters for parts 4 and 3 is {}", hex(artin));
+    println!("with parts 4 and 4: answer {}", answer(walnut::to_y(&[0, 0], &[4, 4], &mut out)));
+    println!("the pair at place 0 of 00 02 6B becomes {}", hex(walnut::replace_pair(&pair, 0, &mut out)?));
+    println!("the pair at place 1: answer {}", answer(walnut::replace_pair(&pair, 1, &mut out)));
     println!("half byte 6 gives {}", hex(&walnut::encode_digest(&[0x66; DIGEST_BYTES], &mut out)?[2..8]));
     Ok(())
 }

@@ -131,6 +131,23 @@ extern "C" {
     pub fn walnut_free_reduce(word: *const u8, n: usize, out: *mut u8, len: usize) -> Written;
     pub fn walnut_store(word: *const u8, n: usize, out: *mut u8, len: usize) -> Written;
     pub fn walnut_restore(stored: *const u8, n: usize, out: *mut u8, len: usize) -> Written;
+    pub fn walnut_to_y(
+        word: *const u8,
+        n: usize,
+        parts: *const u8,
+        pn: usize,
+        out: *mut u8,
+        len: usize,
+    ) -> Written;
+    pub fn walnut_from_y(
+        word: *const u8,
+        n: usize,
+        parts: *const u8,
+        pn: usize,
+        out: *mut u8,
+        len: usize,
+    ) -> Written;
+    pub fn walnut_replace_pair(word: *const u8, n: usize, place: usize, out: *mut u8, len: usize) -> Written;
     pub fn walnut_rewrite(
         word: *const u8,
         n: usize,

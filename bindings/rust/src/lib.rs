@@ -220,6 +220,33 @@ pub fn restore<'a>(stored: &[u8], out: &'a mut [u8]) -> Result<&'a mut [u8], Ref
     written(file, out)
 }
 
+/// Turns a word file from Artin to Y generators, for parts of 7; gives the part of the output that holds the Y word.
+/// Nothing is cancelled.
+pub fn to_y<'a>(word: &[u8], parts: &[u8], out: &'a mut [u8]) -> Result<&'a mut [u8], Refusal> {
+    let (list, len) = (parts.as_ptr(), parts.len());
+    // SAFETY: see above.
+    let file = unsafe { walnut_to_y(word.as_ptr(), word.len(), list, len, out.as_mut_ptr(), out.len()) };
+    written(file, out)
+}
+
+/// Turns a word file from Y to Artin generators, for parts of 7; gives the part of the output that holds the Artin
+/// word. Nothing is cancelled.
+pub fn from_y<'a>(word: &[u8], parts: &[u8], out: &'a mut [u8]) -> Result<&'a mut [u8], Refusal> {
+    let (list, len) = (parts.as_ptr(), parts.len());
+    // SAFETY: see above.
+    let file = unsafe { walnut_from_y(word.as_ptr(), word.len(), list, len, out.as_mut_ptr(), out.len()) };
+    written(file, out)
+}
+
+/// Replaces the two letters at a place of a Y word, for parts 4 and 3, by the first relation of source 000's Appendix A
+/// that holds them; gives the part of the output that holds the new Y word. If no relation holds them, that is the word
+/// itself.
+pub fn replace_pair<'a>(word: &[u8], place: usize, out: &'a mut [u8]) -> Result<&'a mut [u8], Refusal> {
+    // SAFETY: see above.
+    let file = unsafe { walnut_replace_pair(word.as_ptr(), word.len(), place, out.as_mut_ptr(), out.len()) };
+    written(file, out)
+}
+
 /// Makes the moves of a list on a word file; gives the part of the output that holds the new word. [`Moves`] makes the
 /// list's file.
 pub fn rewrite<'a>(word: &[u8], moves: &[u8], out: &'a mut [u8]) -> Result<&'a mut [u8], Refusal> {

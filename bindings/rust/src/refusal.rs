@@ -28,7 +28,7 @@ fn text(number: u8) -> &'static str {
         19 => "the move list states more than 4,096 moves",
         20 => "the move list's length is not 2 + 3 times its number of moves",
         21 => "a move's kind is unknown: kinds are 1, 2, 3, 16 to 22 and 24 to 30",
-        22 => "a move reaches past the end of the word",
+        22 => "a move, or a pair to replace, reaches past the end of the word",
         23 => "the letters at the move's place do not match this kind of move",
         24 => "an insertion would leave more than 10,000 letters",
         25 => "the list to cloak for is not 8 bytes, 0 to 7 each once",
@@ -37,6 +37,8 @@ fn text(number: u8) -> &'static str {
         28 => "the stored form has fewer than 6 bytes, or its sizes disagree with its letters or length",
         29 => "a generator of the stored form is 7, or its filler bits are not all zero",
         32 => "a step that takes a handle out would leave more than 10,000 letters",
+        33 => "the parts are empty, hold a zero or do not sum to 7",
+        34 => "the new word would have more than 10,000 letters",
         35 => "the length is over 12, or the list is not four labels, 0 to 3 each once",
         // answers.txt: end
         _ => "an answer that this binding does not know",
@@ -92,7 +94,7 @@ impl Refusal {
     pub const MOVES_LENGTH: Refusal = Refusal(20);
     /// A move's kind is unknown: kinds are 1, 2, 3, 16 to 22 and 24 to 30.
     pub const NO_KIND: Refusal = Refusal(21);
-    /// A move reaches past the end of the word.
+    /// A move, or a pair to replace, reaches past the end of the word.
     pub const PAST_THE_END: Refusal = Refusal(22);
     /// The letters at the move's place do not match this kind of move.
     pub const NOT_THE_SHAPE: Refusal = Refusal(23);
@@ -110,6 +112,10 @@ impl Refusal {
     pub const STORED_BITS: Refusal = Refusal(29);
     /// A step that takes a handle out would leave more than 10,000 letters.
     pub const HANDLES_FULL: Refusal = Refusal(32);
+    /// The parts are empty, hold a zero or do not sum to 7.
+    pub const PARTS: Refusal = Refusal(33);
+    /// The new word would have more than 10,000 letters.
+    pub const NEW_WORD_FULL: Refusal = Refusal(34);
     /// The length is over 12, or the list is not four labels, 0 to 3 each once.
     pub const LENGTH_OR_LIST: Refusal = Refusal(35);
     // answers.txt: end

@@ -225,6 +225,26 @@ fn handles_and_the_shorter_word() {
 }
 
 #[test]
+fn the_y_dialect() {
+    let (mut out, mut back) = ([0; WORD_BYTES], [0; WORD_BYTES]);
+    let (word, parts) = ([0x00, 0x02, 0x01], [4, 3]);
+    // b1 b2 is y1 y2⁻¹ y2 y3⁻¹
+    let y_word = walnut::to_y(&word, &parts, &mut out).unwrap();
+    assert_eq!(y_word, [0x00, 0x04, 0x09, 0x1A]);
+    let artin = walnut::from_y(y_word, &parts, &mut back).unwrap();
+    assert_eq!(walnut::free_reduce(artin, &mut out), Ok(&mut [0x00, 0x02, 0x01][..]));
+    for parts in [&[][..], &[4, 0, 3], &[4, 4], &[255, 8]] {
+        assert_eq!(walnut::to_y(&word, parts, &mut out), Err(Refusal::PARTS));
+        assert_eq!(walnut::from_y(&word, parts, &mut out), Err(Refusal::PARTS));
+    }
+    let pair = [0x00, 0x02, 0x6B];
+    assert_eq!(walnut::replace_pair(&pair, 0, &mut out), Ok(&mut [0x00, 0x02, 0xB6][..]));
+    for place in [1, 2, usize::MAX] {
+        assert_eq!(walnut::replace_pair(&pair, place, &mut out), Err(Refusal::PAST_THE_END));
+    }
+}
+
+#[test]
 fn moves_by_a_builder() {
     let moves = Moves::new().turn(0).remove(3);
     assert_eq!(moves.file(), [0, 2, 0, 0, 0, 3, 3, 1]);

@@ -231,6 +231,18 @@ fn restore() {
     end(made, text::part(&form, 0, n), 4, true, true, false);
 }
 
+// Turns a word into the other dialect, to Y if `way` is true: a name beside the new file, the word, the parts of 7, the
+// new word. Parts that are longer than the buffer count as empty.
+fn convert(way: bool) {
+    let mut word = [0u8; desk_line::WORD_ROOM];
+    let w = desk_io::file(3, &mut word);
+    let mut argument = io::buffer();
+    let m = os::arg(4, &mut argument);
+    let made = desk_dialect::convert(way, &argument[..m], &word, w);
+    let n = w.bytes;
+    end(made, text::part(&word, 0, n), 5, true, false, false);
+}
+
 // The program: its verb, and the number of names that this verb takes. Of many slips each has three.
 pub fn new_word() {
     let mut name = io::buffer();
@@ -250,9 +262,13 @@ pub fn new_word() {
         store();
     } else if base::equal(verb, b"restore") && n == 5 {
         restore();
+    } else if base::equal(verb, b"to-y") && n == 6 {
+        convert(true);
+    } else if base::equal(verb, b"from-y") && n == 6 {
+        convert(false);
     } else {
         desk_io::misused(
-            b"new_word takes a verb and, after a name beside the new file, the verb's files: shorten EFFORT KEY DIGEST SIGNATURE NEW, rewrite WORD MOVES NEW, reduce WORD NEW, handles WORD LIMIT NEW, store WORD NEW or restore STORED NEW\n",
+            b"new_word takes a verb and, after a name beside the new file, the verb's files: shorten EFFORT KEY DIGEST SIGNATURE NEW, rewrite WORD MOVES NEW, reduce WORD NEW, handles WORD LIMIT NEW, store WORD NEW, restore STORED NEW, to-y WORD PARTS NEW or from-y WORD PARTS NEW\n",
         );
     }
 }

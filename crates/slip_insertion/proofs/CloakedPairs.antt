@@ -33,7 +33,7 @@ module _ {F : Operations} (L : BinaryField F) (ts : List ℕ) where
       ∙ word-product w a (letterOn F ts c (pairOf m labels) .matrix) (swapped (generator c) labels) (l .1)
 
   -- the identity with a list comes back, so every matrix with that list does
-  pub every-matrix-back : (w : List ℕ) → Lettered w → (p : Pair) → GoodPair F p
+  every-matrix-back : (w : List ℕ) → Lettered w → (p : Pair) → GoodPair F p
       → wordOn F ts w (identityWith (p .labels)) ≡ identityWith (p .labels) → wordOn F ts w p ≡ p
   every-matrix-back w e p good back =
       let m : List ℕ = p .matrix in

@@ -213,7 +213,7 @@ module _ (key word : List ℕ) (k : keyAnswer key ≡ 0) (a : wordAnswer word �
 -- ---- cloaking words in cloaking words
 
 -- a word that cloaks for a list still does with a word inserted that cloaks for the list reached at its place
-pub cloak-in-cloak : (key labels word : List ℕ) → Cloaks key labels word 0 true → (i : Insertion)
+cloak-in-cloak : (key labels word : List ℕ) → Cloaks key labels word 0 true → (i : Insertion)
     → Cloaks key
     (wordOn (operations (keyField key)) (keyOf key .«t_values») (take (i .place) (codes word))
     (identityWith labels) .labels) (i .file) 0 true

@@ -16,6 +16,8 @@ ghost use Rattle.handle_reducer.specs.Reducing.{TookHandles};
 ghost use Rattle.walnut.specs.Exported.{keyFrom, halfFrom};
 ghost use Rattle.word_reduction.specs.Reducer.{WroteReduced};
 ghost use Rattle.word_stored.specs.Stored.{WroteStored, WroteRestored};
+ghost use Rattle.word_dialect.specs.Dialect.{toY, fromY, WroteConverted};
+ghost use Rattle.word_replacement.specs.Replacement.{ReplacedPair};
 ghost use Rattle.slip_digest.specs.Digest.{WroteEncoded};
 ghost use Rattle.word_crossing.specs.Crossings.{Crosses};
 ghost use Rattle.word_spread.specs.Spread.{Ends};
@@ -195,6 +197,38 @@ pub extern "C" fn walnut_restore(stored: &[u8], out: &mut [u8]) -> Written
     ensures { λ r. ⌜ WroteRestored (now (stored .entry)) (now (out .entry)) (now (out .exit)) (r .answer) (r .bytes) ⌝ }
 {
     word_restore::restore(stored, out)
+}
+
+#[no_mangle]
+pub extern "C" fn walnut_to_y(word: &[u8], parts: &[u8], out: &mut [u8]) -> Written
+    ensures { λ r.
+        ⌜
+        WroteConverted toY (now (word .entry)) (now (parts .entry)) (now (out .entry)) (now (out .exit))
+        (r .answer) (r .bytes)
+        ⌝ }
+{
+    word_dialect::to_y(word, parts, out)
+}
+
+#[no_mangle]
+pub extern "C" fn walnut_from_y(word: &[u8], parts: &[u8], out: &mut [u8]) -> Written
+    ensures { λ r.
+        ⌜
+        WroteConverted fromY (now (word .entry)) (now (parts .entry)) (now (out .entry)) (now (out .exit))
+        (r .answer) (r .bytes)
+        ⌝ }
+{
+    word_dialect::from_y(word, parts, out)
+}
+
+#[no_mangle]
+pub extern "C" fn walnut_replace_pair(word: &[u8], place: usize, out: &mut [u8]) -> Written
+    ensures { λ r.
+        ⌜
+        ReplacedPair (now (word .entry)) place (now (out .entry)) (now (out .exit)) (r .answer) (r .bytes)
+        ⌝ }
+{
+    word_replacement::replace_pair(word, place, out)
 }
 
 #[no_mangle]

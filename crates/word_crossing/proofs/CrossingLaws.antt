@@ -37,7 +37,7 @@ swapping-exchanged a b (c ∷ w) labels =
     (swapping-exchanged a b w (swapped (generator c) labels))
 
 -- the number is symmetric in the two labels
-pub crossings-symmetric : (labels : List ℕ) (a b : ℕ) (w : List ℕ)
+crossings-symmetric : (labels : List ℕ) (a b : ℕ) (w : List ℕ)
     → crossingsFrom labels b a w ≡ crossingsFrom labels a b w
 unfolding crossingsFrom
 crossings-symmetric labels a b w = ap exponentSum (swapping-exchanged a b w labels)

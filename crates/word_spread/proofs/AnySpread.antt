@@ -61,7 +61,7 @@ module _ (f : Operation) (meets : Meets f) where
     pub counts : f n labels .words ≡ ending n labels
     counts = meets n labels .words-is ∙ granted-zero (ending n labels) 0 (passed-35 n labels h four)
 
-    pub no-other-parity : (n + inversions labels) % 2 ≡ 1 → f n labels .words ≡ 0
+    no-other-parity : (n + inversions labels) % 2 ≡ 1 → f n labels .words ≡ 0
     no-other-parity odd = counts ∙ other-parity n labels four odd
 
   -- all together

@@ -25,7 +25,7 @@ placeIn [] a = 0
 placeIn (x ∷ l) a = cond (eqb x a) 0 (suc (placeIn l a))
 
 -- for each label its place
-abbrev pub inverseOf : List ℕ → List ℕ
+abbrev inverseOf : List ℕ → List ℕ
 inverseOf labels = map (placeIn labels) fourLabels
 
 -- ---- labels renamed
@@ -154,6 +154,6 @@ inverse-at (suc n) k h =
       by 2 (omega arith),
     )
 
-pub inverse-alike : (n : ℕ) (labels : List ℕ) → isFour labels ≡ true → ending n (inverseOf labels) ≡ ending n labels
+inverse-alike : (n : ℕ) (labels : List ℕ) → isFour labels ≡ true → ending n (inverseOf labels) ≡ ending n labels
 inverse-alike n labels f =
     rw (rank-at labels f) at (inverse-at n (rank labels) (rank-below labels f))

@@ -46,7 +46,7 @@ increasing-rules : every increasingRule (values (λ k. k) 23) ≡ true
 unfolding increasingRule every valuesFrom value
 increasing-rules = refl
 
-pub lists-increase : (k : ℕ) → k < 23 → value 10 (listAt k) < value 10 (listAt (suc k))
+lists-increase : (k : ℕ) → k < 23 → value 10 (listAt k) < value 10 (listAt (suc k))
 unfolding increasingRule
 lists-increase k h =
     rw (at-listed k, at-listed (suc k)) (ltb-true _ _ (every-values increasingRule (λ k. k) 23 increasing-rules k h))
@@ -189,7 +189,7 @@ module _ (k : ℕ) (h : k < 24) where
   unfolding fourRule
   list-ranked = rw (at-listed k) (eqb-true _ _ (and-right (isFour (getD listed k [])) _ four-rule))
 
-pub lists-differ : (j k : ℕ) → j < 24 → k < 24 → listAt j ≡ listAt k → j ≡ k
+lists-differ : (j k : ℕ) → j < 24 → k < 24 → listAt j ≡ listAt k → j ≡ k
 lists-differ j k h l e = sym (list-ranked j h) ∙ ap rank e ∙ list-ranked k l
 
 -- ---- the neighbours of a list

@@ -1,5 +1,6 @@
-//! The program `new_word`, on files, by its verbs: shorten, rewrite, reduce, handles, store and restore. The lines that
-//! it writes, and the new file, are those of the reference; on a refusal the file that was there is as it was.
+//! The program `new_word`, on files, by its verbs: shorten, rewrite, reduce, handles, store, restore, to-y and from-y.
+//! The lines that it writes, and the new file, are those of the reference; on a refusal the file that was there is as it
+//! was.
 
 use std::ffi::OsStr;
 use std::path::{Path, PathBuf};
@@ -9,16 +10,19 @@ use std::{env, fs, process};
 use reference::stored::{stored_letters, MOST_STORED};
 use reference::word::letters;
 use reference::{
-    free_reduce, handle_reduce, restore, rewrite, shorten, store, verify, Field, Handles, Written,
+    free_reduce, from_y, handle_reduce, restore, rewrite, shorten, store, to_y, verify, Field, Handles,
+    Written,
 };
 
 use crate::make::{files, Maker, Size};
 use crate::operation::Op;
 use crate::operations::free_reduce::FreeReduce;
+use crate::operations::from_y::FromY;
 use crate::operations::handle_reduce::HandleReduce;
 use crate::operations::restore::Restore;
 use crate::operations::rewrite::Rewrite;
 use crate::operations::store::Store;
+use crate::operations::to_y::ToY;
 use crate::operations::verify::Verify;
 use crate::programs::{ran, Checked, Counts};
 use crate::show;
@@ -40,8 +44,9 @@ struct Verb {
     operation: Op,
     fields: &'static [Field],
     word: usize,
-    /// How many of the parts are files. A part after these is a number of two bytes, passed in decimal.
+    /// How many of the parts are files. A part after these is passed as an argument, in such a text.
     files: usize,
+    argument: fn(&[u8]) -> String,
     /// How many letters the file has that is read, and how many the new one.
     letters: [fn(&[u8]) -> usize; 2],
     made: fn(&[Vec<u8>], &mut [u8]) -> Written,
@@ -60,7 +65,7 @@ fn of_stored(file: &[u8]) -> usize {
 
 const WORDS: [fn(&[u8]) -> usize; 2] = [of_word, of_word];
 
-const VERBS: [Verb; 6] = [
+const VERBS: [Verb; 8] = [
     Verb {
         name: "shorten",
         numbers: &["5"],
@@ -68,6 +73,7 @@ const VERBS: [Verb; 6] = [
         fields: &Field::BOTH,
         word: 2,
         files: 3,
+        argument: no_argument,
         letters: WORDS,
         made: shortened,
         more: |_| "",
@@ -79,6 +85,7 @@ const VERBS: [Verb; 6] = [
         fields: &[Field::Gf32],
         word: 0,
         files: 2,
+        argument: no_argument,
         letters: WORDS,
         made: |parts, out| rewrite(&parts[0], &parts[1], out),
         more: |_| "",
@@ -90,6 +97,7 @@ const VERBS: [Verb; 6] = [
         fields: &[Field::Gf32],
         word: 0,
         files: 1,
+        argument: no_argument,
         letters: WORDS,
         made: |parts, out| free_reduce(&parts[0], out),
         more: |_| "",
@@ -101,6 +109,7 @@ const VERBS: [Verb; 6] = [
         fields: &[Field::Gf32],
         word: 0,
         files: 1,
+        argument: |part| number(part).to_string(),
         letters: WORDS,
         made: |parts, out| {
             let Handles { answer, bytes, .. } = handles(parts, out);
@@ -118,6 +127,7 @@ const VERBS: [Verb; 6] = [
         fields: &[Field::Gf32],
         word: 0,
         files: 1,
+        argument: no_argument,
         letters: [of_word, of_stored],
         made: |parts, out| store(&parts[0], out),
         more: |_| "",
@@ -129,11 +139,46 @@ const VERBS: [Verb; 6] = [
         fields: &[Field::Gf32],
         word: 0,
         files: 1,
+        argument: no_argument,
         letters: [of_stored, of_word],
         made: |parts, out| restore(&parts[0], out),
         more: |_| "",
     },
+    Verb {
+        name: "to-y",
+        numbers: &[],
+        operation: &ToY,
+        fields: &[Field::Gf32],
+        word: 0,
+        files: 1,
+        argument: with_commas,
+        letters: WORDS,
+        made: |parts, out| to_y(&parts[0], &parts[1], out),
+        more: |_| "",
+    },
+    Verb {
+        name: "from-y",
+        numbers: &[],
+        operation: &FromY,
+        fields: &[Field::Gf32],
+        word: 0,
+        files: 1,
+        argument: with_commas,
+        letters: WORDS,
+        made: |parts, out| from_y(&parts[0], &parts[1], out),
+        more: |_| "",
+    },
 ];
+
+/// The text of a part that no verb passes as an argument.
+fn no_argument(_: &[u8]) -> String {
+    String::new()
+}
+
+/// The numbers of a part, with commas between.
+fn with_commas(part: &[u8]) -> String {
+    part.iter().map(u8::to_string).collect::<Vec<_>>().join(",")
+}
 
 /// The number in a part of two bytes.
 fn number(part: &[u8]) -> u16 {
@@ -186,7 +231,7 @@ impl Place {
         for (name, part) in ["first file", "-second", "third"].iter().zip(&parts[..verb.files]) {
             paths.push(self.put(name, part)?);
         }
-        paths.extend(parts[verb.files..].iter().map(|part| number(part).to_string().into()));
+        paths.extend(parts[verb.files..].iter().map(|part| (verb.argument)(part).into()));
         let new = self.put("the new word", BEFORE)?;
         let before = changed(&new)?;
         paths.push(new.clone());
@@ -260,7 +305,7 @@ fn all(place: &Place, verb: &Verb, field: Field, maker: &mut Maker) -> Checked<S
     counts.summary(&format!("{}{over}", verb.name), &answers)
 }
 
-/// Runs the six verbs: a line for each, and for each field where there are two.
+/// Runs the eight verbs: a line for each, and for each field where there are two.
 pub fn check(programs: &Path, maker: &mut Maker) -> Checked<Vec<String>> {
     let folder = env::temp_dir().join(format!("walnut words {}", process::id()));
     fs::create_dir_all(&folder).map_err(|error| format!("{}: {error}\n", folder.display()))?;

@@ -1,0 +1,2 @@
+pub mod ConvertingLaws
+pub mod TypedParts

@@ -1,0 +1,5 @@
+pub mod EntryRows
+pub mod EntryLaws
+pub mod ReplaceLaws
+pub mod ReplacementMeaning
+pub mod WrongPrograms
