@@ -1009,3 +1009,36 @@ size_t plain_convert(bool to_y, const uint8_t *word, size_t wn, const uint8_t *p
     }
     return write_codes(codes, at, out);
 }
+
+/* Key shelves: the slot of a publisher's key number, or null. */
+static uint8_t *slot_of(uint8_t *shelf, size_t publisher, size_t number)
+{
+    if ((publisher != 1 && publisher != 2) || number > 3)
+        return NULL;
+    return shelf + 129 * (4 * (publisher - 1) + number);
+}
+
+uint8_t plain_shelf_load(uint8_t *shelf, size_t publisher, size_t number, const uint8_t *file, size_t n)
+{
+    uint8_t *slot = slot_of(shelf, publisher, number);
+    if (slot == NULL)
+        return 30;
+    uint8_t answer = plain_read_key(file, n);
+    if (answer != 0)
+        return answer;
+    slot[0] = (uint8_t)n;
+    memcpy(slot + 1, file, n);
+    memset(slot + 1 + n, 0, 128 - n);
+    return 0;
+}
+
+uint8_t plain_shelf_judge(uint8_t *shelf, size_t publisher, size_t number, const uint8_t *digest, size_t dn,
+                          const uint8_t *word, size_t wn)
+{
+    uint8_t *slot = slot_of(shelf, publisher, number);
+    if (slot == NULL)
+        return 30;
+    if (slot[0] == 0)
+        return 31;
+    return plain_verify(slot + 1, slot[0] < 128 ? slot[0] : 128, digest, dn, word, wn);
+}

@@ -4,6 +4,9 @@
 # For each length of a key file: the length of its digest, and the number of elements of its field.
 declare -A digest_bytes=([83]=32 [128]=64) elements=([83]=32 [128]=256)
 
+# The bytes of a key shelf, and of each of its slots.
+shelf_bytes=1032 slot_bytes=129
+
 say() { printf '%s: %s\n' "$name" "$*" >&2; }
 
 # '1 letter', '2 letters'
@@ -51,6 +54,8 @@ is_word() { as_stated word_bytes "$1"; }
 is_moves() { as_stated moves_bytes "$1"; }
 is_stored() { as_stated stored_bytes "$1" && [ "$(first_two "$1" 2)" -eq "$(sign_bytes "$(first_two "$1")")" ]; }
 
+is_shelf() { local n; n=$(size "$1") && { [ "$n" -eq 0 ] || [ "$n" -eq "$shelf_bytes" ]; }; }
+
 # is_hex FILE: succeeds if the file holds hexadecimal text and nothing else.
 is_hex() {
     local n
@@ -91,12 +96,18 @@ about_key() {
     say "the key is '$2', $(count "$n" byte); ${fault}for more: ./walnut show key ${2@Q}"
 }
 
+# digest_told KEY-BYTES DIGEST: a refused digest, with a key of so many bytes.
+digest_told() {
+    local n
+    n=$(size "$2") || return 0
+    say "the digest is '$2', $(count "$n" byte); this key needs a digest of ${digest_bytes[$1]-$(digest_sizes)} bytes"
+}
+
 # about_digest KEY DIGEST: a refused digest.
 about_digest() {
-    local n k
-    n=$(size "$2") || return 0
+    local k
     k=$(size "$1") || k=0
-    say "the digest is '$2', $(count "$n" byte); this key needs a digest of ${digest_bytes[$k]-$(digest_sizes)} bytes"
+    digest_told "$k" "$2"
 }
 
 # about_length WHAT FILE THING BYTES: a file whose length is wrong. Its first two bytes state how many things it has.
@@ -231,6 +242,36 @@ about_stored_sizes() {
     say "the stored form is '$1', $n bytes; it states $(count "$letters" letter), $(first_two "$1" 2) bytes of signs and" \
         "$(first_two "$1" 4) of generators; so many letters need $(sign_bytes "$letters") and" \
         "$(generator_bytes "$letters"), and $(stored_bytes "$letters") bytes in all"
+}
+
+# ---- key shelves
+
+say_no_shelf() {
+    local n
+    n=$(size "$1") || n=0
+    say "'$1' is no key shelf: it has $(count "$n" byte), and a shelf has $shelf_bytes, or none if it is empty. Give the" \
+        "shelf's file, or the name of a new one"
+}
+
+# held_bytes SHELF PUBLISHER NUMBER: the length of the key that is held there.
+held_bytes() { od -An -tu1 -j$((slot_bytes * (4 * ($2 - 1) + $3))) -N1 -- "$1" | tr -d ' '; }
+
+# about_shelf ANSWER SHELF VERB PUBLISHER NUMBER FILE..: a refused call of a shelf.
+about_shelf() {
+    local answer=$1 shelf=$2 verb=$3 publisher=$4 number=$5
+    local more="for what it holds: ./walnut shelf ${2@Q} show"
+    shift 5
+    case $answer,$verb in
+        30,*) say "the publisher is '$publisher' and the key number is '$number'" ;;
+        31,*) say "the shelf is '$shelf', the publisher is $publisher and the key number is $number; $more" ;;
+        *,load) about_key "$answer" "$1" ;;
+        [1-7],* | 26,*) say "the key is damaged that '$shelf' holds for publisher $publisher under $number; $more" ;;
+        8,*) digest_told "$(held_bytes "$shelf" "$publisher" "$number")" "$1" ;;
+        9,* | 1[0-3],*) about_word "$answer" "$2" ;;
+        14,*) say "the shelf is '$shelf', the publisher is $publisher, the key number is $number, the digest is '$1' and" \
+            "the word is '$2'" ;;
+    esac
+    hex_hint "$@"
 }
 
 # A refused slip on standard input, if that is a file.

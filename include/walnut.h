@@ -69,6 +69,17 @@
  *
  * DIGEST. The hash of what is signed: 32 bytes with an 83-byte key, 64 with a 128-byte key. It is the hash itself, not
  * its hexadecimal text.
+ *
+ * SHELF. The keys of two publishers, numbered 1 and 2. Each publisher has its own key numbers, 0 to 3. A shelf has 1,032
+ * bytes: eight slots of 129 bytes, first the four of publisher 1. A slot has 1 byte for the length of the key file that
+ * it holds, 0 if it holds none, then the file, then zeros. All zeros are the empty shelf. Every content is a shelf: a
+ * length over 128 counts as 128, and a file that is no key gets the key's answers when it is judged by.
+ *
+ *     number 2 of publisher 2 begins at byte 129 * (4 * (2 - 1) + 2) = 774
+ *
+ * A shelf is plain bytes, without pointers. Copy it, and keep it in a file or in flash as it is. It belongs to one caller
+ * at a time: threads must not call with the same shelf at the same time. Its bytes are no secret. They are no protection
+ * either: whoever can write them can change the keys.
  */
 #ifndef WALNUT_H
 #define WALNUT_H
@@ -83,7 +94,7 @@ extern "C" {
 
 /* The version of this header and of its library. The first number is also the number after libwalnut.so. */
 #define WALNUT_VERSION_MAJOR 0
-#define WALNUT_VERSION_MINOR 8
+#define WALNUT_VERSION_MINOR 9
 #define WALNUT_VERSION_PATCH 0
 
 /* Marks a function whose result must be used. A compiler that knows the mark warns if a caller drops the result. */
@@ -126,6 +137,8 @@ enum walnut_answer {
     WALNUT_ANSWER_TWO_LABELS = 27,
     WALNUT_ANSWER_STORED_SIZES = 28,
     WALNUT_ANSWER_STORED_BITS = 29,
+    WALNUT_ANSWER_NO_SUCH_NUMBER = 30,
+    WALNUT_ANSWER_NO_KEY_HELD = 31,
     WALNUT_ANSWER_HANDLES_FULL = 32,
     WALNUT_ANSWER_PARTS = 33,
     WALNUT_ANSWER_NEW_WORD_FULL = 34,
@@ -168,6 +181,8 @@ static inline const char *walnut_text(uint8_t answer)
     case 27: return "a label is over 7, or both labels are equal";
     case 28: return "the stored form has fewer than 6 bytes, or its sizes disagree with its letters or length";
     case 29: return "a generator of the stored form is 7, or its filler bits are not all zero";
+    case 30: return "the publisher is not 1 or 2, or the key number is over 3";
+    case 31: return "the publisher holds no key under this number";
     case 32: return "a step that takes a handle out would leave more than 10,000 letters";
     case 33: return "the parts are empty, hold a zero or do not sum to 7";
     case 34: return "the new word would have more than 10,000 letters";
@@ -194,6 +209,7 @@ static inline const char *walnut_text(uint8_t answer)
 #define WALNUT_LETTERS 10000 /* the most letters of a word */
 #define WALNUT_MOVES 4096 /* the most moves of a list */
 #define WALNUT_SPREAD_LENGTH 12 /* the most letters of the words that walnut_words_ending counts */
+#define WALNUT_SHELF_BYTES 1032 /* bytes of a key shelf */
 #define WALNUT_STACK_BYTES 98304 /* bytes of stack that a call may take */
 
 /* An element of a field. On a refusal it is 0. */
@@ -251,6 +267,9 @@ typedef struct {
 
 /* A half. On a refusal its field is the one with 32 elements, and all its numbers are 0. */
 typedef struct { uint8_t answer; walnut_half half; } walnut_halved;
+
+/* The keys of two publishers, as FILES says. All zeros are the empty shelf. */
+typedef struct { uint8_t bytes[WALNUT_SHELF_BYTES]; } walnut_shelf;
 
 /* Multiplies two elements of the field that `large` names. Answers: 17, 0. Changes nothing. */
 WALNUT_MUST_USE walnut_element walnut_product(bool large, uint8_t a, uint8_t b);
@@ -368,6 +387,20 @@ WALNUT_MUST_USE walnut_crossing walnut_crossings(const uint8_t *word, size_t n, 
 /* Counts the words of a length, 0 to 12, over b1, b2, b3 and their inverses that end in a list, which is four labels, 0
    to 3 each once. The words are not reduced, and begin from the list 0 1 2 3. Answers: 35, 0. Changes nothing. */
 WALNUT_MUST_USE walnut_count walnut_words_ending(size_t length, const uint8_t *labels, size_t n);
+
+/* Loads a key file under a publisher's key number, in place of the key there. Answers: 30, 1 to 7, 26, 0. Changes the
+   number's slot of *shelf, on 0 only. */
+WALNUT_MUST_USE uint8_t walnut_shelf_load(walnut_shelf *shelf, size_t publisher, size_t number, const uint8_t *key,
+                                          size_t n);
+
+/* Clears a publisher's key number. A number that holds no key may be cleared too. Answers: 30, 0. Changes the number's
+   slot of *shelf, on 0 only. */
+WALNUT_MUST_USE uint8_t walnut_shelf_clear(walnut_shelf *shelf, size_t publisher, size_t number);
+
+/* Judges a slip by the key under a publisher's key number, as walnut_verify does with that key's file. Answers: 30, 31,
+   then 1 to 7 and 26 only for a slot that walnut_shelf_load did not make, 8 to 14, or 0 for yes. Changes nothing. */
+WALNUT_MUST_USE uint8_t walnut_shelf_judge(walnut_shelf *shelf, size_t publisher, size_t number, const uint8_t *digest,
+                                           size_t dn, const uint8_t *word, size_t wn);
 
 #ifdef __cplusplus
 }

@@ -711,3 +711,43 @@ pub fn words_ending(length: usize, labels: &[u8]) -> Result<u32, u8> {
     let place = 6 * a + 2 * (b - u8::from(a < b)) + u8::from(d < c);
     Ok(counts[usize::from(place)])
 }
+
+/// The bytes of a key shelf, and the slot of a publisher's key number.
+pub const SHELF_BYTES: usize = 1032;
+
+fn shelf_slot(publisher: usize, number: usize) -> Result<std::ops::Range<usize>, u8> {
+    if !(1..=2).contains(&publisher) || number > 3 {
+        return Err(30);
+    }
+    let at = 129 * (4 * (publisher - 1) + number);
+    Ok(at..at + 129)
+}
+
+pub fn shelf_load(
+    shelf: &mut [u8; SHELF_BYTES],
+    publisher: usize,
+    number: usize,
+    key: &[u8],
+) -> Result<(), u8> {
+    let slot = shelf_slot(publisher, number)?;
+    read(key)?;
+    let slot = &mut shelf[slot];
+    slot[0] = key.len() as u8;
+    slot[1..=key.len()].copy_from_slice(key);
+    slot[1 + key.len()..].fill(0);
+    Ok(())
+}
+
+pub fn shelf_judge(
+    shelf: &[u8; SHELF_BYTES],
+    publisher: usize,
+    number: usize,
+    digest: &[u8],
+    word: &[u8],
+) -> Result<(), u8> {
+    let slot = &shelf[shelf_slot(publisher, number)?];
+    match usize::from(slot[0]).min(128) {
+        0 => Err(31),
+        bytes => verify(&slot[1..=bytes], digest, word),
+    }
+}

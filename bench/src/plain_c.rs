@@ -1,5 +1,7 @@
 //! What `plain.c` has.
 
+use crate::plain::SHELF_BYTES;
+
 extern "C" {
     fn plain_tables();
     fn plain_read_key(file: *const u8, n: usize) -> u8;
@@ -55,6 +57,16 @@ extern "C" {
     ) -> usize;
     fn plain_crossings(word: *const u8, wn: usize, a: u8, b: u8) -> i32;
     fn plain_words_ending(length: usize, labels: *const u8, n: usize) -> u32;
+    fn plain_shelf_load(shelf: *mut u8, publisher: usize, number: usize, key: *const u8, n: usize) -> u8;
+    fn plain_shelf_judge(
+        shelf: *mut u8,
+        publisher: usize,
+        number: usize,
+        digest: *const u8,
+        dn: usize,
+        word: *const u8,
+        wn: usize,
+    ) -> u8;
 }
 
 // The pointers come from slices that live through the call, each with its own length; the tables are filled
@@ -147,4 +159,21 @@ pub fn convert(to_y: bool, word: &[u8], parts: &[u8], out: &mut [u8]) -> usize {
     let (list, count) = (parts.as_ptr(), parts.len());
     // SAFETY: see above.
     unsafe { plain_convert(to_y, word.as_ptr(), word.len(), list, count, out.as_mut_ptr(), out.len()) }
+}
+
+pub fn shelf_load(shelf: &mut [u8; SHELF_BYTES], publisher: usize, number: usize, key: &[u8]) -> u8 {
+    // SAFETY: see above.
+    unsafe { plain_shelf_load(shelf.as_mut_ptr(), publisher, number, key.as_ptr(), key.len()) }
+}
+
+pub fn shelf_judge(
+    shelf: &mut [u8; SHELF_BYTES],
+    publisher: usize,
+    number: usize,
+    digest: &[u8],
+    word: &[u8],
+) -> u8 {
+    let ((digest, dn), (word, wn)) = ((digest.as_ptr(), digest.len()), (word.as_ptr(), word.len()));
+    // SAFETY: see above.
+    unsafe { plain_shelf_judge(shelf.as_mut_ptr(), publisher, number, digest, dn, word, wn) }
 }

@@ -9,7 +9,7 @@ use reference::start;
 use reference::testkit::{accepted_slip, move_list, Random, Slip};
 use reference::word::{letters, word_file};
 use reference::Field;
-use walnut::{Refusal, STORED_BYTES};
+use walnut::{Refusal, Shelf, SHELF_BYTES, STORED_BYTES};
 
 use crate::{plain, plain_c};
 
@@ -97,6 +97,12 @@ pub enum Work {
     Crossings {
         word: Vec<u8>,
     },
+    /// A slip judged by a key of a shelf, and keys loaded into a shelf, one after another.
+    Judging {
+        shelf: [u8; SHELF_BYTES],
+        slip: Slip,
+    },
+    Loading(Vec<Vec<u8>>),
     /// The words of a length that end in a list.
     Spreading {
         length: usize,
@@ -215,6 +221,32 @@ fn handles(who: Who, word: &[u8], limit: u16, again: bool, out: &mut [u8]) -> (u
     }
 }
 
+/// The verdict on a slip by the key that a shelf holds for publisher 2 under number 1.
+fn judged(who: Who, mut bytes: [u8; SHELF_BYTES], slip: &Slip) -> u32 {
+    let Slip { digest, word, .. } = slip;
+    match who {
+        Who::Library => number(Shelf::from(bytes).judge(2, 1, digest, word).map_err(Refusal::number)),
+        Who::Rust => number(plain::shelf_judge(&bytes, 2, 1, digest, word)),
+        Who::C => u32::from(plain_c::shelf_judge(&mut bytes, 2, 1, digest, word)),
+    }
+}
+
+/// The sum of the answers to keys that are loaded, by both publishers and under all numbers in turn, and the shelf.
+fn loaded(who: Who, keys: &[Vec<u8>], out: &mut [u8]) -> (u32, usize) {
+    let mut bytes = [0; SHELF_BYTES];
+    let mut shelf = Shelf::empty();
+    let load = |(place, key): (usize, &Vec<u8>)| {
+        let (publisher, slot) = (place % 2 + 1, place / 2 % 4);
+        match who {
+            Who::Library => number(shelf.load(publisher, slot, key).map_err(Refusal::number)),
+            Who::Rust => number(plain::shelf_load(&mut bytes, publisher, slot, key)),
+            Who::C => u32::from(plain_c::shelf_load(&mut bytes, publisher, slot, key)),
+        }
+    };
+    let sum = keys.iter().enumerate().map(load).sum();
+    (sum, lay_out(if who == Who::Library { &shelf.bytes } else { &bytes }, out))
+}
+
 impl Work {
     /// Does the work once into an output of 5,006 bytes: its number, and how many bytes it wrote.
     pub fn run(&self, who: Who, out: &mut [u8]) -> (u32, usize) {
@@ -284,6 +316,8 @@ impl Work {
             (Work::Converting { to_y, word }, Who::C) => (0, plain_c::convert(*to_y, word, &PARTS, out)),
             (Work::Keys(files), who) => (files.iter().map(|file| key_answer(file, who)).sum(), 0),
             (Work::Crossings { word }, _) => (crossings(who, word, 0, 1) as u32, 0),
+            (Work::Judging { shelf, slip }, _) => (judged(who, *black_box(shelf), slip), 0),
+            (Work::Loading(keys), _) => loaded(who, keys, out),
             (Work::Spreading { length, labels }, _) => (words_ending(who, black_box(*length), labels), 0),
         }
     }
@@ -417,8 +451,22 @@ fn converting(random: &mut Random, to_y: bool, letters: usize) -> Work {
     Work::Converting { to_y, word: word_file(&random.word(letters)) }
 }
 
+/// An accepted slip of a typical word, and a shelf that holds its key.
+fn judging(random: &mut Random) -> Work {
+    let codes = random.word(typical(Field::Gf32));
+    let slip = accepted(random, Field::Gf32, &codes);
+    let mut shelf = [0; SHELF_BYTES];
+    assert_eq!(plain_c::shelf_load(&mut shelf, 2, 1, &slip.key), 0, "the key is accepted");
+    Work::Judging { shelf, slip }
+}
+
+/// Keys as keys are made, to be loaded.
+fn loading(random: &mut Random) -> Work {
+    Work::Loading((0..KEYS).map(|_| accepted(random, Field::Gf32, &[]).key).collect())
+}
+
 /// How many cases there are.
-pub const CASES: usize = 30;
+pub const CASES: usize = 32;
 
 /// The case of a number, the same in every run.
 pub fn case(number: usize) -> Case {
@@ -456,7 +504,9 @@ pub fn case(number: usize) -> Case {
         26 => ("handles far apart, 10,000", 1, taking(vec![far_apart()], false)),
         27 => ("words of length 12 in a list", 1, Work::Spreading { length: 12, labels: [2, 3, 0, 1] }),
         28 => ("to Y, 1,283 letters", 1, converting(random, true, typical(small))),
-        _ => ("from Y, 1,283 letters", 1, converting(random, false, typical(small))),
+        29 => ("from Y, 1,283 letters", 1, converting(random, false, typical(small))),
+        30 => ("verdict by a shelf, 1,283", 1, judging(random)),
+        _ => ("a key loaded into a shelf", KEYS, loading(random)),
     };
     Case { name, parts, work }
 }

@@ -1,5 +1,5 @@
-/* Worked slips: fields, words, pairs, keys, moves, crossings, spreading, cloaking and the verdict, whole and in halves, at
-   both strengths. */
+/* Worked slips: fields, words, pairs, keys, moves, crossings, spreading, cloaking, the verdict, whole and in halves, and
+   the key shelf, at both strengths. */
 #include <inttypes.h>
 #include <stdio.h>
 #include <string.h>
@@ -296,6 +296,25 @@ static int copies(const uint8_t key[WALNUT_KEY_BYTES])
     return 0;
 }
 
+/* The key shelf of two publishers. */
+static void shelves(const uint8_t key[WALNUT_KEY_BYTES])
+{
+    const uint8_t digest[WALNUT_DIGEST_BYTES] = {0};
+    uint8_t signature[66] = {0x00, 0x80};
+    memset(signature + 2, 0x66, 64);
+    walnut_shelf shelf = {{0}}, empty = shelf;
+    printf("publisher 1 loads the plain key under 0: answer %u\n",
+           walnut_shelf_load(&shelf, 1, 0, key, WALNUT_KEY_BYTES));
+    printf("its slip by this key: answer %u\n",
+           walnut_shelf_judge(&shelf, 1, 0, digest, sizeof digest, signature, sizeof signature));
+    printf("publisher 2 has none under 0: answer %u\n",
+           walnut_shelf_judge(&shelf, 2, 0, digest, sizeof digest, signature, sizeof signature));
+    printf("there is no number 4: answer %u\n", walnut_shelf_load(&shelf, 1, 4, key, WALNUT_KEY_BYTES));
+    print_hex("number 0 begins with", shelf.bytes, 4);
+    printf("publisher 1 clears 0: answer %u\n", walnut_shelf_clear(&shelf, 1, 0));
+    printf("the shelf is empty again: %s\n", memcmp(&shelf, &empty, sizeof shelf) == 0 ? "yes" : "no");
+}
+
 int main(void)
 {
     uint8_t key[WALNUT_KEY_BYTES];
@@ -306,5 +325,8 @@ int main(void)
     crossings();
     spreading();
     verdicts(key);
-    return copies(key) != 0 ? 1 : larger_field();
+    if (copies(key) != 0)
+        return 1;
+    shelves(key);
+    return larger_field();
 }

@@ -1,5 +1,5 @@
-"""Worked slips: fields, words, pairs, keys, moves, crossings, spreading, cloaking and the verdict, whole and in halves,
-at both strengths."""
+"""Worked slips: fields, words, pairs, keys, moves, crossings, spreading, cloaking, the verdict, whole and in halves, and
+the key shelf, at both strengths."""
 
 import walnut
 from walnut import GF32, GF256
@@ -130,6 +130,16 @@ print("00 00: answer", answer_of(walnut.second_half, half, bytes(2)))
 blank = walnut.Half(half.field, half.t_values, half.pair, bytes(64))
 print("a half with a target of zeros: answer", answer_of(walnut.second_half, blank, signature))
 print("a half of 31 zero bytes: answer", answer_of(walnut.first_half, key, bytes(31)))
+
+# the key shelf of two publishers
+shelf = walnut.Shelf()
+print("publisher 1 loads the plain key under 0: answer", answer_of(shelf.load, 1, 0, key))
+print("its slip by this key: answer", answer_of(shelf.judge, 1, 0, bytes(32), signature))
+print("publisher 2 has none under 0: answer", answer_of(shelf.judge, 2, 0, bytes(32), signature))
+print("there is no number 4: answer", answer_of(shelf.load, 1, 4, key))
+print("number 0 begins with", text(bytes(shelf)[:4]))
+print("publisher 1 clears 0: answer", answer_of(shelf.clear, 1, 0))
+print("the shelf is empty again:", yes_or_no(shelf == walnut.Shelf(bytes(walnut.SHELF_BYTES))))
 
 # the same over the field with 256 elements
 print("over 256 elements 128 x 2 =", walnut.product(GF256, 128, 2))

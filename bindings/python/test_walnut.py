@@ -10,7 +10,7 @@ import sys
 import unittest
 
 import walnut
-from walnut import GF32, GF256, Answer, Half, Key, Pair, Refusal
+from walnut import GF32, GF256, Answer, Half, Key, Pair, Refusal, Shelf
 
 T_VALUES = [1, 1, 2, 3, 4, 5, 6, 7]
 SEVEN = "b1 b2^-1 b3 b4 b5^-1 b6 b7^-1"
@@ -320,10 +320,43 @@ class Inputs(Case):
         self.raised(ValueError, "from 1 to 8", walnut.place, 0, 1)
 
 
+class Shelves(Case):
+    def test_publishers_are_apart(self):
+        shelf = Shelf()
+        self.assertEqual(bytes(shelf), bytes(walnut.SHELF_BYTES))
+        for field, publisher in ((GF32, 1), (GF256, 2)):
+            key, digest = plain_key(field), bytes(field.digest_bytes)
+            signature = (4 * len(digest)).to_bytes(2, "big") + bytes([0x66]) * (2 * len(digest))
+            self.refused(Answer.NO_KEY_HELD, shelf.judge, publisher, 3, digest, signature)
+            shelf.load(publisher, 3, key)
+            loaded = bytes(shelf)
+            shelf.judge(publisher, 3, digest, signature)
+            self.refused(Answer.MATRICES_DIFFER, shelf.judge, publisher, 3, digest, bytes(2))
+            self.refused(Answer.KEY_LENGTH, shelf.load, publisher, 3, key[1:])
+            for nobody, number in ((0, 3), (3, 3), (publisher, 4), (publisher, 2**70), (2**64 + 1, 3)):
+                self.refused(Answer.NO_SUCH_NUMBER, shelf.load, nobody, number, key)
+                self.refused(Answer.NO_SUCH_NUMBER, shelf.clear, nobody, number)
+                self.refused(Answer.NO_SUCH_NUMBER, shelf.judge, nobody, number, digest, signature)
+            self.assertEqual(bytes(shelf), loaded)
+            # slot 3 or 7, with 129 bytes each
+            at = 387 + 516 * (publisher - 1)
+            self.assertEqual(loaded[at : at + 1 + len(key)], bytes([len(key)]) + key)
+            self.assertEqual(Shelf(loaded), shelf)
+        for publisher in (1, 2, 1):
+            shelf.clear(publisher, 3)
+        self.assertEqual(shelf, Shelf())
+
+    def test_what_is_no_shelf(self):
+        self.raised(ValueError, "data: 1032 numbers are needed, not 1031", Shelf, bytes(1031))
+        self.raised(TypeError, "publisher: a whole number is needed, not str", Shelf().clear, "1", 0)
+        self.raised(ValueError, "number: -1 is no byte", Shelf().clear, 1, -1)
+        self.raised(TypeError, "key: bytes are needed", Shelf().load, 1, 0, "00")
+
+
 class Values(Case):
     def test_reprs_read_back(self):
         key = walnut.read_key(plain_key(GF256))
-        for value in (Pair.start(), key, walnut.first_half(plain_key(GF32), bytes(32)), GF32, Refusal(14)):
+        for value in (Pair.start(), key, walnut.first_half(plain_key(GF32), bytes(32)), GF32, Refusal(14), Shelf()):
             again = eval(repr(value), {"walnut": walnut})
             self.assertEqual(repr(again), repr(value))
         self.assertEqual(eval(repr(key), {"walnut": walnut}), key)
@@ -332,7 +365,7 @@ class Values(Case):
 
     def test_values_pickle(self):
         half = walnut.first_half(plain_key(GF256), bytes(64))
-        for value in (Pair.start(), walnut.read_key(plain_key(GF32)), half, GF256):
+        for value in (Pair.start(), walnut.read_key(plain_key(GF32)), half, GF256, Shelf()):
             self.assertEqual(pickle.loads(pickle.dumps(value)), value)
 
     def test_a_library_that_is_not_there(self):

@@ -17,7 +17,7 @@ import operator
 import os
 from typing import Any, Iterable, List, Optional, Tuple, Union
 
-__version__ = "0.8.0"
+__version__ = "0.9.0"
 
 # walnut.h: begin; tools/interface writes these lines
 from ctypes import POINTER, Structure, c_bool, c_char_p, c_int32, c_size_t, c_uint16, c_uint32, c_uint8
@@ -42,6 +42,8 @@ LETTERS = 10000
 MOVES = 4096
 # the most letters of the words that walnut_words_ending counts
 SPREAD_LENGTH = 12
+# bytes of a key shelf
+SHELF_BYTES = 1032
 # bytes of stack that a call may take
 STACK_BYTES = 98304
 
@@ -129,6 +131,12 @@ class _Halved(Structure):
     _fields_ = [("answer", c_uint8), ("half", _Half)]
 
 
+class _Shelf(Structure):
+    """The keys of two publishers, as FILES says. All zeros are the empty shelf."""
+
+    _fields_ = [("bytes", c_uint8 * 1032)]
+
+
 # of each exported function: what it gives, then what it takes
 _FUNCTIONS: Any = {
     "walnut_product": (_Element, c_bool, c_uint8, c_uint8),
@@ -157,6 +165,9 @@ _FUNCTIONS: Any = {
     "walnut_cloaks": (_Cloak, c_char_p, c_size_t, c_char_p, c_size_t, c_char_p, c_size_t),
     "walnut_crossings": (_Crossing, c_char_p, c_size_t, c_uint8, c_uint8),
     "walnut_words_ending": (_Count, c_size_t, c_char_p, c_size_t),
+    "walnut_shelf_load": (c_uint8, POINTER(_Shelf), c_size_t, c_size_t, c_char_p, c_size_t),
+    "walnut_shelf_clear": (c_uint8, POINTER(_Shelf), c_size_t, c_size_t),
+    "walnut_shelf_judge": (c_uint8, POINTER(_Shelf), c_size_t, c_size_t, c_char_p, c_size_t, c_char_p, c_size_t),
 }
 # walnut.h: end
 
@@ -220,6 +231,8 @@ class Answer(enum.IntEnum):
     TWO_LABELS = 27
     STORED_SIZES = 28
     STORED_BITS = 29
+    NO_SUCH_NUMBER = 30
+    NO_KEY_HELD = 31
     HANDLES_FULL = 32
     PARTS = 33
     NEW_WORD_FULL = 34
@@ -260,6 +273,8 @@ TEXTS = {
     27: "a label is over 7, or both labels are equal",
     28: "the stored form has fewer than 6 bytes, or its sizes disagree with its letters or length",
     29: "a generator of the stored form is 7, or its filler bits are not all zero",
+    30: "the publisher is not 1 or 2, or the key number is over 3",
+    31: "the publisher holds no key under this number",
     32: "a step that takes a handle out would leave more than 10,000 letters",
     33: "the parts are empty, hold a zero or do not sum to 7",
     34: "the new word would have more than 10,000 letters",
@@ -362,6 +377,12 @@ def _byte(number: int, name: str) -> int:
 def _label(number: int, name: str) -> int:
     """A label as the library takes it: one over 255 is too large, as 255 is, and the library says so in its turn."""
     return _byte(min(_index(number, name), 255), name)
+
+
+def _small(number: int, name: str) -> int:
+    """A publisher or a key number as the library takes it: one over 255 is too large, as 255 is, and the library says so
+    in its turn."""
+    return _label(number, name)
 
 
 def _large(field: Field) -> bool:
@@ -587,6 +608,47 @@ class Half:
 
     def __repr__(self) -> str:
         return f"walnut.Half({self.field!r}, {_shown(self.t_values)}, {self.pair!r}, {_shown(self.target)})"
+
+
+class Shelf:
+    """The key shelf of two publishers, numbered 1 and 2, each with key numbers 0 to 3. bytes(shelf) gives its bytes, and
+    Shelf(data) makes it from any such bytes; without them it is empty. Do not use one shelf from two threads at the
+    same time."""
+
+    def __init__(self, data: Optional[Bytes] = None) -> None:
+        self._bytes = bytes(SHELF_BYTES) if data is None else _fixed(data, SHELF_BYTES, "data")
+
+    def __bytes__(self) -> bytes:
+        return self._bytes
+
+    def load(self, publisher: int, number: int, key: Bytes) -> None:
+        """Loads a key file under a publisher's key number, in place of the key there. On a refusal nothing changes."""
+        self._call(_lib.walnut_shelf_load, publisher, number, key=key)
+
+    def clear(self, publisher: int, number: int) -> None:
+        """Clears a publisher's key number, which may be empty. On a refusal nothing changes."""
+        self._call(_lib.walnut_shelf_clear, publisher, number)
+
+    def judge(self, publisher: int, number: int, digest: Bytes, word: Bytes) -> None:
+        """Judges a slip by the key under a publisher's key number, as verify does with that key's file."""
+        self._call(_lib.walnut_shelf_judge, publisher, number, digest=digest, word=word)
+
+    def _call(self, function: Any, publisher: int, number: int, **parts: Bytes) -> None:
+        lent = _Shelf.from_buffer_copy(self._bytes)
+        numbers = [_small(publisher, "publisher"), _small(number, "number")]
+        answer = function(lent, *numbers, *_slices(**parts))
+        self._bytes = bytes(lent)
+        _granted(answer)
+
+    def __eq__(self, other: object) -> bool:
+        if not isinstance(other, Shelf):
+            return NotImplemented
+        return vars(self) == vars(other)
+
+    __hash__ = None  # type: ignore[assignment]
+
+    def __repr__(self) -> str:
+        return f"walnut.Shelf({_shown(self._bytes)})"
 
 
 def _shown(data: bytes) -> str:

@@ -1,5 +1,6 @@
-"""Prints words, stored forms, keys and move lists as text. For a refused file it prints the first question that fails, where in the
-file that is, and what stands there. For a move list that a word refuses, it prints which move fails."""
+"""Prints words, stored forms, keys, move lists and key shelves as text. For a refused file it prints the first question
+that fails, where in the file that is, and what stands there. For a move list that a word refuses, it prints which move
+fails."""
 
 import walnut
 
@@ -12,7 +13,8 @@ ROW = 10
 
 
 def main(what, *paths):
-    {"word": show_word, "stored": show_stored, "key": show_key, "moves": show_moves}[what](*paths)
+    shows = {"word": show_word, "stored": show_stored, "key": show_key, "moves": show_moves, "shelf": show_shelf}
+    shows[what](*paths)
 
 
 def places(first, count):
@@ -208,6 +210,32 @@ def no_inverses(at, file, parts, t_values, labels):
             zero = "" if any(entries) else "; it is zero"
             yield at + f"{places(*part)}: the matrix of {name} has no inverse{zero}"
             yield from table(bytes(entries))
+
+
+# ---- key shelves
+
+
+def show_shelf(path):
+    """A line for each key number. A damaged key is told with the answer that it gets."""
+    file, size = files.read(path, walnut.SHELF_BYTES)
+    if size not in (0, walnut.SHELF_BYTES):
+        told = f"it has {count(size, 'byte')}, and a shelf has {walnut.SHELF_BYTES}, or none if it is empty"
+        raise Refused(0, f"'{path}' is no key shelf: {told}")
+    shelf = bytes(walnut.Shelf(file)) if file else bytes(walnut.Shelf())
+    for place in range(8):
+        print(f"publisher {place // 4 + 1} number {place % 4}: {held(shelf[129 * place : 129 * place + 129])}")
+
+
+def held(slot):
+    """What a slot holds: the length of the key file, and then the file."""
+    file = slot[1 : 1 + slot[0]]
+    if not file:
+        return "no key"
+    try:
+        key = walnut.read_key(file)
+    except walnut.Refusal as refusal:
+        return f"a damaged key of {count(len(file), 'byte')}, answer {refusal.number}: load it again"
+    return f"a key of {len(file)} bytes, the field with {KeyParts(key.field).size} elements"
 
 
 # ---- move lists

@@ -1,5 +1,5 @@
 //! A second, independent road to the operations of document 01 ("Loan-slip signatures: braid words, keys and
-//! moves") and of document 02's sections 1, 2, 4, 6, 7, 9, 11 and 13, to run beside another implementation.
+//! moves") and of document 02's sections 1, 2, 4, 6, 7, 8, 9, 11 and 13, to run beside another implementation.
 //!
 //! It is written for plainness, not speed, and takes another way wherever there is one:
 //!
@@ -25,6 +25,7 @@
 //!   ([`dialect`]);
 //! - the halves of a verdict work both sides out otherwise than the whole verdict: the target half byte by half byte,
 //!   and the signature's letters from the identity matrix ([`half`]);
+//! - a key shelf is a map from publisher and key number to a slot, without any place in bytes ([`shelf`]);
 //! - the questions stand in lists, in the paper's order, and the answer is the number of the first one
 //!   answered no ([`questions`]).
 //!
@@ -53,6 +54,7 @@ pub mod pair;
 pub mod questions;
 pub mod reduce;
 pub mod rewrite;
+pub mod shelf;
 pub mod shortener;
 pub mod spread;
 pub mod stored;
@@ -72,6 +74,7 @@ pub use matrix::{matrix_product, Matrix};
 pub use pair::{multiply, start, Pair};
 pub use reduce::free_reduce;
 pub use rewrite::rewrite;
+pub use shelf::Shelf;
 pub use shortener::shorten;
 pub use spread::{words_ending, Count};
 pub use stored::{restore, store};

@@ -1,10 +1,10 @@
-//! Worked slips: fields, words, pairs, keys, moves, crossings, spreading, cloaking and the verdict, whole and in halves,
-//! at both strengths.
+//! Worked slips: fields, words, pairs, keys, moves, crossings, spreading, cloaking, the verdict, whole and in halves, and
+//! the key shelf, at both strengths.
 
 use std::error::Error;
 
 use walnut::Field::{self, Gf256, Gf32};
-use walnut::{Letter, Moves, Pair, Refusal, DIGEST_BYTES, STORED_BYTES, WORD_BYTES};
+use walnut::{Letter, Moves, Pair, Refusal, Shelf, DIGEST_BYTES, SHELF_BYTES, STORED_BYTES, WORD_BYTES};
 
 const T_VALUES: [u8; 8] = [1, 1, 2, 3, 4, 5, 6, 7];
 const ORDER: [u8; 8] = [0, 1, 2, 3, 4, 5, 6, 7];
@@ -190,6 +190,20 @@ fn copies(key: &[u8]) -> Result<(), Box<dyn Error>> {
     Ok(())
 }
 
+/// The key shelf of two publishers.
+fn shelves(key: &[u8]) {
+    let mut signature = vec![0x00, 0x80];
+    signature.resize(66, 0x66);
+    let (mut shelf, digest) = (Shelf::empty(), [0; DIGEST_BYTES]);
+    println!("publisher 1 loads the plain key under 0: answer {}", answer(shelf.load(1, 0, key)));
+    println!("its slip by this key: answer {}", answer(shelf.judge(1, 0, &digest, &signature)));
+    println!("publisher 2 has none under 0: answer {}", answer(shelf.judge(2, 0, &digest, &signature)));
+    println!("there is no number 4: answer {}", answer(shelf.load(1, 4, key)));
+    println!("number 0 begins with {}", hex(&shelf.bytes[..4]));
+    println!("publisher 1 clears 0: answer {}", answer(shelf.clear(1, 0)));
+    println!("the shelf is empty again: {}", yes_or_no(shelf == Shelf::from([0; SHELF_BYTES])));
+}
+
 /// The same over the field with 256 elements.
 fn larger_field() -> Result<(), Refusal> {
     println!("over 256 elements 128 x 2 = {}", walnut::product(Gf256, 128, 2)?);
@@ -232,6 +246,7 @@ fn main() -> Result<(), Box<dyn Error>> {
     spreading()?;
     verdicts(&key)?;
     copies(&key)?;
+    shelves(&key);
     larger_field()?;
     Ok(())
 }

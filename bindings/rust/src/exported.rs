@@ -109,6 +109,13 @@ pub struct Halved {
     pub half: Half,
 }
 
+/// The keys of two publishers, as FILES says. All zeros are the empty shelf.
+#[repr(C)]
+#[derive(Clone, Copy, Debug, PartialEq, Eq)]
+pub struct Shelf {
+    pub bytes: [u8; 1032],
+}
+
 extern "C" {
     pub fn walnut_product(large: bool, a: u8, b: u8) -> Element;
     pub fn walnut_reciprocal(large: bool, a: u8) -> Element;
@@ -179,4 +186,21 @@ extern "C" {
     ) -> Cloak;
     pub fn walnut_crossings(word: *const u8, n: usize, a: u8, b: u8) -> Crossing;
     pub fn walnut_words_ending(length: usize, labels: *const u8, n: usize) -> Count;
+    pub fn walnut_shelf_load(
+        shelf: *mut Shelf,
+        publisher: usize,
+        number: usize,
+        key: *const u8,
+        n: usize,
+    ) -> u8;
+    pub fn walnut_shelf_clear(shelf: *mut Shelf, publisher: usize, number: usize) -> u8;
+    pub fn walnut_shelf_judge(
+        shelf: *mut Shelf,
+        publisher: usize,
+        number: usize,
+        digest: *const u8,
+        dn: usize,
+        word: *const u8,
+        wn: usize,
+    ) -> u8;
 }

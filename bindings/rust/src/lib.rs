@@ -16,7 +16,7 @@ mod refusal;
 use exported::*;
 use refusal::granted;
 
-pub use exported::Pair;
+pub use exported::{Pair, Shelf};
 pub use letters::{codes, letters, Letter, Letters, NoLetter};
 pub use limits::*;
 pub use moves::{Move, Moves};
@@ -336,4 +336,55 @@ pub fn words_ending(length: usize, labels: &[u8]) -> Result<u32, Refusal> {
     // SAFETY: see above.
     let count = unsafe { walnut_words_ending(length, labels.as_ptr(), labels.len()) };
     granted(count.answer, count.words)
+}
+
+impl Shelf {
+    /// The empty shelf.
+    pub const fn empty() -> Shelf {
+        Shelf { bytes: [0; SHELF_BYTES] }
+    }
+
+    /// Loads a key file under a publisher's key number, in place of the key there. On a refusal the shelf is as it was.
+    pub fn load(&mut self, publisher: usize, number: usize, key: &[u8]) -> Result<(), Refusal> {
+        // SAFETY: see above.
+        granted(unsafe { walnut_shelf_load(self, publisher, number, key.as_ptr(), key.len()) }, ())
+    }
+
+    /// Clears a publisher's key number, which may be empty. On a refusal the shelf is as it was.
+    pub fn clear(&mut self, publisher: usize, number: usize) -> Result<(), Refusal> {
+        // SAFETY: see above.
+        granted(unsafe { walnut_shelf_clear(self, publisher, number) }, ())
+    }
+
+    /// Judges a slip by the key under a publisher's key number, as [`verify`] does with that key's file.
+    pub fn judge(
+        &mut self,
+        publisher: usize,
+        number: usize,
+        digest: &[u8],
+        word: &[u8],
+    ) -> Result<(), Refusal> {
+        let ((digest, dn), (word, wn)) = ((digest.as_ptr(), digest.len()), (word.as_ptr(), word.len()));
+        // SAFETY: see above.
+        granted(unsafe { walnut_shelf_judge(self, publisher, number, digest, dn, word, wn) }, ())
+    }
+}
+
+impl Default for Shelf {
+    fn default() -> Shelf {
+        Shelf::empty()
+    }
+}
+
+impl From<[u8; SHELF_BYTES]> for Shelf {
+    /// Any bytes are a shelf.
+    fn from(bytes: [u8; SHELF_BYTES]) -> Shelf {
+        Shelf { bytes }
+    }
+}
+
+impl From<Shelf> for [u8; SHELF_BYTES] {
+    fn from(shelf: Shelf) -> [u8; SHELF_BYTES] {
+        shelf.bytes
+    }
 }

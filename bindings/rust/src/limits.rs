@@ -20,5 +20,7 @@ pub const LETTERS: usize = 10000;
 pub const MOVES: usize = 4096;
 /// The most letters of the words that walnut_words_ending counts.
 pub const SPREAD_LENGTH: usize = 12;
+/// Bytes of a key shelf.
+pub const SHELF_BYTES: usize = 1032;
 /// Bytes of stack that a call may take.
 pub const STACK_BYTES: usize = 98304;

@@ -36,6 +36,8 @@ fn text(number: u8) -> &'static str {
         27 => "a label is over 7, or both labels are equal",
         28 => "the stored form has fewer than 6 bytes, or its sizes disagree with its letters or length",
         29 => "a generator of the stored form is 7, or its filler bits are not all zero",
+        30 => "the publisher is not 1 or 2, or the key number is over 3",
+        31 => "the publisher holds no key under this number",
         32 => "a step that takes a handle out would leave more than 10,000 letters",
         33 => "the parts are empty, hold a zero or do not sum to 7",
         34 => "the new word would have more than 10,000 letters",
@@ -110,6 +112,10 @@ impl Refusal {
     pub const STORED_SIZES: Refusal = Refusal(28);
     /// A generator of the stored form is 7, or its filler bits are not all zero.
     pub const STORED_BITS: Refusal = Refusal(29);
+    /// The publisher is not 1 or 2, or the key number is over 3.
+    pub const NO_SUCH_NUMBER: Refusal = Refusal(30);
+    /// The publisher holds no key under this number.
+    pub const NO_KEY_HELD: Refusal = Refusal(31);
     /// A step that takes a handle out would leave more than 10,000 letters.
     pub const HANDLES_FULL: Refusal = Refusal(32);
     /// The parts are empty, hold a zero or do not sum to 7.

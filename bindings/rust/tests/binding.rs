@@ -4,9 +4,9 @@
 use std::error::Error;
 
 use walnut::Field::{Gf256, Gf32};
-use walnut::{Letter, Move, Moves, NoLetter, Pair, Refusal};
+use walnut::{Letter, Move, Moves, NoLetter, Pair, Refusal, Shelf};
 use walnut::{DIGEST_BYTES, KEY_BYTES, LARGE_DIGEST_BYTES, LARGE_KEY_BYTES};
-use walnut::{LETTERS, MOVES, MOVES_BYTES, SPREAD_LENGTH, WORD_BYTES};
+use walnut::{LETTERS, MOVES, MOVES_BYTES, SHELF_BYTES, SPREAD_LENGTH, WORD_BYTES};
 
 const T_VALUES: [u8; 8] = [1, 1, 2, 3, 4, 5, 6, 7];
 const SEVEN: &str = "b1 b2^-1 b3 b4 b5^-1 b6 b7^-1";
@@ -242,6 +242,40 @@ fn the_y_dialect() {
     for place in [1, 2, usize::MAX] {
         assert_eq!(walnut::replace_pair(&pair, place, &mut out), Err(Refusal::PAST_THE_END));
     }
+}
+
+#[test]
+fn shelves_keep_publishers_apart() {
+    let mut shelf = Shelf::default();
+    assert_eq!(shelf.bytes, [0; SHELF_BYTES]);
+    for (field, publisher) in [(Gf32, 1), (Gf256, 2)] {
+        let (key, digest) = (plain_key(field), vec![0; field.digest_bytes()]);
+        let mut signature = u16::try_from(4 * digest.len()).unwrap().to_be_bytes().to_vec();
+        signature.extend(vec![0x66; 2 * digest.len()]);
+        assert_eq!(shelf.judge(publisher, 3, &digest, &signature), Err(Refusal::NO_KEY_HELD));
+        assert_eq!(shelf.load(publisher, 3, &key), Ok(()));
+        let loaded = shelf;
+        assert_eq!(shelf.judge(publisher, 3, &digest, &signature), Ok(()));
+        assert_eq!(shelf.judge(publisher, 3, &digest, &[0, 0]), Err(Refusal::MATRICES_DIFFER));
+        assert_eq!(shelf.load(publisher, 3, &key[1..]), Err(Refusal::KEY_LENGTH));
+        for (nobody, number) in [(0, 3), (3, 3), (publisher, 4), (publisher, usize::MAX)] {
+            assert_eq!(shelf.load(nobody, number, &key), Err(Refusal::NO_SUCH_NUMBER));
+            assert_eq!(shelf.clear(nobody, number), Err(Refusal::NO_SUCH_NUMBER));
+            assert_eq!(shelf.judge(nobody, number, &digest, &signature), Err(Refusal::NO_SUCH_NUMBER));
+        }
+        assert_eq!(shelf, loaded);
+        // slot 3 or 7, with 129 bytes each
+        let at = 387 + 516 * (publisher - 1);
+        assert_eq!(
+            (usize::from(shelf.bytes[at]), &shelf.bytes[at + 1..at + 1 + key.len()]),
+            (key.len(), &key[..])
+        );
+        assert_eq!(Shelf::from(<[u8; SHELF_BYTES]>::from(shelf)), shelf);
+    }
+    for publisher in [1, 2, 1] {
+        assert_eq!(shelf.clear(publisher, 3), Ok(()));
+    }
+    assert_eq!(shelf, Shelf::empty());
 }
 
 #[test]

@@ -28,7 +28,7 @@ use Rattle.desk_line.specs.Desk.{deskField, cutVerdict, deskVerdict, Eno
 -- ---- three files
 
 -- a key that is too long is 1
-long-key-answer : (key : List ℕ) → 128 < length key → keyAnswer key ≡ 1
+pub long-key-answer : (key : List ℕ) → 128 < length key → keyAnswer key ≡ 1
 unfolding keyAnswer
 long-key-answer key h =
     fails 1 _

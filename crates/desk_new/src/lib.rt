@@ -7,6 +7,10 @@ use desk_words::Made;
 ghost use Prim.Native.Nat.{_<_};
 ghost use Rattle.io.specs.Counts.{Counts};
 
+mod shelves; // shelves.rt: a key shelf in a file
+
+pub use shelves::key_shelf;
+
 // Writes the bytes to a new file. If it is the only new file, waits until they have reached the device.
 fn saved(fd: i32, bytes: &[u8], alone: bool) -> bool {
     if !io::write_all(fd, bytes) {

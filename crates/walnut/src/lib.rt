@@ -23,6 +23,7 @@ ghost use Rattle.word_crossing.specs.Crossings.{Crosses};
 ghost use Rattle.word_spread.specs.Spread.{Ends};
 ghost use Rattle.word_shorter.specs.Shorter.{Chose};
 ghost use Rattle.word_shortener.specs.Shortener.{Shortened};
+ghost use Rattle.shelf.specs.Calls.{load, clear, judge, Serves};
 use field::Element;
 use handle_reducer::Handles;
 use pair::Pair;
@@ -342,4 +343,46 @@ pub extern "C" fn walnut_words_ending(length: usize, labels: &[u8]) -> Count
     ensures { λ r. ⌜ Ends length (now (labels .entry)) (r .answer) (r .words) ⌝ }
 {
     word_spread::words_ending(length, labels)
+}
+
+// The caller lends its key shelf, and the key takes its place there. On a refusal the shelf is unchanged.
+#[no_mangle]
+pub extern "C" fn walnut_shelf_load(
+    shelf: &mut [u8; shelf_calls::SHELF_BYTES],
+    publisher: usize,
+    number: usize,
+    key: &[u8],
+) -> u8
+    ensures { λ r. ⌜ Serves publisher (load number (now (key .entry))) (now (shelf .entry)) (now (shelf .exit)) r ⌝ }
+{
+    shelf_calls::load(shelf, publisher, number, key)
+}
+
+#[no_mangle]
+pub extern "C" fn walnut_shelf_clear(
+    shelf: &mut [u8; shelf_calls::SHELF_BYTES],
+    publisher: usize,
+    number: usize,
+) -> u8
+    ensures { λ r. ⌜ Serves publisher (clear number) (now (shelf .entry)) (now (shelf .exit)) r ⌝ }
+{
+    shelf_calls::clear(shelf, publisher, number)
+}
+
+// The verdict by the key that the shelf holds. The shelf is unchanged.
+#[no_mangle]
+pub extern "C" fn walnut_shelf_judge(
+    shelf: &mut [u8; shelf_calls::SHELF_BYTES],
+    publisher: usize,
+    number: usize,
+    digest: &[u8],
+    word: &[u8],
+) -> u8
+    ensures { λ r.
+        ⌜
+        Serves publisher (judge number (now (digest .entry)) (now (word .entry))) (now (shelf .entry))
+        (now (shelf .exit)) r
+        ⌝ }
+{
+    shelf_calls::judge(shelf, publisher, number, digest, word)
 }

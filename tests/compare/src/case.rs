@@ -1,8 +1,8 @@
 //! Inputs, and what the reference and the library make of them.
 
-use reference::{desk, Field};
+use reference::{desk, Field, Shelf};
 
-use crate::operation::{By, Facts, Op, Output, Over};
+use crate::operation::{parts, By, Facts, Op, Output, Over, Part};
 
 /// The bytes that stand before and after an output, to show whether a writer leaves them alone.
 pub const GUARD: usize = 64;
@@ -79,10 +79,29 @@ impl Input {
     /// The field that it works over: the one that is named, or that the key or the digest tells.
     pub fn field(&self) -> Field {
         match self.facts().over {
-            Over::Key => field_of_key(&self.parts[0]),
-            Over::Digest => field_of_digest(&self.parts[0]),
+            Over::Key => field_of_key(self.part(parts::KEY)),
+            Over::Digest => field_of_digest(self.part(parts::DIGEST)),
+            Over::Held => match self.shelf().held(self.size(1), self.size(2)) {
+                Some(key) => field_of_key(&key),
+                None => field_of_digest(self.part(parts::DIGEST)),
+            },
             _ => self.named,
         }
+    }
+
+    /// A part that its operation takes.
+    fn part(&self, part: Part) -> &[u8] {
+        &self.parts[self.facts().place(part).expect("the operation takes it")]
+    }
+
+    /// The key shelf that is its first part.
+    pub fn shelf(&self) -> Shelf {
+        Shelf::of(&self.array(0))
+    }
+
+    /// A part of eight bytes as a number.
+    pub fn size(&self, place: usize) -> usize {
+        usize::from_be_bytes(self.array(place))
     }
 
     /// Is the larger field named?

@@ -4,6 +4,7 @@
 //! knows no field is made over the smaller one.
 
 pub mod files;
+pub mod shelves;
 
 use reference::testkit::{Random, Slip};
 use reference::word::MOST_LETTERS;

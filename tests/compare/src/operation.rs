@@ -99,10 +99,12 @@ pub struct Facts {
 pub enum Over {
     Nothing,
     Named,
-    /// The length of its first part, a key, tells it.
+    /// The length of the key that it takes tells it.
     Key,
-    /// The length of its first part, a digest, tells it.
+    /// The length of the digest that it takes tells it.
     Digest,
+    /// The key that its shelf holds tells it, and without one the digest.
+    Held,
 }
 
 /// The output that an operation is lent.
@@ -137,7 +139,13 @@ pub enum Form {
 pub mod parts {
     use super::{Form, Part};
     use reference::key::PACKED_ENTRIES;
+    use reference::shelf::SHELF_BYTES;
 
+    /// A key shelf, a publisher and a key number. Numbers have eight bytes, high first, so that every `size_t` can be
+    /// written.
+    pub const SHELF: Part = Part { name: "shelf", form: Form::Fixed(SHELF_BYTES) };
+    pub const PUBLISHER: Part = Part { name: "publisher", form: Form::Fixed(8) };
+    pub const NUMBER: Part = Part { name: "key number", form: Form::Fixed(8) };
     pub const KEY: Part = Part { name: "key", form: Form::Bytes };
     pub const DIGEST: Part = Part { name: "digest", form: Form::Bytes };
     pub const WORD: Part = Part { name: "word", form: Form::Word };

@@ -17,6 +17,9 @@ pub mod replace_pair;
 pub mod restore;
 pub mod rewrite;
 pub mod second_half;
+pub mod shelf_clear;
+pub mod shelf_judge;
+pub mod shelf_load;
 pub mod shorten;
 pub mod shorter;
 pub mod start;
@@ -32,7 +35,7 @@ use reference::Field;
 use crate::operation::Op;
 
 /// All of them, in the order of `walnut.h`.
-pub const ALL: [Op; 26] = [
+pub const ALL: [Op; 29] = [
     &product::Product,
     &reciprocal::Reciprocal,
     &start::Start,
@@ -59,6 +62,9 @@ pub const ALL: [Op; 26] = [
     &cloaks::Cloaks,
     &crossings::Crossings,
     &words_ending::WordsEnding,
+    &shelf_load::ShelfLoad,
+    &shelf_clear::ShelfClear,
+    &shelf_judge::ShelfJudge,
 ];
 
 /// Each operation with each of its fields.
@@ -81,12 +87,12 @@ mod tests {
         assert_eq!(declared.collect::<Vec<_>>(), listed);
     }
 
-    /// The papers have the numbers 0 to 29 and 32 to 35 so far, and each is some operation's.
+    /// The papers have the numbers 0 to 35 so far, and each is some operation's.
     #[test]
     fn every_number_is_given() {
         let given = |number: u8| ALL.iter().any(|operation| operation.facts().questions.contains(&number));
-        assert!((1..=29).chain(32..=35).all(given));
-        assert!(![0, 30, 31, 36].into_iter().any(given));
+        assert!((1..=35).all(given));
+        assert!(![0, 36].into_iter().any(given));
     }
 
     /// 7 and 17 cannot be given over the larger field, and all others can.
@@ -117,5 +123,8 @@ mod tests {
         let second_half = second_half::SecondHalf.facts();
         let pairs = [[4, 17], [6, 4], [26, 6], [9, 26], [14, 13]];
         assert_eq!(pairs.map(|faults| second_half.answer_to(&faults)), [17, 4, 6, 26, 13]);
+        let judge = shelf_judge::ShelfJudge.facts();
+        assert_eq!([[31, 30], [1, 31], [8, 26]].map(|faults| judge.answer_to(&faults)), [30, 31, 26]);
+        assert_eq!(shelf_load::ShelfLoad.facts().answer_to(&[1, 30]), 30);
     }
 }

@@ -3,6 +3,7 @@
 mod cloaks;
 mod halves;
 pub mod keys;
+mod shelves;
 mod slips;
 
 use reference::testkit::Random;
@@ -75,6 +76,7 @@ impl Run {
         for field in Field::BOTH {
             self.cloaks_anywhere(field)?;
         }
+        self.histories()?;
         for place in 0..cases {
             if place.is_multiple_of(CASES_TO_A_SLIP) {
                 for field in Field::BOTH {

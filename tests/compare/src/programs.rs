@@ -4,6 +4,7 @@
 mod crossings;
 mod desk;
 mod letters;
+mod shelves;
 mod spread;
 mod words;
 
@@ -115,5 +116,6 @@ pub fn check(folder: &Path, maker: &mut Maker) -> Checked<Vec<String>> {
     lines.push(crossings::check(folder, maker)?);
     lines.push(spread::check(folder)?);
     lines.extend(words::check(folder, maker)?);
+    lines.push(shelves::check(folder, maker)?);
     Ok(lines)
 }

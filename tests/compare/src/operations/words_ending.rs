@@ -35,7 +35,7 @@ impl Operation for WordsEnding {
     }
 
     fn call(&self, by: By, input: &Input) -> Outcome {
-        let ([_, labels], length) = (input.slices(), usize::from_be_bytes(input.array(0)));
+        let ([_, labels], length) = (input.slices(), input.size(0));
         match by {
             // SAFETY: see `Operation::call`.
             By::Library => {

@@ -1,0 +1,3 @@
+pub mod ReplacedLaws
+pub mod SlotLaws
+pub mod CallLaws

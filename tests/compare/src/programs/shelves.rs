@@ -1,0 +1,102 @@
+//! The program `key_shelf`, on a shelf in a file: histories of its verbs, each on the file that the last one left. What it
+//! writes and leaves is what the reference answers and leaves; on a refusal the file is as it was.
+
+use std::ffi::OsStr;
+use std::path::Path;
+use std::{env, fs, process};
+
+use reference::testkit::Slip;
+use reference::{Field, Shelf};
+
+use crate::make::{files, Maker, Size};
+use crate::programs::{ran, Checked, Counts};
+
+/// How many histories there are, and how many calls each of them has.
+const HISTORIES: usize = 12;
+const CALLS: usize = 30;
+
+/// A publisher and a key number as they are written.
+const PUBLISHERS: [(&str, usize); 8] =
+    [("1", 1), ("1", 1), ("1", 1), ("2", 2), ("2", 2), ("2", 2), ("0", 0), ("31", 10)];
+const NUMBERS: [(&str, usize); 8] =
+    [("0", 0), ("0", 0), ("0", 0), ("1", 1), ("1", 1), ("3", 3), ("4", 4), ("x", 10)];
+
+/// A verb, and the files that it is given.
+fn call(maker: &mut Maker, slip: Slip) -> (&'static str, Vec<Vec<u8>>) {
+    let random = &mut maker.random;
+    let (verb, mut given) = match random.below(5) {
+        0 | 1 => ("load", vec![slip.key]),
+        2 => ("clear", vec![]),
+        _ => ("judge", vec![slip.digest, slip.word]),
+    };
+    if !given.is_empty() && random.one_in(4) {
+        let spoiled = random.below(given.len() as u64);
+        files::damage(random, &mut given[spoiled], false);
+    }
+    (verb, given)
+}
+
+/// One history. The first begins at a file without bytes, the others at 1,032 zeros.
+fn history(program: &Path, folder: &Path, maker: &mut Maker, begun: &[u8], counts: &mut Counts) -> Checked {
+    let put = |name: &str, bytes: &[u8]| {
+        let path = folder.join(name);
+        fs::write(&path, bytes)
+            .map(|()| path.clone())
+            .map_err(|error| format!("{}: {error}\n", path.display()))
+    };
+    let slips: Vec<Slip> = Field::BOTH
+        .map(|field| {
+            let codes = maker.codes(Size::Short);
+            maker.slip(field, &codes)
+        })
+        .to_vec();
+    let (file, beside) = (put("the shelf", begun)?, folder.join(".beside"));
+    let (mut shelf, mut bytes) = (Shelf::empty(), begun.to_vec());
+    for _ in 0..CALLS {
+        let slip = slips[maker.random.below(2)].clone();
+        let (verb, given) = call(maker, slip);
+        let ((written, publisher), (text, number)) =
+            (maker.random.pick(&PUBLISHERS), maker.random.pick(&NUMBERS));
+        let mut arguments: Vec<&OsStr> = vec![verb.as_ref(), beside.as_ref(), file.as_ref(), file.as_ref()];
+        arguments.extend([written, text].map(OsStr::new));
+        let mut paths = Vec::new();
+        for (name, part) in ["-first", "second file"].iter().zip(&given) {
+            paths.push(put(name, part)?);
+        }
+        arguments.extend(paths.iter().map(|path| path.as_os_str()));
+        let output = ran(program, &arguments, &[])?;
+        let answer = match verb {
+            "load" => shelf.load(publisher, number, &given[0]),
+            "clear" => shelf.clear(publisher, number),
+            _ => shelf.judge(publisher, number, &given[0], &given[1]),
+        };
+        if answer == 0 && verb != "judge" {
+            bytes = shelf.bytes();
+        }
+        let found = String::from_utf8_lossy(&output.stdout);
+        let left = fs::read(&file).map_err(|error| format!("{}: {error}\n", file.display()))?;
+        if found != format!("answer {answer}\n") || left != bytes || beside.exists() {
+            return Err(format!(
+                "key_shelf {verb} {written} {text}: wrote {found:?} and not {answer}, or another shelf\n"
+            ));
+        }
+        counts.count(answer);
+    }
+    Ok(())
+}
+
+/// Runs the histories: how many calls there were, by answer.
+pub fn check(programs: &Path, maker: &mut Maker) -> Checked<String> {
+    let folder = env::temp_dir().join(format!("walnut shelves {}", process::id()));
+    fs::create_dir_all(&folder).map_err(|error| format!("{}: {error}\n", folder.display()))?;
+    let mut counts = Counts::default();
+    let zeros = [0; 1032];
+    let all = (0..HISTORIES).try_for_each(|place| {
+        let begun = if place == 0 { &[][..] } else { &zeros };
+        history(&programs.join("key_shelf"), &folder, maker, begun, &mut counts)
+    });
+    // A folder that stays in the place for temporary ones does no harm.
+    let _ = fs::remove_dir_all(&folder);
+    all?;
+    counts.summary("key_shelf", &[0, 1, 8, 30, 31])
+}
