@@ -14,7 +14,7 @@ typedef struct {
     uint8_t matrix[64], labels[8];
 } pair;
 
-/* A field: the bits of an entry, its polynomial, the bytes of a key and of a digest, and its tables. */
+/* A field: the bits of an entry, the field's polynomial, the bytes of a key and of a digest, and the field's tables. */
 typedef struct {
     unsigned bits, polynomial;
     size_t key_bytes, digest_bytes;
@@ -27,7 +27,7 @@ typedef struct {
     pair first;
 } key;
 
-/* What the first half of a verdict gives and the second takes. */
+/* The result of the first half of a verdict, and the input of the second. */
 typedef struct {
     const field *over;
     uint8_t t_values[8], target[64];
@@ -57,14 +57,14 @@ static void fill_tables(const field *f)
         }
 }
 
-/* Fills the tables; called once. */
+/* Fills the tables. It must be called before any other function. */
 void plain_tables(void)
 {
     fill_tables(&small);
     fill_tables(&large);
 }
 
-/* The products of each T-value and of its reciprocal: rows of the table. */
+/* For each label: the products of its T-value, and the products of the reciprocal. Both are rows of the table. */
 typedef struct {
     const uint8_t *values[8], *inverses[8];
 } rows;
@@ -77,7 +77,7 @@ static void rows_of(const field *f, const uint8_t *t_values, rows *r)
     }
 }
 
-/* One letter; its sign is asked once, and not in every row. */
+/* Multiplies a letter into the pair. The sign is tested once, not in every row. */
 static void letter_on(pair *p, const rows *r, unsigned code)
 {
     unsigned g = code & 7;
@@ -118,8 +118,9 @@ static void word_on(pair *p, const field *f, const uint8_t *t_values, const uint
         letter_on(p, &r, code_at(packed, k));
 }
 
-/* A column of the matrix as one number, the first row's entry in the lowest byte: times t, it is the exclusive or, over the bits i of an
-   entry, of bit i of every byte times t x^i, which stands in the constants. */
+/* A column of the matrix times t. The column is one number, with the entry of the first row in the lowest byte. The
+   product is the exclusive or, over the bits i of an entry, of bit i of every byte times t x^i. constants[i] is
+   t x^i. */
 static inline uint64_t times_column(const uint64_t *constants, uint64_t column, unsigned bits)
 {
     const uint64_t ones = 0x0101010101010101;
@@ -138,7 +139,7 @@ static void fill_constants(const field *f, uint64_t *constants, uint8_t t)
         constants[i] = f->products[(size_t)t << f->bits | 1u << i];
 }
 
-/* Letters on columns, with a spare one in front; no branch depends on a letter. */
+/* Multiplies letters into columns. There is a spare column in front, so that no branch depends on a letter. */
 static inline void letters_on_columns(uint64_t *columns, uint8_t *labels, uint64_t (*constants)[8], const uint8_t *packed, size_t n, unsigned bits)
 {
     for (size_t k = 0; k < n; k++) {
@@ -180,7 +181,7 @@ static bool is_order(const uint8_t *labels)
     return seen == 255;
 }
 
-/* Bytes as groups of eight numbers of so many bits. */
+/* Unpacks groups of eight numbers, with `bits` bits for each number. */
 static void unpack(const uint8_t *bytes, unsigned bits, size_t groups, uint8_t *out)
 {
     for (; groups--; bytes += bits, out += 8) {
@@ -199,7 +200,7 @@ static void unpack_matrix(const uint8_t *bytes, unsigned bits, uint8_t *matrix)
     matrix[63] = bytes[7 * bits] >> (8 - bits);
 }
 
-/* Elimination, column by column. */
+/* Does the matrix have an inverse? Uses elimination, column by column. */
 static bool is_invertible(const field *f, const uint8_t *matrix)
 {
     uint8_t rows[64];
@@ -313,7 +314,7 @@ static void matrix_product(const field *f, const uint8_t *a, const uint8_t *b, u
         }
 }
 
-/* The answer; the key is left in what is held. */
+/* Reads a key into `held`, and returns the answer. */
 uint8_t plain_read_key(const uint8_t *file, size_t n)
 {
     static key held;
@@ -340,7 +341,7 @@ uint8_t plain_verify(const uint8_t *file, size_t kn, const uint8_t *digest, size
 
 static half held_half;
 
-/* The answer; the half is left in what is held. */
+/* Writes the half into `held_half`, and returns the answer. */
 uint8_t plain_first_half(const uint8_t *file, size_t kn, const uint8_t *digest, size_t dn)
 {
     key k;
@@ -367,7 +368,8 @@ static bool are_elements(const field *f, const uint8_t *numbers, size_t n)
     return true;
 }
 
-/* A half's own questions, as if a caller had made it. */
+/* The answer to the questions about a half, which are asked as if a caller had made it. A half has no positions here,
+   so question 6 is asked only of the labels. */
 static uint8_t half_answer(const half *h)
 {
     if (!are_elements(h->over, h->t_values, 8) || !are_elements(h->over, h->first.matrix, 64) || !are_elements(h->over, h->target, 64))
@@ -379,7 +381,7 @@ static uint8_t half_answer(const half *h)
     return is_invertible(h->over, h->first.matrix) && is_invertible(h->over, h->target) ? 0 : 26;
 }
 
-/* The answer to a word under the half that is held. */
+/* The answer to a word under `held_half`. */
 uint8_t plain_second_half(const uint8_t *word, size_t wn)
 {
     half h = held_half;
@@ -393,7 +395,8 @@ uint8_t plain_second_half(const uint8_t *word, size_t wn)
     return memcmp(h.first.matrix, h.target, 64) ? 14 : 0;
 }
 
-/* 256 + the answer on a refusal, else 1 for yes and 0 for no. The word goes over rows of bytes, or over columns of 64 bits. */
+/* 256 + the answer on a refusal, otherwise 1 for yes and 0 for no. The letters change rows of bytes, or columns of 64
+   bits. */
 unsigned plain_cloaks(const uint8_t *file, size_t kn, const uint8_t *labels, size_t ln, const uint8_t *word, size_t wn, bool by_columns)
 {
     key k;
@@ -413,8 +416,8 @@ unsigned plain_cloaks(const uint8_t *file, size_t kn, const uint8_t *labels, siz
     return memcmp(&before, &after, sizeof before) == 0;
 }
 
-/* One letter on a lent pair, its matrix row by row, then its labels and their positions, with the multiplier's
-   questions over the smaller field. */
+/* Multiplies a letter into a lent pair, with the multiplier's questions over the smaller field. The pair is its matrix,
+   row by row, then its labels and their positions. */
 uint8_t plain_multiply(uint8_t *lent, const uint8_t *t_values, uint8_t letter)
 {
     pair *p = (pair *)lent;
@@ -440,7 +443,7 @@ uint8_t plain_multiply(uint8_t *lent, const uint8_t *t_values, uint8_t letter)
     return 0;
 }
 
-/* One move on n codes; gives the answer, and leaves the new number of letters. */
+/* Makes one move on n codes. Returns the answer, and sets n to the new number of letters. */
 static uint8_t move_on(uint8_t *codes, size_t *n, unsigned kind, size_t place)
 {
     uint8_t *at = codes + place;
@@ -496,7 +499,7 @@ static uint8_t read_moves(const uint8_t *moves, size_t m, size_t *count)
     return m == 2 + 3 * *count ? 0 : 20;
 }
 
-/* Writes the word of n codes; there is room for one more. Gives the bytes written. */
+/* Writes the word of n codes. `codes` must have room for one more code. Returns the number of bytes written. */
 static size_t write_codes(uint8_t *codes, size_t n, uint8_t *out)
 {
     out[0] = (uint8_t)(n >> 8);
@@ -507,7 +510,7 @@ static size_t write_codes(uint8_t *codes, size_t n, uint8_t *out)
     return 2 + (n + 1) / 2;
 }
 
-/* The bytes written; 0 on a refusal. */
+/* Returns the number of bytes written, or 0 on a refusal. */
 size_t plain_rewrite(const uint8_t *word, size_t wn, const uint8_t *moves, size_t m, uint8_t *out, size_t len)
 {
     uint8_t codes[LETTERS + 2];
@@ -523,7 +526,7 @@ size_t plain_rewrite(const uint8_t *word, size_t wn, const uint8_t *moves, size_
     return write_codes(codes, n, out);
 }
 
-/* The bytes written; 0 on a refusal. */
+/* Returns the number of bytes written, or 0 on a refusal. */
 size_t plain_reduce(const uint8_t *word, size_t wn, uint8_t *out, size_t len)
 {
     uint8_t codes[LETTERS + 1];
@@ -679,7 +682,8 @@ static void put_two(uint8_t *out, size_t number)
     out[1] = (uint8_t)number;
 }
 
-/* The signs and the generators of a group of up to eight codes, in so many bytes; zeros after the last code. */
+/* The signs and the generators of a group of up to eight codes. The codes are in `bytes` bytes. Zeros follow the last
+   code. */
 static void split_group(const uint8_t *packed, size_t bytes, uint32_t *signs, uint32_t *generators)
 {
     uint32_t s = 0, g = 0;
@@ -692,7 +696,7 @@ static void split_group(const uint8_t *packed, size_t bytes, uint32_t *signs, ui
     *generators = g;
 }
 
-/* The stored form of a word, eight letters at a time. The bytes written; 0 on a refusal. */
+/* Writes the stored form of a word, eight letters at a time. Returns the number of bytes written, or 0 on a refusal. */
 size_t plain_store(const uint8_t *word, size_t wn, uint8_t *out, size_t len)
 {
     size_t n;
@@ -721,7 +725,7 @@ size_t plain_store(const uint8_t *word, size_t wn, uint8_t *out, size_t len)
     return 6 + s + g;
 }
 
-/* The word of a stored form, eight letters at a time. The bytes written; 0 on a refusal. */
+/* Writes the word of a stored form, eight letters at a time. Returns the number of bytes written, or 0 on a refusal. */
 size_t plain_restore(const uint8_t *stored, size_t size, uint8_t *out, size_t len)
 {
     if (len < WORD_BYTES || size < 6)
@@ -748,14 +752,15 @@ size_t plain_restore(const uint8_t *stored, size_t size, uint8_t *out, size_t le
     return write_codes(codes, n, out);
 }
 
-/* For each of the 24 lists of four labels, increasing, the places of the lists that b1, b2 and b3 make of it. */
+/* A row each for b1, b2 and b3. For each of the 24 lists of four labels, in increasing order, a row has the place of
+   the list that the letter makes of it. */
 static const uint8_t neighbours[3][24] = {
     {6, 7, 12, 13, 18, 19, 0, 1, 14, 15, 20, 21, 2, 3, 8, 9, 22, 23, 4, 5, 10, 11, 16, 17},
     {2, 4, 0, 5, 1, 3, 8, 10, 6, 11, 7, 9, 14, 16, 12, 17, 13, 15, 20, 22, 18, 23, 19, 21},
     {1, 0, 3, 2, 5, 4, 7, 6, 9, 8, 11, 10, 13, 12, 15, 14, 17, 16, 19, 18, 21, 20, 23, 22},
 };
 
-/* How many words of a length end in a list of four labels. 0 on a refusal. */
+/* How many words of a length end in a list of four labels, or 0 on a refusal. */
 uint32_t plain_words_ending(size_t length, const uint8_t *labels, size_t n)
 {
     uint32_t counts[24] = {1}, more[24];

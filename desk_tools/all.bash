@@ -1,11 +1,11 @@
-# Sourced by ./walnut: `shorten --all`, which shortens every slip of a folder. One run of the program does some hundred
-# slips. A bad slip is reported, and the next one follows.
+# Sourced by ./walnut: `shorten --all`, which shortens every slip of a folder. One run of the program shortens some
+# hundred slips. A bad slip is reported and does not stop the run.
 
-# What is counted.
+# The counts of the summary.
 declare -A refusals=()
 slips=0 opened=0 unread=0 unwritten=0 unjudged=0 before=0 after=0 ended=yes on_disk=yes
 
-# Progress, on a terminal only.
+# progress ALL: shows how many of all slips are done. no_progress removes the line. Both act on a terminal only.
 progress() { [ -t 2 ] && printf '\r%s: %s of %s slips' "$name" "$slips" "$1" >&2; }
 no_progress() { [ -t 2 ] && printf '\r\033[K' >&2; }
 
@@ -51,7 +51,7 @@ some() {
         arguments+=("$folder/$each.digest" "$folder/$each.sig" "$new")
     done
     local done=0 line
-    # The status comes as a last line, because `wait` of bash 5.2 sometimes gives another one.
+    # The program's exit status comes as a last line, because `wait` of bash 5.2 sometimes gives a wrong status.
     {
         for each in "$@"; do
             slip "$each" || break
@@ -131,7 +131,7 @@ shorten_all() {
         fi
     done
     [ ${#some[@]} -eq 0 ] || some "${#names[@]}" "${some[@]}"
-    # The program does not wait for each file. All of them reach the disk here, before the summary.
+    # The program does not wait until each file is on the disk. This line waits for all of them, before the summary.
     sync -f -- "$folder" || on_disk=no
     summary
 }

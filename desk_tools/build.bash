@@ -1,5 +1,6 @@
 # Sourced by ./walnut: proves and builds what a command needs, once for each state of the sources.
-# `need programs` builds the programs in $bin, and `need library` the shared library in $lib. The caller sets $root.
+# `need programs` builds the programs in $bin. `need library` builds the shared library in $lib. The caller sets $root
+# and $name.
 bin=$root/target/bin
 lib=$root/target/library
 
@@ -11,7 +12,7 @@ if [ ${#programs[@]} -eq 0 ]; then
     return 1
 fi
 
-# For each need: a sum of its sources, a sum of what was built, and how to build it.
+# For `programs` and `library`: a checksum of the sources, a checksum of the built files, and the command that builds.
 sum_of() { (cd "$root" && find "$@" -type f -print0 | LC_ALL=C sort -z | xargs -0 sha256sum | sha256sum); }
 sources_programs() { sum_of crates crates.txt; }
 sources_library() { sum_of crates crates.txt include library; }
@@ -20,10 +21,10 @@ made_library() { (cd "$lib" && cat libwalnut.so | sha256sum) 2>/dev/null; }
 make_programs() { (cd "$root" && rt check "${programs[@]}"); }
 make_library() { (cd "$root" && ./library); }
 
-# current NEED: succeeds if what is built was built from the present sources.
+# current NEED: succeeds if the built files were built from the present sources.
 current() { [ "$(cat "$root/target/walnut-$1.stamp" 2>/dev/null)" = "$("sources_$1"; "made_$1")" ]; }
 
-# Only one build runs at a time.
+# build NEED: builds, unless another process has just done so. Only one build runs at a time.
 build() {
     mkdir -p "$root/target" && exec 9>"$root/target/walnut.lock" && flock 9 || return 1
     current "$1" && return 0
@@ -34,6 +35,7 @@ build() {
     { echo "$before"; "made_$1"; } >"$root/target/walnut-$1.stamp"
 }
 
+# need NEED: builds if needed. Ends the run if the build fails.
 need() {
     current "$1" && return 0
     if ! build "$1"; then

@@ -1,5 +1,5 @@
 # Sourced by ./walnut: the messages about a refusal. They say what failed, in which file, and what a person can do.
-# Nothing here decides anything: the answer is known before.
+# These functions do not decide the answer. The programs have given it before.
 
 # For each length of a key file: the length of its digest, and the number of elements of its field.
 declare -A digest_bytes=([83]=32 [128]=64) elements=([83]=32 [128]=256)
@@ -9,19 +9,19 @@ shelf_bytes=1032 slot_bytes=129
 
 say() { printf '%s: %s\n' "$name" "$*" >&2; }
 
-# '1 letter', '2 letters'
+# count NUMBER THING: '1 letter', '2 letters'
 count() { if [ "$1" -eq 1 ]; then echo "1 $2"; else echo "$1 $2s"; fi; }
 
-# say_failed ANSWER, say_to_do ANSWER: what failed, and what a person can do about it, from answers.txt.
+# say_failed ANSWER says what failed. say_to_do ANSWER says what a person can do. Both texts are from answers.txt.
 of_answer() { awk -F ' *[|] *' -v n="$1" -v column="$2" '$1 == n { print $column }' "$root/answers.txt"; }
 say_failed() { say "$(of_answer "$1" 2)"; }
 say_to_do() { say "$(of_answer "$1" 3)"; }
 
-# ---- what a file looks like; there is no message about a file that is not regular
+# ---- what a file looks like; a file that is not regular has no size here, and gets no message
 
 size() { [ -f "$1" ] && stat -L -c %s -- "$1"; }
 
-# first_two FILE [PLACE]: the number in the file's first two bytes, or in the two at a place.
+# first_two FILE [PLACE]: the number in two bytes of the file, at a place or at its beginning.
 first_two() {
     local high low
     read -r high low < <(od -An -tu1 -j"${2-0}" -N2 -- "$1")
@@ -36,16 +36,17 @@ joined() {
 key_sizes() { joined $(printf '%s\n' "${!digest_bytes[@]}" | sort -n); }
 digest_sizes() { joined $(printf '%s\n' "${digest_bytes[@]}" | sort -n); }
 
-# The bytes that a number of letters or moves needs.
+# word_bytes LETTERS, moves_bytes MOVES: the bytes of a word file and of a move list.
 word_bytes() { echo $((2 + ($1 + 1) / 2)); }
 moves_bytes() { echo $((2 + 3 * $1)); }
 
-# stored_bytes LETTERS: the bytes of a stored form; sign_bytes and generator_bytes are those of its two rows.
+# stored_bytes LETTERS: the bytes of a stored form. sign_bytes and generator_bytes give the bytes of its two rows.
 sign_bytes() { echo $((($1 + 7) / 8)); }
 generator_bytes() { echo $(((3 * $1 + 7) / 8)); }
 stored_bytes() { echo $((6 + ($1 + 7) / 8 + (3 * $1 + 7) / 8)); }
 
-# as_stated BYTES FILE: succeeds if the file has as many bytes as the number in its first two needs.
+# as_stated BYTES FILE: succeeds if the file has the length that its first two bytes state. The function BYTES gives the
+# length for their number.
 as_stated() { local n; n=$(size "$2") && [ "$n" -ge 2 ] && [ "$n" -eq "$("$1" "$(first_two "$2")")" ]; }
 
 is_key() { local n; n=$(size "$1") && [ -n "${digest_bytes[$n]-}" ]; }
@@ -63,6 +64,7 @@ is_hex() {
     LC_ALL=C grep -q '[0-9A-Fa-f]' -- "$1" && ! LC_ALL=C grep -qv '^[0-9A-Fa-f[:space:]]*$' -- "$1"
 }
 
+# hex_hint FILE..: says which of the files look like hexadecimal text.
 hex_hint() {
     local file
     for file in "$@"; do
@@ -72,7 +74,7 @@ hex_hint() {
     done
 }
 
-# kind_hint WANTED FILE: says if the file has the length of another kind: key, stored, word or moves.
+# kind_hint WANTED FILE: says if the file has the length of another kind of file. Kinds are key, stored, word and moves.
 kind_hint() {
     local kind
     for kind in key stored word moves; do

@@ -1,5 +1,4 @@
-"""What tests/walnut and tests/eyes share: a folder to work in, runs of ./walnut held to what they must give, and files
-to run them on."""
+"""What tests/walnut and tests/eyes share: a folder to work in, checked runs of ./walnut, and files to run them on."""
 
 import os
 import shutil
@@ -11,7 +10,7 @@ ROOT = os.path.dirname(os.path.dirname(os.path.abspath(__file__)))
 WALNUT = os.path.join(ROOT, "walnut")
 BIN = os.path.join(ROOT, "target", "bin")
 
-# what the verbs run
+# the names of the programs that ./walnut runs
 LIST = 'root=$0; . "$0/desk_tools/build.bash"; echo "${programs[@]}"'
 PROGRAMS = subprocess.run(["bash", "-c", LIST, ROOT], check=True, stdout=subprocess.PIPE, text=True).stdout.split()
 
@@ -19,7 +18,8 @@ runs = 0
 
 
 def work(*verbs):
-    """A new folder, to be in; it goes when the tests end. What the verbs need is built before, in any time."""
+    """Makes a new folder and changes to it. The caller removes the folder. These commands run first, without a time
+    limit, so that everything they need is built."""
     for verb in verbs:
         run(*verb, timeout=None)
     folder = tempfile.mkdtemp(prefix="walnut tests ")
@@ -33,7 +33,7 @@ def fail(what):
 
 
 def run(*arguments, walnut=WALNUT, **options):
-    """Runs ./walnut: its status, standard output and standard error."""
+    """Runs ./walnut. Returns its status, standard output and standard error."""
     global runs
     runs += 1
     captured = {"stdin": subprocess.DEVNULL, "stdout": subprocess.PIPE, "stderr": subprocess.PIPE, "timeout": 120}
@@ -43,10 +43,10 @@ def run(*arguments, walnut=WALNUT, **options):
 
 
 def held(name, arguments, status, out, *said, **options):
-    """A run has this status and standard output, and says these texts on standard error."""
+    """Runs ./walnut and fails unless it has this status and standard output, and these texts on standard error."""
     found = run(*arguments, **options)
     if found[:2] != (status, out) or not all(text in found[2] for text in said):
-        fail(f"{name}: {arguments} gave {found}, and not {(status, out, *said)}")
+        fail(f"{name}: {arguments} gave {found}, expected {(status, out, *said)}")
     return found[2]
 
 
@@ -61,7 +61,7 @@ def get(name):
         return file.read()
 
 
-# ---- files: the plain key, a zero digest, 128 letters b7, which open the slip; at strength 256 it takes 256 letters
+# ---- files: the plain key, a digest of zeros, and 128 letters b7, which sign it; strength 256 needs 256 letters
 
 IDENTITY = bytes.fromhex("0800000000004000 0000000200000000 0010000000000080 0000000004000000 00002008")
 KEY = bytes.fromhex("0800200844 3214C7") + IDENTITY + bytes.fromhex("053977") + IDENTITY
@@ -72,14 +72,14 @@ LARGE_DIGEST = bytes(64)
 
 
 def word(codes):
-    """The file of a word."""
+    """The word file of these codes."""
     codes = list(codes)
     halves = codes + [0] * (len(codes) % 2)
     return len(codes).to_bytes(2, "big") + bytes(16 * a + b for a, b in zip(halves[::2], halves[1::2]))
 
 
 def moves(*listed):
-    """The file of a list of (place, kind)."""
+    """The file of a move list. Each move is (place, kind)."""
     places = b"".join(place.to_bytes(2, "big") for place, _ in listed)
     return len(listed).to_bytes(2, "big") + places + bytes(kind for _, kind in listed)
 
@@ -95,24 +95,25 @@ def changed(data, place, byte):
 
 
 def answers():
-    """The two lines about each refusal, by its number: what failed, and what to do."""
+    """The two lines of each refusal, by its number: what failed, and what to do."""
     with open(os.path.join(ROOT, "answers.txt"), encoding="ascii") as lines:
         rows = [line.rstrip("\n").split(" | ") for line in lines if not line.startswith("#")]
     return {int(row[0]): (f"walnut: {row[1]}\n", f"walnut: {row[2]}\n") for row in rows if len(row) == 3}
 
 
 def in_order(name, said, texts, about):
-    """What failed comes first, then the file, then what to do."""
+    """Fails unless the message says first what failed, then which file, then what to do."""
     failed, to_do = texts
     if not said.index(failed) < said.index(about) < said.index(to_do):
-        fail(f"{name}: another order than what failed, which file, what to do: {said!r}")
+        fail(f"{name}: the order is not what failed, which file, what to do: {said!r}")
 
 
-# ---- another tree, with programs of its own
+# ---- a copy of the tree with other programs
 
 
 def tree(folder, programs):
-    """A copy of ./walnut whose programs are these, and whose rt proves nothing: its name, and what to run it with."""
+    """Makes a copy of ./walnut with other programs and with an `rt` that does nothing. `programs` is a folder, or the
+    text of a shell script for each name. Returns the options with which `run` starts the copy."""
     folder = os.path.abspath(folder)
     os.makedirs(os.path.join(folder, "target", "bin"))
     os.makedirs(os.path.join(folder, "crates", "none"))

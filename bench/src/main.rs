@@ -1,4 +1,4 @@
-//! Times the library beside the same work in plain Rust and plain C.
+//! Measures the time of the library and of the same work in plain Rust and plain C.
 //!
 //! `bench` prints the least time of several rounds for each, and the library's as a ratio to the others'.
 //! `bench again CASE WHO` only does the work, 10 times, in the function `again`, for a counter of instructions to
@@ -19,14 +19,16 @@ use std::time::{Duration, Instant};
 use walnut::STORED_BYTES;
 use work::{case, Case, Who, ALL, CASES};
 
-/// Rounds of which the least time counts, and how long each lasts at least.
+/// The number of rounds. The shortest time of all rounds counts.
 const ROUNDS: usize = 100;
+
+/// The least duration of a round.
 const ROUND: Duration = Duration::from_millis(10);
 
-/// How often the work is done for a counter of instructions.
+/// How often `bench again` does the work.
 const COUNTED: u32 = 10;
 
-/// Does the work so many times.
+/// Does the work of a case `times` times.
 #[inline(never)]
 fn again(case: &Case, who: Who, times: u32) {
     let mut out = [0; STORED_BYTES];
@@ -35,7 +37,7 @@ fn again(case: &Case, who: Who, times: u32) {
     }
 }
 
-/// The time of one piece of work, over one round.
+/// The mean time of one part of the work, over one round, in seconds.
 fn round(case: &Case, who: Who) -> f64 {
     let (start, mut times) = (Instant::now(), 0);
     while start.elapsed() < ROUND {
@@ -45,7 +47,7 @@ fn round(case: &Case, who: Who) -> f64 {
     start.elapsed().as_secs_f64() / f64::from(times) / case.parts as f64
 }
 
-/// The least times of library, Rust and C, measured in turn.
+/// The shortest times of the library, of Rust and of C. The three take turns.
 fn least(case: &Case) -> [f64; 3] {
     let mut least = [f64::INFINITY; 3];
     for _ in 0..ROUNDS {
@@ -56,7 +58,7 @@ fn least(case: &Case) -> [f64; 3] {
     least
 }
 
-/// Do all three come to the same?
+/// Do all three give the same outcome?
 fn agree(case: &Case) -> bool {
     let [library, rust, c] = ALL.map(|who| case.work.outcome(who));
     library == rust && rust == c
@@ -83,7 +85,7 @@ fn times() -> bool {
         if agreed {
             print_times(&case);
         } else {
-            println!("{}: the three do not come to the same", case.name);
+            println!("{}: the library, Rust and C do not give the same outcome", case.name);
         }
         agreed
     })
@@ -94,7 +96,7 @@ fn below(bound: usize, word: &str) -> Option<usize> {
     word.parse().ok().filter(|number| *number < bound)
 }
 
-/// Does a case's work for a counter of instructions.
+/// Does the work of `bench again`. False if an argument is wrong.
 fn counted(number: &str, who: &str) -> bool {
     let (Some(number), Some(who)) = (below(CASES, number), below(ALL.len(), who)) else { return false };
     let case = case(number);

@@ -10,7 +10,7 @@ const STORED_BYTES: usize = 5006;
 type Matrix = [[u8; 8]; 8];
 type Eight = [u8; 8];
 
-/// The products and reciprocals of a field with so many elements.
+/// The products and reciprocals of a field with `SIZE` elements.
 struct Table<const SIZE: usize> {
     products: [[u8; SIZE]; SIZE],
     reciprocals: [u8; SIZE],
@@ -20,7 +20,7 @@ impl<const SIZE: usize> Table<SIZE> {
     /// The bits of an entry.
     const BITS: usize = SIZE.ilog2() as usize;
 
-    /// The tables of a polynomial: a × b from a × (b / 2).
+    /// The tables of the field of a polynomial. a × b follows from a × (b / 2).
     const fn new(polynomial: usize) -> Table<SIZE> {
         let mut table = Table { products: [[0; SIZE]; SIZE], reciprocals: [0; SIZE] };
         let mut place = 0;
@@ -38,7 +38,7 @@ impl<const SIZE: usize> Table<SIZE> {
         table
     }
 
-    /// The products of an element.
+    /// The products of an element with all elements.
     fn row(&self, element: u8) -> &[u8; SIZE] {
         &self.products[usize::from(element)]
     }
@@ -66,7 +66,8 @@ impl Pair {
         Pair { matrix, labels }
     }
 
-    /// One letter, with the products of each T-value and of its reciprocal.
+    /// Multiplies a letter into the pair. For each label, `values` has the products of its T-value, and `inverses` has
+    /// the products of the reciprocal.
     fn letter<const SIZE: usize>(&mut self, values: &Rows<SIZE>, inverses: &Rows<SIZE>, code: u8) {
         let (g, inverse) = (usize::from(code & 7), code & 8 != 0);
         let times = if inverse {
@@ -100,17 +101,17 @@ impl Pair {
     }
 }
 
-/// A row of the table for each label.
+/// A row of the table of products for each label.
 type Rows<'a, const SIZE: usize> = [&'a [u8; SIZE]; 8];
 
-/// Is each label's position where it stands, counted from 1? Then the labels are 0 to 7, each once.
+/// Does `positions` have the position of each label, counted from 1? If so, the labels are 0 to 7, each once.
 fn are_inverse(labels: &[u8], positions: &[u8]) -> bool {
     let position = |label: &u8| positions.get(usize::from(*label)).copied();
     labels.iter().zip(1..).all(|(label, place)| position(label) == Some(place))
 }
 
-/// One letter on a lent pair, its matrix row by row, then its labels and their positions, with the multiplier's
-/// questions over the smaller field.
+/// Multiplies a letter into a lent pair, with the multiplier's questions over the smaller field. The pair is its
+/// matrix, row by row, then its labels and their positions.
 pub fn multiply(lent: &mut [u8; 80], t_values: &Eight, letter: u8) -> Result<(), u8> {
     let (entries, lists) = lent.split_at(64);
     let (labels, positions) = lists.split_at(8);
@@ -146,7 +147,7 @@ struct Key {
     second: Matrix,
 }
 
-/// A group of bytes as eight numbers.
+/// The eight numbers in a group of bytes. A number has as many bits as the group has bytes.
 fn eight(bytes: &[u8]) -> Eight {
     let bits = bytes.len();
     let value = bytes.iter().fold(0, |value, byte| value << 8 | u64::from(*byte));
@@ -166,7 +167,7 @@ fn is_order(labels: &[u8]) -> bool {
     (0..8).all(|label| labels.contains(&label))
 }
 
-/// Elimination, column by column.
+/// Does the matrix have an inverse? Uses elimination, column by column.
 fn is_invertible<const SIZE: usize>(table: &Table<SIZE>, mut matrix: Matrix) -> bool {
     for column in 0..8 {
         let Some(pivot) = (column..8).find(|row| matrix[*row][column] != 0) else { return false };
@@ -183,7 +184,7 @@ fn is_invertible<const SIZE: usize>(table: &Table<SIZE>, mut matrix: Matrix) -> 
     true
 }
 
-/// A key of the field's length.
+/// Reads a key whose length is that of a key over the field.
 fn read_key<const SIZE: usize>(table: &Table<SIZE>, file: &[u8]) -> Result<Key, u8> {
     let bits = Table::<SIZE>::BITS;
     let (head, rest) = file.split_at(3);
@@ -217,7 +218,7 @@ fn read_key<const SIZE: usize>(table: &Table<SIZE>, file: &[u8]) -> Result<Key, 
     Ok(Key { t_values, pair: Pair { matrix: first, labels }, second })
 }
 
-/// The half bytes of a row of bytes.
+/// The half bytes of the bytes, high half first.
 fn halves(bytes: &[u8]) -> impl Iterator<Item = u8> + '_ {
     bytes.iter().flat_map(|byte| [byte >> 4, byte & 15])
 }
@@ -278,7 +279,7 @@ fn verify_over<const SIZE: usize>(
     }
 }
 
-/// Reads a key, and gives its answer.
+/// Reads a key, and returns its answer.
 pub fn read(file: &[u8]) -> Result<(), u8> {
     match file.len() {
         83 => black_box(read_key(&SMALL, file)).map(|_| ()),
@@ -295,7 +296,8 @@ pub fn verify(key: &[u8], digest: &[u8], word: &[u8]) -> Result<(), u8> {
     }
 }
 
-/// What the first half of a verdict gives and the second takes.
+/// The result of the first half of a verdict, and the input of the second. It has no positions, so the second half asks
+/// question 6 only of the labels.
 struct Half {
     t_values: Eight,
     pair: Pair,
@@ -381,7 +383,7 @@ fn apart(c: u8, d: u8) -> u8 {
     (c & 7).abs_diff(d & 7)
 }
 
-/// One move on a word.
+/// Makes one move on a word.
 fn make(codes: &mut Vec<u8>, kind: u8, place: usize) -> Result<(), u8> {
     match kind {
         1 => {
@@ -435,7 +437,7 @@ fn read_moves(moves: &[u8]) -> Result<impl Iterator<Item = (usize, u8)> + '_, u8
     Ok(places.zip(kinds.iter().copied()))
 }
 
-/// Writes the word of these codes; gives the bytes written.
+/// Writes the word of these codes. Returns the number of bytes written.
 fn write_codes(codes: &[u8], out: &mut [u8]) -> usize {
     out[..2].copy_from_slice(&(codes.len() as u16).to_be_bytes());
     for (byte, codes) in out[2..].iter_mut().zip(codes.chunks(2)) {
@@ -455,7 +457,7 @@ pub fn rewrite(word: &[u8], moves: &[u8], out: &mut [u8]) -> Result<usize, u8> {
     Ok(write_codes(&codes, out))
 }
 
-/// Free reduction, the letters coming one by one to a stack.
+/// Free reduction. Each letter either cancels the last letter of a stack or goes onto the stack.
 pub fn free_reduce(word: &[u8], out: &mut [u8]) -> Result<usize, u8> {
     if out.len() < WORD_BYTES {
         return Err(15);
@@ -579,7 +581,7 @@ fn pack_bits(numbers: impl Iterator<Item = u8>, bits: u32, out: &mut [u8]) {
     }
 }
 
-/// The stored form of a word: its signs, and then its generators.
+/// Writes the stored form of a word: the sizes, the signs, and then the generators.
 pub fn store(word: &[u8], out: &mut [u8]) -> Result<usize, u8> {
     if out.len() < STORED_BYTES {
         return Err(15);
@@ -594,7 +596,7 @@ pub fn store(word: &[u8], out: &mut [u8]) -> Result<usize, u8> {
     Ok(6 + signs + generators)
 }
 
-/// The numbers of so many bits that bytes hold, and whether the bits after n numbers are zero.
+/// The first `n` numbers of `bits` bits that the bytes hold, and whether the bits after them are zero.
 fn unpack_bits(bytes: &[u8], bits: u32, n: usize) -> (Vec<u8>, bool) {
     let (mut held, mut count) = (0u32, 0);
     let mut numbers = Vec::with_capacity(n);
@@ -609,7 +611,7 @@ fn unpack_bits(bytes: &[u8], bits: u32, n: usize) -> (Vec<u8>, bool) {
     (numbers, held & ((1 << count) - 1) == 0)
 }
 
-/// The word of a stored form.
+/// Writes the word of a stored form.
 pub fn restore(stored: &[u8], out: &mut [u8]) -> Result<usize, u8> {
     if out.len() < WORD_BYTES {
         return Err(15);
@@ -688,7 +690,8 @@ pub fn crossings(word: &[u8], a: u8, b: u8) -> Result<i32, u8> {
     Ok(numbers[a][b] + numbers[b][a])
 }
 
-/// For each of the 24 lists of four labels, increasing, the places of the lists that b1, b2 and b3 make of it.
+/// A row each for b1, b2 and b3. For each of the 24 lists of four labels, in increasing order, a row has the place of
+/// the list that the letter makes of it.
 const NEIGHBOURS: [[u8; 24]; 3] = [
     [6, 7, 12, 13, 18, 19, 0, 1, 14, 15, 20, 21, 2, 3, 8, 9, 22, 23, 4, 5, 10, 11, 16, 17],
     [2, 4, 0, 5, 1, 3, 8, 10, 6, 11, 7, 9, 14, 16, 12, 17, 13, 15, 20, 22, 18, 23, 19, 21],

@@ -1,4 +1,4 @@
-//! What `plain.c` has.
+//! Calls the functions of `plain.c`.
 
 use crate::plain::SHELF_BYTES;
 
@@ -69,8 +69,9 @@ extern "C" {
     ) -> u8;
 }
 
-// The pointers come from slices that live through the call, each with its own length; the tables are filled
-// before anything reads them, on one thread, and so is the half that is held.
+// SAFETY of all calls: each pointer comes from a slice or an array that lives until the call returns, and a slice's
+// pointer is passed with the slice's own length. The program has one thread. It fills the tables, and the half that
+// `plain.c` keeps, before anything reads them.
 
 pub fn tables() {
     // SAFETY: see above.
@@ -88,7 +89,7 @@ pub fn verify(key: &[u8], digest: &[u8], word: &[u8]) -> u8 {
     unsafe { plain_verify(file, bytes, digest.as_ptr(), digest.len(), word.as_ptr(), word.len()) }
 }
 
-/// The refusal of the first half, or the sum of the second's answers to the words.
+/// The refusal of the first half, or the sum of the second half's answers to the words.
 pub fn by_halves(key: &[u8], digest: &[u8], words: &[Vec<u8>]) -> u32 {
     // SAFETY: see above.
     let second = |word: &Vec<u8>| u32::from(unsafe { plain_second_half(word.as_ptr(), word.len()) });
@@ -105,7 +106,7 @@ pub fn cloaks(key: &[u8], labels: &[u8], word: &[u8], by_columns: bool) -> u32 {
     unsafe { plain_cloaks(file, bytes, list, n, word.as_ptr(), word.len(), by_columns) }
 }
 
-/// The pair is its matrix, row by row, then its labels and their positions.
+/// Multiplies a letter into a pair. The pair is its matrix, row by row, then its labels and their positions.
 pub fn multiply(pair: &mut [u8; 80], t_values: &[u8; 8], letter: u8) -> u8 {
     // SAFETY: see above.
     unsafe { plain_multiply(pair.as_mut_ptr(), t_values.as_ptr(), letter) }

@@ -1,4 +1,4 @@
-//! What is timed: the same inputs for the library, for plain Rust and for plain C.
+//! The work that is measured. The library, plain Rust and plain C get the same inputs.
 
 use std::hint::black_box;
 
@@ -13,8 +13,8 @@ use walnut::{Refusal, Shelf, SHELF_BYTES, STORED_BYTES};
 
 use crate::{plain, plain_c};
 
-/// The letters of a typical signature over a field: source 000's table 1 has a mean of 5,134.6 bits, its table 2 one of
-/// 9,932.4.
+/// The letters of a typical signature over a field. Source 000 gives the mean length as 5,134.6 bits in table 1, and as
+/// 9,932.4 bits in table 2. A letter has four bits.
 const fn typical(field: Field) -> usize {
     match field {
         Field::Gf32 => 1_283,
@@ -28,15 +28,19 @@ const PARTS: [u8; 2] = [4, 3];
 /// The letters of the longest word.
 const LONGEST: usize = 10_000;
 
-/// The letters of the word that is rewritten, and the moves that are made on it.
+/// The letters of the word that is rewritten.
 const REWRITTEN: usize = 5_000;
+
+/// The moves of a rewriting.
 const MOVES: usize = 4_096;
 
-/// The keys that are read in one piece of work.
+/// The number of keys that are read in one piece of work.
 const KEYS: usize = 100;
 
-/// The copies of a slip that are judged in one piece of work, and the moves that each was rewritten by.
+/// The number of copies of a slip that are judged in one piece of work.
 const COPIES: usize = 100;
+
+/// The number of moves by which each copy was rewritten.
 const COPY_MOVES: usize = 100;
 
 /// Who does the work.
@@ -52,7 +56,7 @@ pub const ALL: [Who; 3] = [Who::Library, Who::Rust, Who::C];
 /// One piece of work, with its inputs.
 pub enum Work {
     Verdict(Slip),
-    /// One digest and many words, whose verdicts are whole or by halves.
+    /// One digest and many words. The verdicts are whole, or by halves.
     Copies {
         slip: Slip,
         words: Vec<Vec<u8>>,
@@ -63,7 +67,7 @@ pub enum Work {
         word: Vec<u8>,
         by_columns: bool,
     },
-    /// One letter after another on a lent pair, from the starting one.
+    /// Letters multiplied one after another into a lent pair, which is the starting pair first.
     Multiplying {
         t_values: [u8; 8],
         codes: Vec<u8>,
@@ -85,6 +89,7 @@ pub enum Work {
     Storing {
         word: Vec<u8>,
     },
+    /// A stored form that is restored.
     Restoring {
         stored: Vec<u8>,
     },
@@ -110,14 +115,14 @@ pub enum Work {
     },
 }
 
-/// What came of it: an answer or a number, and the bytes written.
+/// The outcome of a piece of work: an answer or another number, and the bytes that were written.
 #[derive(PartialEq, Eq, Debug)]
 pub struct Outcome {
     pub number: u32,
     pub written: Vec<u8>,
 }
 
-/// A name, a number of parts to divide the time by, and the work.
+/// A case: its name, the number of parts by which the time is divided, and the work.
 pub struct Case {
     pub name: &'static str,
     pub parts: usize,
@@ -135,7 +140,7 @@ fn cloaking_number(answer: Result<bool, u8>) -> u32 {
     }
 }
 
-/// The answer of reading a key.
+/// The answer of the key reader.
 fn key_answer(file: &[u8], who: Who) -> u32 {
     match who {
         Who::Library => number(black_box(walnut::read_key(file)).map(|_| ()).map_err(Refusal::number)),
@@ -144,7 +149,7 @@ fn key_answer(file: &[u8], who: Who) -> u32 {
     }
 }
 
-/// The verdict on a slip with this word in the place of its own.
+/// The verdict on a slip with this word instead of its own.
 fn verdict(who: Who, slip: &Slip, word: &[u8]) -> u32 {
     let Slip { key, digest, .. } = slip;
     match who {
@@ -154,7 +159,7 @@ fn verdict(who: Who, slip: &Slip, word: &[u8]) -> u32 {
     }
 }
 
-/// The sum of the verdicts on a slip with each of these words, by halves: one first half serves all.
+/// The sum of the verdicts on a slip with each of these words, by halves. The first half runs once for all words.
 fn by_halves(who: Who, slip: &Slip, words: &[Vec<u8>]) -> u32 {
     let Slip { key, digest, .. } = slip;
     match who {
@@ -179,7 +184,7 @@ fn by_rows(pair: &walnut::Pair) -> [u8; 80] {
     })
 }
 
-/// Writes bytes to the front of the output: how many.
+/// Copies bytes to the front of the output. Returns their number.
 fn lay_out(bytes: &[u8], out: &mut [u8]) -> usize {
     out[..bytes.len()].copy_from_slice(bytes);
     bytes.len()
@@ -187,7 +192,7 @@ fn lay_out(bytes: &[u8], out: &mut [u8]) -> usize {
 
 const ORDER: [u8; 8] = [0, 1, 2, 3, 4, 5, 6, 7];
 
-/// How often two labels cross in an accepted word, by a walk that counts all pairs.
+/// How often two labels cross in an accepted word. Each of the three counts all pairs of labels in one pass.
 fn crossings(who: Who, word: &[u8], a: u8, b: u8) -> i32 {
     match who {
         Who::Library => walnut::crossings(word, a, b).unwrap_or(0),
@@ -248,7 +253,7 @@ fn loaded(who: Who, keys: &[Vec<u8>], out: &mut [u8]) -> (u32, usize) {
 }
 
 impl Work {
-    /// Does the work once into an output of 5,006 bytes: its number, and how many bytes it wrote.
+    /// Does the work once, with an output of 5,006 bytes. Returns its number, and the number of bytes that it wrote.
     pub fn run(&self, who: Who, out: &mut [u8]) -> (u32, usize) {
         match (self, who) {
             (Work::Verdict(slip), who) => (verdict(who, slip, &slip.word), 0),
@@ -322,7 +327,7 @@ impl Work {
         }
     }
 
-    /// What comes of it; of crossings the numbers of all 28 pairs.
+    /// The outcome of the work. For crossings the bytes are the numbers of all 28 pairs of labels.
     pub fn outcome(&self, who: Who) -> Outcome {
         let mut out = vec![0; STORED_BYTES];
         let (number, bytes) = self.run(who, &mut out);
@@ -335,8 +340,8 @@ impl Work {
     }
 }
 
-/// A slip of this word that the verdict accepts, under a key as keys are made: Pub(S) is where a long word carries the
-/// starting pair, so that its matrix has an inverse and few zeros.
+/// An accepted slip of this word, under a key like those of key generation: a long word carries the starting pair to
+/// Pub(S), so the matrix of Pub(S) has an inverse and few zeros.
 fn accepted(random: &mut Random, field: Field, codes: &[u8]) -> Slip {
     let (t_values, private) = (random.key_t_values(field), random.word(typical(field)));
     let digest = random.digest(field);
@@ -344,13 +349,13 @@ fn accepted(random: &mut Random, field: Field, codes: &[u8]) -> Slip {
     accepted_slip(field, &t_values, &pair, &digest, codes)
 }
 
-/// A slip of so many letters that the verdict accepts.
+/// The verdict on an accepted slip with this number of letters.
 fn slip(random: &mut Random, field: Field, letters: usize) -> Work {
     let codes = random.word(letters);
     Work::Verdict(accepted(random, field, &codes))
 }
 
-/// An accepted slip of a typical word, and copies of the word that were rewritten by moves of all kinds.
+/// The verdicts on copies of a typical word. Moves of all kinds have rewritten each copy.
 fn copies(random: &mut Random, halved: bool) -> Work {
     let codes = random.tangled_word(typical(Field::Gf32));
     let slip = accepted(random, Field::Gf32, &codes);
@@ -358,8 +363,8 @@ fn copies(random: &mut Random, halved: bool) -> Work {
     Work::Copies { slip, words: (0..COPIES).map(copy).collect(), halved }
 }
 
-/// A word of 10,000 letters that cloaks: 5,000 letters, and the way back. The C goes over rows of bytes, or over
-/// columns of 64 bits as the library does.
+/// A word of 10,000 letters that cloaks: 5,000 letters, then their inverses in reverse order. The C code works on rows
+/// of bytes, or on columns of 64 bits as the library does.
 fn cloaking(random: &mut Random, field: Field, by_columns: bool) -> Work {
     let there = random.word(LONGEST / 2);
     let back = there.iter().rev().map(|code| code ^ 8);
@@ -367,12 +372,12 @@ fn cloaking(random: &mut Random, field: Field, by_columns: bool) -> Work {
     Work::Cloaking { key: accepted(random, field, &[]).key, word: word_file(&codes), by_columns }
 }
 
-/// Keys as keys are made.
+/// Reading keys like those of key generation.
 fn keys(random: &mut Random, field: Field) -> Work {
     Work::Keys((0..KEYS).map(|_| accepted(random, field, &[]).key).collect())
 }
 
-/// Keys of the smaller field with both matrices zero: the first elimination ends at its first column.
+/// Reading keys of the smaller field with both matrices zero. The first elimination ends at its first column.
 fn zero_keys(random: &mut Random) -> Work {
     let blank = |_| {
         let mut key = accepted(random, Field::Gf32, &[]).key;
@@ -383,12 +388,12 @@ fn zero_keys(random: &mut Random) -> Work {
     Work::Keys((0..KEYS).map(blank).collect())
 }
 
-/// So many letters on a lent pair.
+/// Multiplying this number of letters into a lent pair.
 fn multiplying(random: &mut Random, letters: usize) -> Work {
     Work::Multiplying { t_values: random.key_t_values(Field::Gf32), codes: random.word(letters) }
 }
 
-/// 4,096 moves of all kinds, each possible on the word that the last one left.
+/// Rewriting by 4,096 moves of all kinds. Each move is possible on the word that the move before it left.
 fn rewriting(random: &mut Random) -> Work {
     let codes = random.tangled_word(REWRITTEN);
     let walk = random.walk(&codes, MOVES);
@@ -396,7 +401,7 @@ fn rewriting(random: &mut Random) -> Work {
     Work::Rewriting { word: word_file(&codes), moves: move_list(&walk.moves) }
 }
 
-/// As many moves as a list may have: b1 and its inverse come and go at a place of a word, by turns.
+/// Rewriting by as many moves as a list may have. By turns they insert b1 b1⁻¹ at one place and remove it again.
 fn by_turns(letters: usize, place: usize) -> Work {
     let codes: Vec<u8> = (0..letters).map(|place| (place % 2) as u8).collect();
     let step = |turn| Move { place: place as u16, kind: if turn % 2 == 0 { 16 } else { 1 } };
@@ -404,17 +409,17 @@ fn by_turns(letters: usize, place: usize) -> Work {
     Work::Rewriting { word: word_file(&codes), moves: move_list(&moves) }
 }
 
-/// No moves on a word of so many letters: it is read, unpacked and written.
+/// Rewriting a word of this number of letters by no moves. The word is read, unpacked and written.
 fn no_moves(random: &mut Random, letters: usize) -> Work {
     Work::Rewriting { word: word_file(&random.word(letters)), moves: move_list(&[]) }
 }
 
-/// Free reduction of a word of so many letters, many of which cancel.
+/// Free reduction of a word of this number of letters, many of which cancel.
 fn reduction(random: &mut Random, letters: usize) -> Work {
     Work::Reduction { word: word_file(&random.tangled_word(letters)) }
 }
 
-/// The stored form of a word of so many letters.
+/// The stored form of a word of this number of letters.
 fn stored(random: &mut Random, letters: usize) -> Vec<u8> {
     let mut out = [0; STORED_BYTES];
     let bytes = plain_c::store(&word_file(&random.word(letters)), &mut out);
@@ -468,7 +473,7 @@ fn loading(random: &mut Random) -> Work {
 /// How many cases there are.
 pub const CASES: usize = 32;
 
-/// The case of a number, the same in every run.
+/// The case with a number. It is the same in every run.
 pub fn case(number: usize) -> Case {
     plain_c::tables();
     let random = &mut Random::seeded(1);

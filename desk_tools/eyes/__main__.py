@@ -1,7 +1,7 @@
-"""Shows files to people, spells them from text, and draws braids and how words spread. ./walnut calls it, and checks the
-arguments.
+"""Shows files as text, makes files from text, and draws braids and how words spread. ./walnut calls this program and
+checks its arguments.
 
-Every answer comes from the proved library, through its binding. What is printed and drawn is not proved.
+Every answer comes from the proved library, through its binding. The texts and pictures are not proved.
 Exit status: 0 done; 4 a refusal; 1 a file could not be read or written; 3 the library could not be loaded.
 """
 

@@ -13,7 +13,7 @@ from walnut import letter_text
 COLOURS = ["#1f77b4", "#d62728", "#2ca02c", "#9467bd", "#ff7f0e", "#17a2b8", "#8c564b", "#e0559f"]
 STRANDS = 8
 
-# How many letters stand in a row, and lengths in the picture.
+# The number of letters in a row, and lengths in the picture.
 ROW = 40
 WIDE = 30
 HIGH = 20
@@ -30,7 +30,7 @@ def main(*paths):
     files.write(picture, svg(drawn).encode())
 
 
-# ---- what the letters do, asked of the library
+# ---- what the letters do; the library says it
 
 
 def orders(codes):

@@ -30,7 +30,8 @@ def count(number, thing):
 
 
 def read(path, limit):
-    """The file's bytes, up to one past the limit, so that a longer file shows; and the file's size."""
+    """The file's bytes and its size. It reads at most one byte more than the limit, which shows that a file is too
+    long."""
     with open(path, "rb") as file:
         data = file.read(limit + 1)
         status = os.fstat(file.fileno())
@@ -38,7 +39,8 @@ def read(path, limit):
 
 
 def write(path, data):
-    """Writes a file beside its place, and renames it when it is complete. ./walnut has checked the place."""
+    """Writes the file under another name in its folder, and renames it when it is complete. ./walnut has checked that
+    the file may be replaced."""
     beside = os.path.join(os.path.dirname(path), f".walnut-{os.getpid()}-{os.urandom(4).hex()}")
     try:
         with open(beside, "xb") as file:
@@ -62,7 +64,7 @@ def half(data, place):
     return byte % 16 if place % 2 else byte // 16
 
 
-# The kinds of moves as text. After 'insert' stands a letter.
+# The kinds of moves as text. An insertion is 'insert' and a letter.
 KINDS = {walnut.REMOVE: "remove", walnut.SWAP: "swap", walnut.TURN: "turn"}
 INSERT = walnut.insert(0)
 
@@ -95,7 +97,7 @@ class KeyParts:
 
 
 class StoredParts:
-    """Where the rows of a stored form of so many letters stand: the first byte of each row, and its number of bytes."""
+    """Where the rows of a stored form stand: the first byte of each row, and its number of bytes."""
 
     def __init__(self, letters):
         signs, generators = (letters + 7) // 8, (3 * letters + 7) // 8
@@ -104,7 +106,7 @@ class StoredParts:
 
 
 def packed(file, part, bits, count):
-    """The first numbers of a part, each of so many bits. The most significant bit comes first."""
+    """The first `count` numbers of a part, `bits` bits each. The most significant bit comes first."""
     start, length = part
     value = int.from_bytes(file[start : start + length], "big")
     return [value >> (8 * length - bits * (k + 1)) & (2**bits - 1) for k in range(count)]

@@ -8,7 +8,7 @@ import files
 from files import KeyParts, Refused, count
 from walnut import letter_text
 
-# How many letters stand in a row of text.
+# The number of letters in a row of text.
 ROW = 10
 
 
@@ -53,8 +53,8 @@ def print_letters(told, codes):
 
 
 def strands(codes):
-    """The pair before each letter and after the last one, from the start. The T-values are 1, since only the lists are
-    looked at."""
+    """The pair before each letter and after the last one, from the starting pair on. All T-values are 1, because the
+    callers use only the lists."""
     pair = walnut.Pair.start()
     yield pair
     for code in codes:
@@ -72,7 +72,7 @@ def word(path):
 
 
 def word_fault(path, file, size, answer):
-    """The place at which a refused word fails, and what stands there."""
+    """Says where a refused word fails, and what stands there."""
     letters = int.from_bytes(file[:2], "big")
     at = f"'{path}', {count(size, 'byte')}, "
     stated = at + f"bytes 0 and 1: {file[:2].hex(' ')}, so it states {count(letters, 'letter')}"
@@ -105,7 +105,7 @@ def show_stored(path):
 
 
 def stored_fault(path, file, size, answer):
-    """The place at which a refused stored form fails, and what stands there."""
+    """Says where a refused stored form fails, and what stands there."""
     if size < 6:
         return [f"'{path}' has {count(size, 'byte')}; a stored form has at least 6"]
     at = f"'{path}', {size} bytes, "
@@ -124,7 +124,7 @@ def stored_fault(path, file, size, answer):
 
 
 def stored_bits(file, parts, letters):
-    """The first generator that is 7, and filler that is not zero."""
+    """Says where the first generator 7 stands, and where filler is not zero."""
     numbers = files.packed(file, parts.generators, 3, letters)
     if 7 in numbers:
         place = numbers.index(7)
@@ -169,7 +169,7 @@ def show_key(path):
 
 
 def key_fault(path, file, size, answer):
-    """The place at which a refused key fails, and what stands there."""
+    """Says where a refused key fails, and what stands there."""
     at = f"'{path}', {count(size, 'byte')}, "
     if answer == 1:
         return [f"'{path}' has {count(size, 'byte')}; a key has {' or '.join(map(str, sorted(files.FIELDS)))} bytes"]
@@ -200,7 +200,8 @@ def fillers(file, parts):
 
 
 def no_inverses(at, file, parts, t_values, labels):
-    """The matrices without an inverse. The library refuses a key with such a matrix beside the identity."""
+    """Says which matrices have no inverse. To find out, it asks the library to write a key of the matrix and the
+    identity."""
     identity = walnut.file_entries(walnut.Pair.start().matrix)
     for name, part in (("Pub(S)", parts.first), ("Pub(S')", parts.second)):
         entries = files.packed(file, part, parts.bits, 57)
@@ -268,7 +269,7 @@ def unknown_kind(path, moves, number):
 
 
 def made(listed, moves, on):
-    """Finds the move that the library refuses. Each move is made on the word that the one before it left."""
+    """Finds the first move that the library refuses. Each move is made on the word that the move before it left."""
     file = word(on)[0]
     for number, (place, kind) in enumerate(moves, 1):
         try:

@@ -1,5 +1,5 @@
-"""Turns text, as `show` prints it, into a file. A `#` begins a comment. If a row begins with a number and a colon, the
-number must be the one that `show` prints there, so that a missing or repeated row is found."""
+"""Turns text into a file. The text is written as `show` prints it. A `#` begins a comment. If a row begins with a
+number and a colon, the number must be the one that `show` would print, so that a missing or repeated row is found."""
 
 import re
 
@@ -31,7 +31,7 @@ def rows(path, data):
 
 
 def numbered(path, number, told, due, what):
-    """Refuses a row whose number before the colon is not the one that is due."""
+    """Refuses a row if the number before its colon is not the expected number `due`."""
     if told is not None and told.lstrip("0") != str(due).lstrip("0"):
         raise bad(path, number, f"the row begins with {told}:, but {what} {due}; is a row missing or repeated?")
 

@@ -1,7 +1,10 @@
-"""Draws how words spread over the 24 lists of four labels, as an SVG picture. For one length there is a bar for each
-list: how many words end in it, beside the number at which all lists that can be reached are reached alike. For every
-length up to 12 there is a column of shades: the share of each list, with 1 for such a number. A list that no word of a
-length reaches is hatched: at even lengths these are 12 of the 24, and at odd lengths the other 12."""
+"""Draws how words spread over the 24 lists of four labels, as an SVG picture.
+
+On the left each list has a bar for one length: the number of words that end in the list. A line marks the even number.
+This is the number that each list would have if all 12 lists that even or odd lengths can reach were reached equally
+often. On the right every length up to 12 has a column of shades. A shade shows a list's share: its number divided by
+the even number. A list that no word of the length reaches is hatched. Even lengths can reach 12 of the 24 lists, and
+odd lengths the other 12."""
 
 from itertools import permutations
 
@@ -25,16 +28,16 @@ def main(length, picture):
     files.write(picture, svg(int(length)).encode())
 
 
-# ---- the numbers, asked of the library
+# ---- the numbers; the library says them
 
 
 def numbers(length):
-    """How many words of the length end in each list."""
+    """For each list, the number of words of the length that end in it."""
     return [walnut.words_ending(length, labels) for labels in LISTS]
 
 
 def even(counts):
-    """The number that each list would have if the lists that can be reached at long lengths were reached alike."""
+    """The even number: all words, divided by the 12 lists that even or odd lengths can reach."""
     return sum(counts) / (len(LISTS) / 2)
 
 
@@ -50,12 +53,12 @@ def middle(k):
 
 
 def names():
-    """The lists, one below the other."""
+    """The names of the lists, one below the other."""
     return [text(BARS - 8, middle(k) + 4, " ".join(map(str, labels)), "end") for k, labels in enumerate(LISTS)]
 
 
 def bars(length):
-    """For each list its number as a bar, and a line at the even number."""
+    """A bar for the number of each list, and a line at the even number."""
     counts = numbers(length)
     scale = WIDE / max(*counts, even(counts))
     parts = [text(BARS + WIDE / 2, TOP - 30, f"words of length {length}, {sum(counts):,} in all", "head")]
@@ -73,14 +76,14 @@ def bars(length):
 
 
 def shade(share):
-    """White for 0, and darker for more: a middle blue for 1, the darkest from 2 on."""
+    """The colour of a share: white for 0, a middle blue for 1, and the darkest blue from 2 on."""
     part = min(share, 2) / 2
     return f"rgb({round(255 - 215 * part)},{round(255 - 165 * part)},{round(255 - 75 * part)})"
 
 
 def column(length, chosen):
-    """For each list its share of the words of a length. Below them stand the largest and the smallest share of the 12
-    lists that even or odd lengths can reach."""
+    """The share of each list for one length. Below the shares stand the largest and the smallest share of the 12 lists
+    that even or odd lengths can reach."""
     counts = numbers(length)
     shares = [number / even(counts) for number in counts]
     x = SHADES + length * CELL

@@ -6,20 +6,20 @@ use crate::pair::{carried, Labels, Pair};
 use crate::questions::{first_no, first_refusal, is_each_label_once};
 use crate::word::{letters, word_answer};
 
-/// The answer, and whether the word cloaks; no on a refusal.
+/// The answer, and whether the word cloaks. On a refusal `yes` is false.
 #[derive(Clone, Copy, Debug, PartialEq, Eq)]
 pub struct Cloak {
     pub answer: u8,
     pub yes: bool,
 }
 
-/// The answer to a list's question: 25, or 0.
+/// The answer to the question about the list: 25 if it does not hold the labels 0 to 7, each once; otherwise 0.
 fn list_answer(labels: &[u8]) -> u8 {
     first_no(&[(25, is_each_label_once)], labels)
 }
 
-/// Does the word with these letters bring the identity matrix with this list back unchanged, list included, over the
-/// key's field?
+/// Does the word carry the identity matrix with this list back to itself, over the key's field? Both the matrix and the
+/// list must come back.
 fn leaves_unchanged(key: &Key, labels: Labels, codes: &[u8]) -> bool {
     let pair = Pair::of(identity(), labels);
     carried(key.field, &pair, &key.t_values, codes) == pair

@@ -1,21 +1,21 @@
 //! How often two strands cross (document 02, section 2).
 //!
-//! This module keeps no list of labels. It follows the positions of two strands. They cross at a letter that makes them
-//! change positions with each other.
+//! This module keeps no list of labels. It follows the positions of two strands. The two cross at every letter that
+//! exchanges their positions.
 
 use crate::letter::{letters_of, Letter};
 use crate::questions::{first_no, first_refusal};
 use crate::word::{letters, word_answer};
 use crate::STRANDS;
 
-/// The answer, and how often the strands cross; 0 on a refusal.
+/// The answer, and how often the strands cross. On a refusal `crossings` is 0.
 #[derive(Clone, Copy, Debug, PartialEq, Eq)]
 pub struct Crossing {
     pub answer: u8,
     pub crossings: i32,
 }
 
-/// Where a strand that stands at this position, counted from 1, stands after the letter.
+/// The position to which the letter moves the strand at `position`. Positions count from 1.
 fn moved(position: usize, letter: Letter) -> usize {
     match position {
         _ if position == letter.generator => position + 1,
@@ -24,8 +24,8 @@ fn moved(position: usize, letter: Letter) -> usize {
     }
 }
 
-/// The letters at which two strands, which begin at these positions, change positions with each other: plus 1 for a
-/// generator, minus 1 for an inverse.
+/// How often two strands cross that begin at these positions. Each letter that exchanges the two counts plus 1 if it is
+/// a generator, and minus 1 if it is an inverse.
 pub fn winding(codes: &[u8], from: [usize; 2]) -> i32 {
     let mut positions = from;
     let mut number = 0;
@@ -39,14 +39,13 @@ pub fn winding(codes: &[u8], from: [usize; 2]) -> i32 {
     number
 }
 
-/// The winding of each two labels, the smaller before the larger, in increasing order. Label a begins at position a +
-/// 1.
+/// The winding of every two labels a < b, in increasing order. Label a begins at position a + 1.
 pub fn windings(codes: &[u8]) -> Vec<(usize, usize, i32)> {
     let pairs = (0..STRANDS).flat_map(|a| (a + 1..STRANDS).map(move |b| (a, b)));
     pairs.map(|(a, b)| (a, b, winding(codes, [a + 1, b + 1]))).collect()
 }
 
-/// The answer to the labels' question: 27, or 0.
+/// The answer to the question about the labels: 0 if they are two different labels, otherwise 27.
 fn labels_answer(a: u8, b: u8) -> u8 {
     let labelled = |[a, b]: &[u8; 2]| usize::from(*a) < STRANDS && usize::from(*b) < STRANDS && a != b;
     first_no(&[(27, labelled)], &[a, b])

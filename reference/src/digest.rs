@@ -1,5 +1,5 @@
-//! The digest as a braid (document 01; it departs from source 000, section 5.1, in the choice of the
-//! generators and in that nothing is cancelled between half bytes).
+//! The digest as a braid (document 01). Document 01 departs from source 000, section 5.1: it chooses other generators,
+//! and it cancels nothing between half bytes.
 
 use crate::bits;
 use crate::field::Field;
@@ -7,9 +7,9 @@ use crate::letter::Letter;
 use crate::questions::{first_no, first_refusal};
 use crate::word::{room_answer, write_file, Written};
 
-/// The codes of the braid of one half byte: the power p of the pure braid generator of source 003, section 9,
-/// equation (11), for strands l and 8. It is b7 down to b_(l+1), then b_l 2 × p times, then the inverses of
-/// b_(l+1) up to b7.
+/// The codes of the braid of one half byte. The braid is the p-th power of the pure braid generator for strands l and 8
+/// (source 003, section 9, equation (11)). Its letters are b7 down to b_(l+1), then b_l 2 × p times, then the inverses
+/// of b_(l+1) up to b7.
 pub fn half_byte_braid(half: u8) -> Vec<u8> {
     let l = match half % 4 {
         0 => 7,
@@ -24,18 +24,18 @@ pub fn half_byte_braid(half: u8) -> Vec<u8> {
     down.chain(core).chain(up).map(Letter::code).collect()
 }
 
-/// The codes of a digest's braid: those of its half bytes, high half first, one after another.
+/// The codes of a digest's braid: the braids of its half bytes one after another, the high half of each byte first.
 pub fn digest_braid(digest: &[u8]) -> Vec<u8> {
     bits::numbers(&bits::of_bytes(digest), 4).into_iter().flat_map(half_byte_braid).collect()
 }
 
-/// The answer to a digest's question under a key over this field: 8, or 0. The digest must have the length that goes
-/// with the key.
+/// The answer to the question about a digest under a key over this field: 0 if the digest has the length that goes with
+/// the key, otherwise 8.
 pub fn digest_answer(field: Field, digest: &[u8]) -> u8 {
     first_no(&[(8, |(field, bytes): &(Field, usize)| *bytes == field.digest_bytes())], &(field, digest.len()))
 }
 
-/// The answer to a digest's question without a key: 8, or 0. The digest must have 32 bytes or 64.
+/// The answer to the question about a digest without a key: 0 if the digest has 32 or 64 bytes, otherwise 8.
 fn any_digest_answer(digest: &[u8]) -> u8 {
     first_no(
         &[(8, |bytes: &usize| Field::BOTH.iter().any(|field| *bytes == field.digest_bytes()))],
@@ -43,7 +43,7 @@ fn any_digest_answer(digest: &[u8]) -> u8 {
     )
 }
 
-/// The encoder, used alone: writes the whole braid as a word file. Answers: 15, 8.
+/// Writes the digest's braid as a word file. Answers: 15, 8.
 pub fn encode_digest(digest: &[u8], out: &mut [u8]) -> Written {
     match first_refusal(&[room_answer(out), any_digest_answer(digest)]) {
         0 => write_file(&digest_braid(digest), out),

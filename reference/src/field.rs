@@ -1,13 +1,13 @@
 //! The two fields: of 32 elements (document 01, "The field"; source 000, section 11.1) and of 256 (document 02,
 //! section 7).
 //!
-//! A number's bits are the coefficients of a polynomial over two elements. Sums are exclusive or, and minus
-//! changes nothing. Products are taken of the polynomials and divided by the field's own polynomial; the rest is
-//! the product in the field.
+//! An element is a number, and its bits are the coefficients of a polynomial over two elements. A sum is an exclusive
+//! or, and a minus sign changes nothing. A product is the product of the two polynomials, divided by the field's own
+//! polynomial: the remainder is the product in the field.
 
 use crate::questions::{first_no, Question};
 
-/// One of the two fields. All that differs between strengths 128 and 256 is read off it.
+/// One of the two fields. Everything that differs between strengths 128 and 256 follows from the field.
 #[derive(Clone, Copy, Debug, PartialEq, Eq, PartialOrd, Ord)]
 pub enum Field {
     /// 32 elements: strength 128.
@@ -16,7 +16,7 @@ pub enum Field {
     Gf256,
 }
 
-/// An element of a field with the answer to the questions put on the way to it.
+/// The answer, and an element of a field. On a refusal the element is 0.
 #[derive(Clone, Copy, Debug, PartialEq, Eq)]
 pub struct Element {
     pub answer: u8,
@@ -28,13 +28,13 @@ fn bit_length(polynomial: u16) -> u32 {
     u16::BITS - polynomial.leading_zeros()
 }
 
-/// The product of two polynomials of at most sixteen bits in all, the second of at most eight: a shifted copy of
-/// the first for every term of the second.
+/// The product of two polynomials: the sum of a shifted copy of the first for every term of the second. The second has
+/// at most eight bits, and the product at most sixteen.
 fn polynomial_product(left: u16, right: u16) -> u16 {
     (0..8).filter(|term| right >> term & 1 == 1).fold(0, |sum, term| sum ^ left << term)
 }
 
-/// Long division of polynomials: quotient and rest. The divisor is not zero.
+/// Long division of polynomials: quotient and remainder. The divisor must not be zero.
 fn long_division(dividend: u16, divisor: u16) -> (u16, u16) {
     let (mut quotient, mut rest) = (0, dividend);
     while bit_length(rest) >= bit_length(divisor) {
@@ -56,7 +56,7 @@ impl Field {
         }
     }
 
-    /// q, the number of its elements.
+    /// q, the number of elements.
     pub fn size(self) -> u16 {
         match self {
             Field::Gf32 => 32,
@@ -64,7 +64,7 @@ impl Field {
         }
     }
 
-    /// The bytes of a key file over it.
+    /// The number of bytes of a key file over the field.
     pub fn key_bytes(self) -> usize {
         match self {
             Field::Gf32 => 83,
@@ -72,7 +72,7 @@ impl Field {
         }
     }
 
-    /// The bytes of the digest that goes with such a key.
+    /// The number of bytes of a digest that goes with a key over the field.
     pub fn digest_bytes(self) -> usize {
         match self {
             Field::Gf32 => 32,
@@ -85,7 +85,7 @@ impl Field {
         u16::from(number) < self.size()
     }
 
-    /// The element that a polynomial leaves on division by the field's.
+    /// The remainder of a polynomial after division by the field's polynomial.
     fn reduced(self, polynomial: u16) -> u8 {
         let (_, rest) = long_division(polynomial, self.modulus());
         rest as u8
@@ -96,9 +96,9 @@ impl Field {
         self.reduced(polynomial_product(left.into(), right.into()))
     }
 
-    /// The reciprocal of an element other than zero, by Euclid's algorithm on the field's polynomial and the
-    /// element, which have no common divisor but 1. Each `(rest, factor)` satisfies rest = factor × element, up to
-    /// a multiple of that polynomial.
+    /// The reciprocal of an element other than zero, by Euclid's algorithm on the field's polynomial and the element.
+    /// The only common divisor of the two is 1. Each `(rest, factor)` satisfies rest = factor × element, up to a
+    /// multiple of the field's polynomial.
     pub fn inverse(self, element: u8) -> u8 {
         let mut before = (self.modulus(), 0);
         let mut now = (u16::from(element), 1);
@@ -111,19 +111,19 @@ impl Field {
     }
 }
 
-/// What product and reciprocal are asked about.
+/// The input of the questions that `product` and `reciprocal` ask.
 struct Operands {
     field: Field,
     numbers: Vec<u8>,
 }
 
-/// The question whether all operands are elements.
+/// Are all operands elements of the field?
 const ELEMENTS: Question<Operands> = (17, |of| of.numbers.iter().all(|number| of.field.has(*number)));
 
-/// The question whether none is zero.
+/// Are all operands other than zero?
 const NOT_ZERO: Question<Operands> = (4, |of| !of.numbers.contains(&0));
 
-/// The field product, used alone. Answer: 17.
+/// The product of two numbers that need not be elements. Answer: 17.
 pub fn product(field: Field, left: u8, right: u8) -> Element {
     match first_no(&[ELEMENTS], &Operands { field, numbers: vec![left, right] }) {
         0 => Element { answer: 0, value: field.times(left, right) },
@@ -131,7 +131,7 @@ pub fn product(field: Field, left: u8, right: u8) -> Element {
     }
 }
 
-/// The reciprocal, used alone. Answers: 17, then 4 for zero.
+/// The reciprocal of a number that need not be an element. Answers: 17, then 4 for zero.
 pub fn reciprocal(field: Field, element: u8) -> Element {
     match first_no(&[ELEMENTS, NOT_ZERO], &Operands { field, numbers: vec![element] }) {
         0 => Element { answer: 0, value: field.inverse(element) },

@@ -1,9 +1,11 @@
 //! The verdict in two halves (document 02, section 4): one digest, many copies of a slip.
 //!
-//! Both sides are worked out otherwise than by the whole verdict. The braid of a half byte is pure: it leaves the list
-//! as it was. So the matrix that a digest's braid reaches is the product of those that the braids of its half bytes
-//! reach. A letter acts on a matrix from the right. So the matrix that a word reaches from Pub(S) is that of Pub(S)
-//! times the one that it reaches from the identity matrix with Pub(S)'s list.
+//! The whole verdict and the halves compute the two matrices that are compared in different ways.
+//!
+//! - The target: the braid of a half byte is pure, that is, it does not change the list. So the matrix that a digest's
+//!   braid reaches is the product of the matrices that the braids of its half bytes reach.
+//! - The signature's matrix: a letter multiplies a matrix from the right. So the matrix that a word reaches from Pub(S)
+//!   is the matrix of Pub(S) times the matrix that the word reaches from the identity matrix with Pub(S)'s list.
 
 use crate::bits;
 use crate::digest::{digest_answer, half_byte_braid};
@@ -16,8 +18,8 @@ use crate::verdict::equality_answer;
 use crate::word::{letters, word_answer};
 use crate::STRANDS;
 
-/// What the first half gives and the second takes: the field, the T-values, Pub(S), and the matrix that a signature
-/// must reach from Pub(S).
+/// The result of the first half, and the input of the second: the field, the T-values, Pub(S), and the matrix that a
+/// signature must reach from Pub(S).
 #[derive(Clone, Copy, Debug, PartialEq, Eq)]
 pub struct Half {
     pub field: Field,
@@ -37,14 +39,14 @@ impl Half {
     }
 }
 
-/// An answer, and the half; on a refusal zeros.
+/// The answer, and the half. On a refusal the half is [`Half::ZEROS`].
 #[derive(Clone, Copy, Debug, PartialEq, Eq)]
 pub struct Halved {
     pub answer: u8,
     pub half: Half,
 }
 
-/// The matrices of the digest's half bytes, first to last, times the matrix of Pub(S').
+/// The product of the matrices of the digest's half bytes, first to last, times the matrix of Pub(S').
 fn target(key: &Key, digest: &[u8]) -> Matrix {
     let half_bytes = bits::numbers(&bits::of_bytes(digest), 4);
     half_bytes.into_iter().rev().fold(key.second, |after, half| {
@@ -62,14 +64,15 @@ pub fn first_half(key: &[u8], digest: &[u8]) -> Halved {
     }
 }
 
-/// The matrix of Pub(S) times the one that the letters reach from the identity with Pub(S)'s list.
+/// The matrix of Pub(S) times the matrix that the letters reach from the identity matrix with Pub(S)'s list.
 fn signed(half: &Half, codes: &[u8]) -> Matrix {
     let from = Pair { matrix: identity(), ..half.pair };
     let reached = carried(half.field, &from, &half.t_values, codes).matrix;
     matrix_product(half.field, &half.pair.matrix, &reached)
 }
 
-/// The questions of a half that is handed in. The first two T-values may be any but zero, and row 8 may hold anything.
+/// The questions about a half. A half may have what no key has: the first two T-values may be any elements but zero,
+/// and row 8 of a matrix may hold any elements.
 const QUESTIONS: [Question<Half>; 4] = [
     (17, |half| {
         let matrices = half.pair.matrix.iter().chain(&half.target);

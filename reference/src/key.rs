@@ -1,7 +1,9 @@
 //! Key files (document 01, "Files"; document 02, sections 1 and 7; source 000, sections 10 and 10.1).
 //!
-//! N, q, eight T-values, the matrix of Pub(S), its list, the matrix of Pub(S'). A matrix is 57 entries of five bits and
-//! three bits of filler, or of eight bits without filler: 664 bits in all, that is 83 bytes, or 1,024, that is 128.
+//! A key file holds N, q, eight T-values, the matrix of Pub(S), the list of Pub(S), and the matrix of Pub(S'). It holds
+//! 57 entries of each matrix. Over the field with 32 elements an entry has five bits, and three bits of filler follow
+//! each matrix: the file has 664 bits, that is 83 bytes. Over the field with 256 elements an entry has eight bits, and
+//! there is no filler: the file has 1,024 bits, that is 128 bytes.
 
 use std::ops::Range;
 
@@ -12,7 +14,7 @@ use crate::pair::{Labels, Pair, TValues};
 use crate::questions::{first_no, is_each_label_once, Question};
 use crate::STRANDS;
 
-/// The entries of a matrix that a key file holds: rows 1 to 7 whole, then the last entry of row 8.
+/// The number of entries of a matrix that a key file holds: rows 1 to 7 whole, then the last entry of row 8.
 pub const PACKED_ENTRIES: usize = 57;
 
 /// The entries of a matrix in the order of the file.
@@ -21,11 +23,13 @@ pub type Entries = [u8; PACKED_ENTRIES];
 /// The bits of a label.
 const LABEL_BITS: usize = 3;
 
-/// Where a file has N and q, in bits.
+/// The bits of N in a file.
 const N: Range<usize> = 0..8;
+
+/// The bits of q in a file.
 const Q: Range<usize> = 8..24;
 
-/// Where each further part stands in a file's string of bits, and how wide an element is.
+/// The number of bits of an element, and the bits of each part of a file after N and q.
 #[derive(Debug, PartialEq, Eq)]
 pub struct Layout {
     pub element: usize,
@@ -37,7 +41,7 @@ pub struct Layout {
     pub second_filler: Range<usize>,
 }
 
-/// A key file over the field with 32 elements.
+/// The layout of a key file over the field with 32 elements.
 const SMALL: Layout = Layout {
     element: 5,
     t_values: 24..64,
@@ -48,7 +52,7 @@ const SMALL: Layout = Layout {
     second_filler: 661..664,
 };
 
-/// A key file over the field with 256 elements: the filler has no bits.
+/// The layout of a key file over the field with 256 elements. The filler has no bits.
 const LARGE: Layout = Layout {
     element: 8,
     t_values: 24..88,
@@ -67,8 +71,8 @@ pub fn layout(field: Field) -> &'static Layout {
     }
 }
 
-/// A key as read: its field, T-values, Pub(S) and the matrix of Pub(S'). On a refusal the field is the one with 32
-/// elements, and everything but the answer is zeros.
+/// The answer, and the key: its field, T-values, Pub(S) and the matrix of Pub(S'). On a refusal the field is the one
+/// with 32 elements, and every number of the key is 0.
 #[derive(Clone, Copy, Debug, PartialEq, Eq)]
 pub struct Key {
     pub answer: u8,
@@ -90,7 +94,7 @@ fn number(file: &[u8], part: &Range<usize>) -> u16 {
     bits::number(&bits::of_bytes(file)[part.clone()])
 }
 
-/// The equally wide numbers in a part of the file.
+/// The numbers in a part of the file, `width` bits each.
 fn numbers(file: &[u8], part: &Range<usize>, width: usize) -> Vec<u8> {
     bits::numbers(&bits::of_bytes(file)[part.clone()], width)
 }
@@ -102,7 +106,7 @@ fn field_of_length(file: &[u8]) -> Option<Field> {
 
 /// The field of a file of 83 or 128 bytes.
 fn field_of(file: &[u8]) -> Field {
-    field_of_length(file).expect("the length was asked for before")
+    field_of_length(file).expect("question 1 accepts only files of 83 or 128 bytes")
 }
 
 /// The T-values of a file of 83 or 128 bytes.
@@ -111,18 +115,18 @@ fn t_values(file: &[u8]) -> Vec<u8> {
     numbers(file, &layout.t_values, layout.element)
 }
 
-/// The list of such a file.
+/// The list of labels of a file of 83 or 128 bytes.
 fn labels(file: &[u8]) -> Vec<u8> {
     numbers(file, &layout(field_of(file)).labels, LABEL_BITS)
 }
 
-/// Are the filler bits of such a file zero, as far as it has any?
+/// Are all filler bits of a file of 83 or 128 bytes zero? A file of 128 bytes has none.
 fn is_filled_with_zeros(file: &[u8]) -> bool {
     let layout = layout(field_of(file));
     [&layout.first_filler, &layout.second_filler].into_iter().all(|filler| number(file, filler) == 0)
 }
 
-/// The places of the entries that a file holds, in its order.
+/// The places in a matrix of the entries that a file holds, in the order of the file.
 fn entry_places() -> impl Iterator<Item = usize> {
     let rows = (1..STRANDS).flat_map(|row| (1..=STRANDS).map(move |column| at(row, column)));
     rows.chain([at(STRANDS, STRANDS)])
@@ -178,7 +182,7 @@ pub fn read_key(file: &[u8]) -> Key {
     Key { answer, field: field_of(file), t_values: eight(&t_values(file)), pair, second }
 }
 
-/// The entries that a key file has of a matrix: rows 1 to 7 whole, then the last entry of row 8.
+/// The entries of a matrix that a key file holds: rows 1 to 7 whole, then the last entry of row 8.
 pub fn file_entries(matrix: &Matrix) -> Entries {
     let mut entries = [0; PACKED_ENTRIES];
     for (entry, place) in entries.iter_mut().zip(entry_places()) {
@@ -187,7 +191,7 @@ pub fn file_entries(matrix: &Matrix) -> Entries {
     entries
 }
 
-/// What the key writer is given, and the room that its output has.
+/// The input of the key writer's questions. `room` is the length of its output, in bytes.
 struct Parts {
     room: usize,
     field: Field,
@@ -209,14 +213,14 @@ const WRITER_QUESTIONS: [Question<Parts>; 6] = [
     (26, |parts| parts.matrices.iter().all(|entries| is_invertible(parts.field, &key_matrix(entries)))),
 ];
 
-/// Appends numbers of so many bits each.
+/// Appends the numbers, `width` bits each.
 fn push_all(bits: &mut Vec<bool>, numbers: &[u8], width: usize) {
     for number in numbers {
         bits::push(bits, (*number).into(), width as u32);
     }
 }
 
-/// The bytes of a key.
+/// The bytes of a key file.
 fn key_file(parts: &Parts) -> Vec<u8> {
     let layout = layout(parts.field);
     let [first, second] = &parts.matrices;
@@ -232,7 +236,7 @@ fn key_file(parts: &Parts) -> Vec<u8> {
     bits::to_bytes(&bits)
 }
 
-/// Writes a key over the field that is named into the output's first 83 or 128 bytes. Answers: 16, 17, 4, 5, 6, 26.
+/// Writes a key over `field` into the first 83 or 128 bytes of `out`. Answers: 16, 17, 4, 5, 6, 26.
 pub fn write_key(
     field: Field,
     t_values: &TValues,

@@ -8,21 +8,20 @@ pub struct Letter {
 }
 
 impl Letter {
-    /// The letter of a code: the high one of four bits is 1 for an inverse, the low three are the generator's
-    /// number less one. Codes 7 and 15 and all above are no letters.
+    /// The letter of a code of four bits. The high bit is 1 for an inverse. The low three bits are the generator's
+    /// number minus one. The codes 7, 15 and all above 15 are not letters.
     pub fn from_code(code: u8) -> Option<Letter> {
         let generator = usize::from(code % 8) + 1;
         let inverse = code / 8 == 1;
         (code < 16 && generator <= 7).then_some(Letter { generator, inverse })
     }
 
-    /// The letter's code.
     pub fn code(self) -> u8 {
         let sign = if self.inverse { 8 } else { 0 };
         sign + (self.generator as u8 - 1)
     }
 
-    /// The same generator with the other sign.
+    /// The inverse of the letter.
     pub fn inverted(self) -> Letter {
         Letter { inverse: !self.inverse, ..self }
     }
@@ -33,12 +32,12 @@ pub fn is_letter(code: u8) -> bool {
     Letter::from_code(code).is_some()
 }
 
-/// The letters of codes that are all letters.
+/// The letters with these codes. Every code must be a letter.
 pub fn letters_of(codes: &[u8]) -> Vec<Letter> {
     codes.iter().filter_map(|code| Letter::from_code(*code)).collect()
 }
 
-/// The codes of letters.
+/// The codes of these letters.
 pub fn codes_of(letters: &[Letter]) -> Vec<u8> {
     letters.iter().map(|letter| letter.code()).collect()
 }

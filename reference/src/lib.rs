@@ -1,7 +1,7 @@
 //! A second, independent road to the operations of document 01 ("Loan-slip signatures: braid words, keys and
 //! moves") and of document 02's sections 1, 2, 4, 6, 7, 8, 9, 11 and 13, to run beside another implementation.
 //!
-//! It is written for plainness, not speed, and takes another way wherever there is one:
+//! It is written to be plain, not fast, and uses another method wherever there is one:
 //!
 //! - the fields multiply the two bit strings as polynomials and divide by x^5 + x^2 + 1 or by
 //!   x^8 + x^4 + x^3 + x^2 + 1, without tables; a reciprocal is found by Euclid's algorithm on polynomials
@@ -29,14 +29,14 @@
 //! - the questions stand in lists, in the paper's order, and the answer is the number of the first one
 //!   answered no ([`questions`]).
 //!
-//! Answers are the paper's numbers, 0 for success. On a refusal lent buffers and pairs keep their bytes,
-//! returned numbers, keys and pairs are zeros, and a yes or no is no.
+//! Answers are the paper's numbers. 0 is success. On a refusal lent buffers and pairs keep their bytes, returned
+//! numbers, keys and pairs are zeros, and a yes or no is no. A doc comment gives a function's refusals after
+//! "Answers:", in the order of their questions.
 //!
-//! The functions that mirror the exported interface are gathered here; each layer's own definitions stand in
-//! its module. The [`verdict`], its halves, the rewriter, [`cloak`] and [`reduce`] stand above [`pair`], [`key`],
-//! [`digest`] and [`word`], and the [`desk`] above the verdict. What tests need besides, such as matrices of a
-//! chosen rank, slips that the verdict accepts, move lists that the rewriter accepts and words that cloak, is in
-//! [`testkit`].
+//! This file re-exports the functions that mirror the exported interface. Each module has the definitions of one layer.
+//! The [`verdict`], its halves, the rewriter, [`cloak`] and [`reduce`] use [`pair`], [`key`], [`digest`] and [`word`].
+//! The [`desk`] uses the verdict. [`testkit`] has what only tests need, such as matrices of a chosen rank, slips that
+//! the verdict accepts, move lists that the rewriter accepts, and words that cloak.
 
 pub mod bits;
 pub mod cloak;

@@ -20,8 +20,8 @@ pub fn identity() -> Matrix {
     matrix
 }
 
-/// The matrix product: row by column, with the field's sums and products. Zeros of the right factor add nothing, so
-/// they are skipped; most entries of a letter's matrix are zeros.
+/// The matrix product: row by column, with the field's sums and products. Zeros of the right factor are skipped because
+/// they add nothing, and most entries of a letter's matrix are zeros.
 pub fn matrix_product(field: Field, left: &Matrix, right: &Matrix) -> Matrix {
     let mut result = [0; 64];
     for row in 1..=STRANDS {
@@ -35,9 +35,11 @@ pub fn matrix_product(field: Field, left: &Matrix, right: &Matrix) -> Matrix {
     result
 }
 
-/// The determinant, by expansion along the last row: each entry of that row times the determinant of the rows before it
-/// on the other columns, summed. Signs change nothing. A set of columns is a number whose bits are the columns. The
-/// determinants of all sets are computed, smaller sets first.
+/// The determinant, by expansion along the last row: the sum of each entry of the last row times the determinant of the
+/// rows before it on the other columns. Signs change nothing in either field.
+///
+/// A number stands for a set of columns, one bit for each column. `minors` has the determinant for every set of k
+/// columns and the first k rows. A subset has a smaller number than its set, so increasing order computes it first.
 pub fn determinant(field: Field, matrix: &Matrix) -> u8 {
     let mut minors = [0; 1 << STRANDS];
     minors[0] = 1;
@@ -51,7 +53,7 @@ pub fn determinant(field: Field, matrix: &Matrix) -> u8 {
     minors[(1 << STRANDS) - 1]
 }
 
-/// Can the matrix be inverted? (Question 26.) Over a field it can exactly if its determinant is not 0.
+/// Does the matrix have an inverse? (Question 26.) Over a field it has one exactly if its determinant is not 0.
 pub fn is_invertible(field: Field, matrix: &Matrix) -> bool {
     determinant(field, matrix) != 0
 }

@@ -2,10 +2,10 @@
 //!
 //! Source 003 gives each letter an 8 by 8 coloured Burau matrix in the variables t_1 to t_8. A pair (M, σ)
 //! times a letter is (M · CB, σ · σ_i), where CB is the letter's matrix with t_k taken as the T-value of the
-//! label σ(k), and σ_i changes i and i + 1. Document 01 says the same by columns.
+//! label σ(k), and σ_i exchanges i and i + 1. Document 01 states this rule column by column.
 //!
-//! The third part of a pair (document 02, section 5) is found by scanning the list, where a pair is made of a matrix and
-//! a list. A letter then moves the two strands that stand at positions i and i + 1, and no list is looked at.
+//! A pair also carries the inverse list: the position of each label (document 02, section 5). [`Pair::of`] finds the
+//! positions by scanning the list. A letter b_i then exchanges the positions i and i + 1, without looking at the list.
 
 use crate::field::Field;
 use crate::letter::{is_letter, letters_of, Letter};
@@ -34,7 +34,7 @@ impl Pair {
     /// The pair of a refusal: all zeros.
     pub const ZEROS: Pair = Pair { matrix: [0; 64], labels: [0; STRANDS], positions: [0; STRANDS] };
 
-    /// The pair of a matrix and a list.
+    /// The pair of a matrix and a list. A label that is not in the list gets position 0.
     pub fn of(matrix: Matrix, labels: Labels) -> Pair {
         let scanned = |label: u8| labels.iter().zip(1..).find(|(there, _)| **there == label);
         let positions =
@@ -42,7 +42,7 @@ impl Pair {
         Pair { matrix, labels, positions }
     }
 
-    /// Is the list 0 to 7, each once, and does each label stand at its position?
+    /// Does the list hold the labels 0 to 7, each once, and does each label stand at its position?
     pub fn has_inverse_lists(&self) -> bool {
         let at = |position: u8| self.labels.get(usize::from(position).checked_sub(1)?).copied();
         is_each_label_once(&self.labels)
@@ -55,15 +55,15 @@ pub fn start() -> Pair {
     Pair::of(identity(), [0, 1, 2, 3, 4, 5, 6, 7])
 }
 
-/// The T-values by position: that of the label which stands there.
+/// The T-values by position: each position has the T-value of its label.
 fn permuted(t_values: &TValues, labels: &Labels) -> TValues {
     labels.map(|label| t_values[usize::from(label)])
 }
 
-/// The coloured Burau matrix of a letter (source 003, section 2, equations (2) and (3) and the one after
-/// them), for values t_1 to t_8. It is the identity but for row i, which holds t_i, t_i, 1 for b_i, and
-/// 1, 1/t_(i+1), 1/t_(i+1) for its inverse, in columns i - 1, i, i + 1. For i = 1 the first of the three is
-/// left out. Minus signs change nothing in either field.
+/// The coloured Burau matrix of a letter, for values t_1 to t_8 (source 003, section 2, equations (2) and (3) and the
+/// equation after them). It is the identity matrix except in row i, columns i - 1, i and i + 1. There b_i has t_i, t_i,
+/// 1, and the inverse of b_i has 1, 1/t_(i+1), 1/t_(i+1). For i = 1 there is no column i - 1. Minus signs change
+/// nothing in either field.
 pub fn coloured_burau(field: Field, letter: Letter, t: &TValues) -> Matrix {
     let i = letter.generator;
     let (left, middle, right) = if letter.inverse {
@@ -81,19 +81,19 @@ pub fn coloured_burau(field: Field, letter: Letter, t: &TValues) -> Matrix {
     matrix
 }
 
-/// The permutation that changes positions i and i + 1, counted from 1, as a list counted from 0.
+/// The permutation that exchanges positions i and i + 1, where i counts from 1. The entries of the result count from 0.
 fn transposition(i: usize) -> [usize; STRANDS] {
     let mut places = [0, 1, 2, 3, 4, 5, 6, 7];
     places.swap(i - 1, i);
     places
 }
 
-/// A list of labels after a permutation of the positions: first the permutation, then the list.
+/// The list that has at each position the label from the position that the permutation gives.
 fn composed(labels: &Labels, places: [usize; STRANDS]) -> Labels {
     places.map(|place| labels[place])
 }
 
-/// The position of a strand after a letter: i and i + 1 change, counted from 1.
+/// The position of a strand after b_i or its inverse, which exchanges positions i and i + 1. Positions count from 1.
 fn moved(position: u8, i: usize) -> u8 {
     match usize::from(position) {
         before if before == i => position + 1,
@@ -112,18 +112,18 @@ pub fn e_multiplied(field: Field, pair: &Pair, t_values: &TValues, letter: Lette
     }
 }
 
-/// A pair carried by a word: times its letters, first to last. The codes are letters.
+/// The pair multiplied by the letters of a word, first to last. Every code must be a letter.
 pub fn carried(field: Field, pair: &Pair, t_values: &TValues, codes: &[u8]) -> Pair {
     letters_of(codes).into_iter().fold(*pair, |pair, letter| e_multiplied(field, &pair, t_values, letter))
 }
 
-/// The list that a word reaches from a list. The codes are letters.
+/// The list that a word reaches from a list. Every code must be a letter.
 pub fn list_reached(labels: &Labels, codes: &[u8]) -> Labels {
     let letters = letters_of(codes).into_iter();
     letters.fold(*labels, |labels, letter| composed(&labels, transposition(letter.generator)))
 }
 
-/// What the multiplier is asked about.
+/// The input of the multiplier's questions.
 struct Step {
     pair: Pair,
     field: Field,
@@ -131,7 +131,7 @@ struct Step {
     letter: u8,
 }
 
-/// The questions of the multiplier, used alone.
+/// The questions of [`multiply`].
 const QUESTIONS: [Question<Step>; 4] = [
     (17, |step| step.t_values.iter().chain(&step.pair.matrix).all(|n| step.field.has(*n))),
     (4, |step| !step.t_values.contains(&0)),
@@ -139,7 +139,7 @@ const QUESTIONS: [Question<Step>; 4] = [
     (12, |step| is_letter(step.letter)),
 ];
 
-/// The multiplier, used alone: one letter changes the lent pair, over the field that is named. Answers: 17, 4, 6, 12.
+/// Multiplies the lent pair by one letter, over `field`. Answers: 17, 4, 6, 12.
 pub fn multiply(pair: &mut Pair, field: Field, t_values: &TValues, letter: u8) -> u8 {
     let answer = first_no(&QUESTIONS, &Step { pair: *pair, field, t_values: *t_values, letter });
     if answer == 0 {

@@ -4,7 +4,7 @@ use crate::letter::Letter;
 use crate::questions::first_refusal;
 use crate::word::{letters, room_answer, word_answer, write_file, Written};
 
-/// Is the second letter the inverse of the first? (The shape of kind 1.)
+/// Is the second letter the inverse of the first? Moves of kind 1 remove two such neighbours.
 pub fn cancels(first: u8, second: u8) -> bool {
     Letter::from_code(first).is_some_and(|letter| Letter::from_code(second) == Some(letter.inverted()))
 }
@@ -14,7 +14,7 @@ fn first_cancelling(codes: &[u8]) -> Option<usize> {
     codes.windows(2).position(|two| cancels(two[0], two[1]))
 }
 
-/// The word left when kind 1 is repeated until no such neighbours are left. The codes are letters.
+/// The word after moves of kind 1, repeated until no two neighbours cancel. Every code must be a letter.
 pub fn freely_reduced(codes: &[u8]) -> Vec<u8> {
     let mut codes = codes.to_vec();
     while let Some(place) = first_cancelling(&codes) {

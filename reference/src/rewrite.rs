@@ -1,8 +1,7 @@
 //! The rewriter (document 01, "Moves").
 //!
-//! A word is a run of letters here, and every kind of move replaces a few neighbours in it. A kind takes a number of
-//! letters from its place on. If they match the kind, it puts other letters in their place. An insertion takes none
-//! and puts in two.
+//! A word is a list of letters here. A move needs some letters, starting at its place; its kind says how many. If these
+//! letters match the kind, the move replaces them by other letters. An insertion needs no letters and adds two.
 
 use std::ops::Range;
 
@@ -14,17 +13,20 @@ use crate::word::{letters, room_answer, word_answer, write_file, Written, MOST_L
 /// The most moves that a list may have.
 pub const MOST_MOVES: usize = 4_096;
 
-/// The bytes before the places.
+/// The bytes of the number of moves, which stands before the places.
 const HEAD: usize = 2;
 
-/// The bytes of one move: two of its place, one of its kind.
+/// The bytes of one move: two for its place, one for its kind.
 const MOVE_BYTES: usize = 3;
 
-/// The bits of a place and of a kind.
+/// The bits of a place.
 const PLACE_BITS: usize = 16;
+
+/// The bits of a kind.
 const KIND_BITS: usize = 8;
 
-/// A move as a list gives it: a place, counted from 0 in the word as it is then, and the number of a kind.
+/// A move of a list: a place and the number of a kind. The place counts from 0 in the word that the moves before have
+/// left.
 #[derive(Clone, Copy, Debug, PartialEq, Eq)]
 pub struct Move {
     pub place: u16,
@@ -45,7 +47,7 @@ pub enum Kind {
 }
 
 impl Kind {
-    /// The kind of a number: 1, 2, 3, 16 to 22 and 24 to 30; the others are none. (Question 21.)
+    /// The kind with a number: 1, 2, 3, 16 to 22 or 24 to 30. No other number is a kind. (Question 21.)
     pub fn from_number(number: u8) -> Option<Kind> {
         match number {
             1 => Some(Kind::Remove),
@@ -56,7 +58,7 @@ impl Kind {
         }
     }
 
-    /// How many letters it needs from its place on.
+    /// The number of letters that a move of this kind needs, starting at its place.
     fn needs(self) -> usize {
         match self {
             Kind::Remove | Kind::Swap => 2,
@@ -65,7 +67,7 @@ impl Kind {
         }
     }
 
-    /// What it puts in the place of the letters that it needs; nothing if they have not its shape.
+    /// The letters that replace the needed ones, or `None` if the needed letters do not match the kind.
     fn replacement(self, needed: &[Letter]) -> Option<Vec<Letter>> {
         match (self, needed) {
             (Kind::Remove, [a, b]) => (*b == a.inverted()).then(Vec::new),
@@ -101,7 +103,7 @@ pub fn list_answer(list: &[u8]) -> u8 {
     first_no(&LIST_QUESTIONS, list)
 }
 
-/// The moves of a list that passed its own questions: after the number all places, then all kinds.
+/// The moves of a list whose [`list_answer`] is 0. After the number of moves come all places, then all kinds.
 pub fn moves(list: &[u8]) -> Vec<Move> {
     let bits = bits::of_bytes(&list[HEAD..]);
     let (places, kinds) = bits.split_at(PLACE_BITS * announced(list));
@@ -109,7 +111,7 @@ pub fn moves(list: &[u8]) -> Vec<Move> {
     places.zip(bits::numbers(kinds, KIND_BITS)).map(|(place, kind)| Move { place, kind }).collect()
 }
 
-/// A move tried on the word as it is then.
+/// A move, and the word on which it is tried.
 struct Attempt<'a> {
     word: &'a [Letter],
     step: Move,
@@ -120,20 +122,20 @@ impl Attempt<'_> {
         Kind::from_number(self.step.kind)
     }
 
-    /// Where the letters that the move needs stand, if they exist from its place on. An insertion needs
-    /// none, so that its place may be the word's length, but no more.
+    /// The range of the letters that the move needs, or `None` if the word does not have them. An insertion needs no
+    /// letters, so its place may be the word's length, but not more.
     fn range(&self) -> Option<Range<usize>> {
         let place = usize::from(self.step.place);
         let end = place + self.kind()?.needs();
         (end <= self.word.len()).then_some(place..end)
     }
 
-    /// What the move puts in their place, if they have its shape.
+    /// The letters that replace the needed ones, or `None` if the needed letters do not match the kind.
     fn replacement(&self) -> Option<Vec<Letter>> {
         self.kind()?.replacement(&self.word[self.range()?])
     }
 
-    /// The length of the word that the move leaves.
+    /// The length of the word after the move.
     fn length_after(&self) -> Option<usize> {
         Some(self.word.len() - self.range()?.len() + self.replacement()?.len())
     }
@@ -154,7 +156,7 @@ pub fn move_answer(word: &[Letter], step: Move) -> u8 {
     first_no(&move_questions(), &Attempt { word, step })
 }
 
-/// The word that one move leaves, or the number of the move's first question answered no.
+/// The word after one move, or the move's answer if it is refused.
 pub fn moved(mut word: Vec<Letter>, step: Move) -> Result<Vec<Letter>, u8> {
     let attempt = Attempt { word: &word, step };
     match (move_answer(&word, step), attempt.range(), attempt.replacement()) {
@@ -166,14 +168,14 @@ pub fn moved(mut word: Vec<Letter>, step: Move) -> Result<Vec<Letter>, u8> {
     }
 }
 
-/// The word that all moves leave, each made on the word that the last one left, or the number of the first
-/// question answered no.
+/// The word after all moves, or the answer of the first move that is refused. Each move works on the word that the move
+/// before it left.
 pub fn rewritten(word: &[Letter], moves: &[Move]) -> Result<Vec<Letter>, u8> {
     moves.iter().try_fold(word.to_vec(), |word, step| moved(word, *step))
 }
 
-/// Rewrites a word by a list of moves. Answers: 15, the word's 9 to 13, the list's 18 to 20, then move by
-/// move 21 to 24. One refused move refuses the whole list, and then nothing is written.
+/// Rewrites a word by a list of moves. Answers: 15, the word's 9 to 13, the list's 18 to 20, then for each move 21 to
+/// 24. If one move is refused, nothing is written.
 pub fn rewrite(word: &[u8], list: &[u8], out: &mut [u8]) -> Written {
     let result = match first_refusal(&[room_answer(out), word_answer(word), list_answer(list)]) {
         0 => rewritten(&letters_of(&letters(word)), &moves(list)),

@@ -1,7 +1,8 @@
 //! How words spread over the lists of four labels (document 02, section 13).
 //!
-//! Up to eight letters every word is made and followed, letter by letter. Beyond that the numbers are a row of a power
-//! of the 24 by 24 matrix that counts the letters from each list to each.
+//! For up to eight letters this module makes every word and follows it letter by letter. For more letters the numbers
+//! are a row of a power of a 24 by 24 matrix. An entry of that matrix is the number of letters that lead from one list
+//! to another.
 
 use std::array::from_fn;
 use std::sync::OnceLock;
@@ -9,12 +10,16 @@ use std::sync::OnceLock;
 use crate::letter::Letter;
 use crate::questions::first_no;
 
-/// The strands, the most letters of a word, and the most for which every word is made.
+/// The number of strands.
 const STRANDS: usize = 4;
+
+/// The most letters of a word.
 const LONGEST: usize = 12;
+
+/// The most letters for which every word is made.
 const EVERY: usize = 8;
 
-/// The answer, and how many words end in the list; 0 on a refusal.
+/// The answer, and how many words end in the list. On a refusal `words` is 0.
 #[derive(Clone, Copy, Debug, PartialEq, Eq)]
 pub struct Count {
     pub answer: u8,
@@ -38,7 +43,7 @@ fn turned(mut list: List, letter: Letter) -> List {
     list
 }
 
-/// The 24 lists, increasing: of all four labels those that have each once.
+/// The 24 lists that hold each of the four labels once, in increasing order.
 pub fn lists() -> Vec<List> {
     let all = (0..256).map(|number: u32| from_fn(|place| (number >> (6 - 2 * place) & 3) as u8));
     all.filter(|list: &List| (0..4).all(|label| list.contains(&label))).collect()
@@ -49,7 +54,7 @@ fn place(list: &List) -> usize {
     lists().iter().position(|other| other == list).unwrap_or(0)
 }
 
-/// The numbers for all lists, by every word of the length, one after another.
+/// For each list, the number of words of the length that end in it. Makes every word, one after another.
 pub fn by_every_word(length: usize) -> Numbers {
     let (letters, lists) = (six(), lists());
     let mut numbers = [0; 24];
@@ -69,7 +74,7 @@ fn product(a: &Matrix, b: &Matrix) -> Matrix {
     from_fn(|row| from_fn(|column| (0..24).map(|k| a[row][k] * b[k][column]).sum()))
 }
 
-/// The numbers for all lists, by a power of the matrix, with squares.
+/// For each list, the number of words of the length that end in it. Finds a power of the matrix by repeated squaring.
 pub fn by_a_power(length: usize) -> Numbers {
     let lists = lists();
     let reaches = |from: usize, to: usize| {
@@ -88,13 +93,13 @@ pub fn by_a_power(length: usize) -> Numbers {
     power[place(&[0, 1, 2, 3])]
 }
 
-/// The numbers for all lists of an accepted length, worked out once.
+/// For each list, the number of words of an accepted length that end in it. Each length is computed once.
 fn numbers(length: usize) -> &'static Numbers {
     static ALL: [OnceLock<Numbers>; LONGEST + 1] = [const { OnceLock::new() }; LONGEST + 1];
     ALL[length].get_or_init(|| if length <= EVERY { by_every_word(length) } else { by_a_power(length) })
 }
 
-/// How many words of a length end in a list. Answers: 35.
+/// How many words of a length end in a list. Answer: 35.
 pub fn words_ending(length: usize, labels: &[u8]) -> Count {
     let asked = |(length, labels): &(usize, Vec<u8>)| {
         let mut sorted = labels.clone();

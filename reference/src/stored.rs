@@ -1,6 +1,7 @@
 //! Stored forms of words, with signs and generators apart (document 02, section 6).
 //!
-//! Three sizes of two bytes, then a string of sign bits and a string of generator bits, each with zeros up to a whole
+//! A stored form begins with three sizes of two bytes each: the number of letters, the bytes of the signs, and the
+//! bytes of the generators. A row of sign bits and a row of generator bits follow. Zeros fill each row up to a whole
 //! byte.
 
 use crate::bits;
@@ -8,16 +9,16 @@ use crate::letter::{codes_of, letters_of, Letter};
 use crate::questions::{first_no, first_refusal, Question};
 use crate::word::{letters, room_answer, word_answer, write_file, Written, MOST_LETTERS};
 
-/// The bytes of the longest stored form, and the least room that storing asks for.
+/// The bytes of the longest stored form, and the fewest bytes that the output of `store` may have.
 pub const MOST_STORED: usize = 5_006;
 
 /// The bytes of the three sizes.
 const HEAD: usize = 6;
 
-/// The bits of a generator number less one.
+/// The bits of a generator in a stored form, which is the generator's number minus one.
 const GENERATOR: usize = 3;
 
-/// The bits with zeros up to a whole byte.
+/// The bits, filled with zeros up to a whole byte.
 fn filled(mut bits: Vec<bool>) -> Vec<bool> {
     bits.resize(bits.len().next_multiple_of(8), false);
     bits
@@ -55,8 +56,8 @@ fn announced(file: &[u8]) -> [usize; 3] {
     [size(0), size(2), size(4)]
 }
 
-/// The bits of the signs and those of the generators, each cut after the bits that the letters need, and what follows.
-/// The sizes agree.
+/// The row of signs and the row of generators, each split into the bits of the letters and the filler after them. The
+/// sizes must agree.
 fn rows(file: &[u8]) -> [(Vec<bool>, Vec<bool>); 2] {
     let [letters, signs, _] = announced(file);
     let parts = [(&file[HEAD..HEAD + signs], 1), (&file[HEAD + signs..], GENERATOR)];
@@ -67,7 +68,7 @@ fn rows(file: &[u8]) -> [(Vec<bool>, Vec<bool>); 2] {
     })
 }
 
-/// Are the sizes of the two rows those that the letters need?
+/// Do the two rows have the sizes that the number of letters needs?
 fn sizes_agree(file: &[u8]) -> bool {
     let [letters, signs, generators] = announced(file);
     [signs, generators] == [letters, GENERATOR * letters].map(|bits| bits.div_ceil(8))
@@ -96,7 +97,7 @@ pub fn stored_letters(file: &[u8]) -> Vec<u8> {
     codes_of(&signs.into_iter().zip(generators).map(letter).collect::<Vec<_>>())
 }
 
-/// Stores a word. Answers: 15 with a limit of its own, then the word's 9 to 13.
+/// Stores a word. Answers: 15 if the output has fewer than 5,006 bytes, then the word's 9 to 13.
 pub fn store(word: &[u8], out: &mut [u8]) -> Written {
     let room = first_no(&[(15, |room: &usize| *room >= MOST_STORED)], &out.len());
     match first_refusal(&[room, word_answer(word)]) {

@@ -18,8 +18,8 @@ fn target(key: &Key, digest: &[u8]) -> Matrix {
     matrix_product(key.field, &reached, &key.second)
 }
 
-/// The answer of the verdict's own question, on the matrix that the signature reaches and the target: 14, or 0. Lists
-/// are not compared.
+/// The answer to the verdict's own question: 0 if the signature reaches the target matrix, otherwise 14. Lists are not
+/// compared.
 pub fn equality_answer(reached: Matrix, target: Matrix) -> u8 {
     first_no(&[(14, |matrices: &[Matrix; 2]| matrices[0] == matrices[1])], &[reached, target])
 }

@@ -1,7 +1,7 @@
 //! Word files, also called signatures (document 01, "Files"; source 000, sections 10 and 10.2).
 //!
-//! The number of letters in two bytes, high first, then the codes, two to a byte, the earlier in the high
-//! half; an odd word's last half byte is 0.
+//! A word file holds the number of letters in two bytes, the high byte first. The codes follow, two to a byte, the
+//! earlier code in the high half. If the number of letters is odd, the last half byte is 0.
 
 use crate::bits;
 use crate::letter::is_letter;
@@ -10,20 +10,20 @@ use crate::questions::{first_no, first_refusal, Question};
 /// The most letters that a word may have.
 pub const MOST_LETTERS: usize = 10_000;
 
-/// The bytes of the longest word file, and the least room that a writer of words asks for.
+/// The bytes of the longest word file, and the fewest bytes that the output of a writer of words may have.
 pub const MOST_BYTES: usize = 5_002;
 
-/// The bytes before the codes.
+/// The bytes of the number of letters, which stands before the codes.
 const HEAD: usize = 2;
 
-/// The answer to a word file's questions, and its number of letters, 0 on a refusal.
+/// The answer to a word file's questions, and its number of letters. On a refusal `letters` is 0.
 #[derive(Clone, Copy, Debug, PartialEq, Eq)]
 pub struct Word {
     pub answer: u8,
     pub letters: usize,
 }
 
-/// The answer of a writer of words, and the bytes that it wrote, 0 on a refusal.
+/// The answer of a writer of words, and the number of bytes that it wrote. On a refusal `bytes` is 0.
 #[derive(Clone, Copy, Debug, PartialEq, Eq)]
 pub struct Written {
     pub answer: u8,
@@ -31,7 +31,7 @@ pub struct Written {
 }
 
 impl Written {
-    /// What a writer of words reports on a refusal.
+    /// The result of a writer of words on a refusal.
     pub fn refusal(answer: u8) -> Written {
         Written { answer, bytes: 0 }
     }
@@ -53,7 +53,7 @@ fn half_byte(file: &[u8], place: usize) -> u8 {
     bits::numbers(&bits::of_bytes(&[byte]), 4)[place % 2]
 }
 
-/// The length of the file of a word with so many letters.
+/// The length of a word file with this number of letters, in bytes.
 fn file_length(letters: usize) -> usize {
     HEAD + letters.div_ceil(2)
 }
@@ -67,7 +67,7 @@ const QUESTIONS: [Question<[u8]>; 5] = [
     (13, |file| half_bytes(file)[announced(file)..].iter().all(|filler| *filler == 0)),
 ];
 
-/// The questions of a list of codes, one to a byte, before it is written.
+/// The questions about codes, one to a byte, before they are written.
 const CODE_QUESTIONS: [Question<[u8]>; 2] =
     [(10, |codes| codes.len() <= MOST_LETTERS), (12, |codes| codes.iter().all(|code| is_letter(*code)))];
 
@@ -76,7 +76,8 @@ pub fn word_answer(file: &[u8]) -> u8 {
     first_no(&QUESTIONS, file)
 }
 
-/// The answer to the question that any writer of words puts before all else: 15, or 0.
+/// The answer to the first question of every writer of words: 0 if the output can hold the longest word file, otherwise
+/// 15.
 pub fn room_answer(out: &[u8]) -> u8 {
     first_no(&[(15, |room: &usize| *room >= MOST_BYTES)], &out.len())
 }
@@ -89,7 +90,7 @@ pub fn read_word(file: &[u8]) -> Word {
     }
 }
 
-/// The part of the file that holds the codes, after the two bytes of the number; empty on a refusal.
+/// The part of the file that holds the codes, after the two bytes of the number of letters. It is empty on a refusal.
 pub fn code_part(file: &[u8]) -> &[u8] {
     match word_answer(file) {
         0 => &file[HEAD..],
@@ -97,7 +98,7 @@ pub fn code_part(file: &[u8]) -> &[u8] {
     }
 }
 
-/// The codes of the word's letters, first to last; none on a refusal.
+/// The codes of the word's letters, first to last. On a refusal there are none.
 pub fn letters(file: &[u8]) -> Vec<u8> {
     let word = read_word(file);
     let mut codes = bits::numbers(&bits::of_bytes(code_part(file)), 4);
@@ -105,12 +106,12 @@ pub fn letters(file: &[u8]) -> Vec<u8> {
     codes
 }
 
-/// The code of the letter at a place, counted from 0; none past the last letter, and none on a refusal.
+/// The code of the letter at a place, counted from 0. It is `None` past the last letter and on a refusal.
 pub fn letter_at(file: &[u8], place: usize) -> Option<u8> {
     letters(file).get(place).copied()
 }
 
-/// A reader of words: it keeps the file and the next letter's place. The file was accepted, or is empty.
+/// A reader of words: it keeps the file and the place of the next letter. The file is an accepted one, or empty.
 #[derive(Clone, Copy, Debug)]
 pub struct WordReader<'a> {
     file: &'a [u8],
@@ -118,14 +119,14 @@ pub struct WordReader<'a> {
 }
 
 impl<'a> WordReader<'a> {
-    /// A reader at the first letter, with the answer. On a refusal the reader has no letters.
+    /// The answer, and a reader at the first letter. On a refusal the reader has no letters.
     pub fn open(file: &'a [u8]) -> (u8, WordReader<'a>) {
         let answer = word_answer(file);
         let file = if answer == 0 { file } else { &[] };
         (answer, WordReader { file, place: 0 })
     }
 
-    /// The number of the word's letters, those already read among them.
+    /// The number of letters of the whole word, read or not.
     pub fn letters(&self) -> usize {
         if self.file.is_empty() {
             0
@@ -139,7 +140,8 @@ impl<'a> WordReader<'a> {
         self.place
     }
 
-    /// The code of the next letter, and one place on; none past the last letter, and the place stays.
+    /// Reads the code of the next letter and moves one place on. After the last letter it returns `None` and does not
+    /// move.
     pub fn next_letter(&mut self) -> Option<u8> {
         if self.place == self.letters() {
             return None;
@@ -149,7 +151,7 @@ impl<'a> WordReader<'a> {
         Some(code)
     }
 
-    /// The part of the caller's file that holds the codes; empty on a refusal.
+    /// The part of the caller's file that holds the codes. It is empty on a refusal.
     pub fn code_part(&self) -> &'a [u8] {
         code_part(self.file)
     }
@@ -168,8 +170,8 @@ pub fn word_file(codes: &[u8]) -> Vec<u8> {
     bits::to_bytes(&bits)
 }
 
-/// What every writer of words does at its end: it writes the word's file into the output's first bytes and
-/// reports how many. The output has room for the longest word.
+/// Writes the word's file into the first bytes of the output and returns their number. Every writer of words ends with
+/// this step. The output must have room for the longest word.
 pub fn write_file(codes: &[u8], out: &mut [u8]) -> Written {
     let file = word_file(codes);
     out[..file.len()].copy_from_slice(&file);

@@ -1,5 +1,6 @@
-//! How often two strands cross: document 02's example and small words by hand, and on seeded samples that rewriting and
-//! free reduction keep every number, that the 28 together are the exponent sum, and that the labels may change places.
+//! How often two strands cross. Document 02's example and small words are worked out by hand. Seeded samples show that
+//! rewriting and free reduction keep the numbers of all 28 pairs of strands, and that the sum of the 28 is the exponent
+//! sum.
 
 mod common;
 
@@ -18,7 +19,7 @@ fn number(word: &[u8], a: u8, b: u8) -> i32 {
     crossings
 }
 
-/// 00 02 00 gives 2 for labels 0 and 1, and 0 for the other 27 pairs.
+/// The word 00 02 00 gives 2 for labels 0 and 1, and 0 for the other 27 pairs.
 #[test]
 fn the_paper_s_word() {
     let word = hex("00 02 00");
@@ -30,7 +31,8 @@ fn the_paper_s_word() {
     }
 }
 
-/// b1 brings label 0 to position 2, so b2 swaps 0 and 2; b1 again then swaps 1 and 2. Inverse letters count below zero.
+/// b1 exchanges labels 0 and 1. Label 0 is then at position 2, so b2 exchanges 0 and 2. A second b1 exchanges 1 and 2.
+/// Inverse letters count minus 1. The order of the two labels does not matter.
 #[test]
 fn words_by_hand() {
     for (word, sign) in [("00 03 01 00", 1), ("00 03 89 80", -1)] {

@@ -1,5 +1,5 @@
-//! Demand 3 on seeded samples: on an accepted word and an accepted move list the new word is accepted, carries
-//! every pair where the old one did, has the same exponent sum and gets the same verdict.
+//! Demand 3 on seeded samples. If the word and the move list are accepted, the new word is accepted too. It carries
+//! every pair to the same pair as the old word, has the same exponent sum, and gets the same verdict.
 
 mod common;
 
@@ -14,7 +14,7 @@ use reference::{free_reduce, letters, read_key, read_word, rewrite, verify, Fiel
 
 const ROUNDS: usize = 300;
 
-/// A random accepted move list for the word, of up to so many moves, with the word that it leaves.
+/// A random accepted list of at most `most` moves for the word, and the file of the word that it leaves.
 fn rewriting(random: &mut Random, codes: &[u8], most: usize) -> (Vec<u8>, Vec<u8>) {
     let count = random.within(0, most);
     let walk = random.walk(codes, count);
@@ -25,7 +25,8 @@ fn rewriting(random: &mut Random, codes: &[u8], most: usize) -> (Vec<u8>, Vec<u8
     (list, file)
 }
 
-/// The new word is accepted, carries a random pair over either field where the old one did, and has its exponent sum.
+/// The new word must be accepted. It must have the old word's exponent sum, and it must carry a random pair over either
+/// field to the same pair as the old word.
 fn assert_same_braid(random: &mut Random, old: &[u8], file: &[u8]) {
     assert_eq!(read_word(file).answer, 0);
     let new = letters(file);
@@ -67,7 +68,7 @@ fn long_words_and_long_lists() {
     }
 }
 
-/// The verdict on an accepted slip stays 0, and the one on the same slip with another word stays what it was.
+/// The verdict on an accepted slip stays 0. The verdict on that slip with another word also stays what it was.
 #[test]
 fn verdicts_stay() {
     let mut random = Random::seeded(33);
@@ -91,7 +92,7 @@ fn verdicts_stay() {
     }
 }
 
-/// A key, digest and word chosen freely, not solved for: the verdict is 14 before and after.
+/// The key, the digest and the word are chosen independently, so the verdict is 14, before and after.
 #[test]
 fn verdicts_of_free_keys_stay() {
     let mut random = Random::seeded(34);
@@ -111,10 +112,11 @@ fn accepted(random: &mut Random, field: Field, codes: &[u8]) -> Slip {
     random.accepted_slip(field, &digest, codes)
 }
 
-// ---- The means of these tests ----
+// ---- The tools of these tests ----
 
-/// Letters keep the shape of a key's matrix, so that the solved one fits the file, and has an inverse if that of
-/// Pub(S) has; the slip is accepted, and with another digest it is not.
+/// A slip is made by solving for the matrix of Pub(S'). Letters keep the shape of a key's matrix, so the solution fits
+/// into a key file. It has an inverse because the matrix of Pub(S) has one. The slip is accepted, but not with another
+/// digest.
 #[test]
 fn solved_slips_are_accepted() {
     let mut random = Random::seeded(36);
@@ -132,7 +134,7 @@ fn solved_slips_are_accepted() {
     }
 }
 
-/// What a walk draws is possible, and on short words it draws every possible move sooner or later.
+/// Every move that a walk draws is possible. On short words it draws every possible move sooner or later.
 #[test]
 fn walks_reach_every_possible_move() {
     let mut random = Random::seeded(37);

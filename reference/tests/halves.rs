@@ -1,5 +1,5 @@
-//! The verdict in two halves (document 02, section 4). What is expected is typed from the papers, follows from them by
-//! the reasoning written beside it, or is what the whole verdict answers.
+//! The verdict in two halves (document 02, section 4). Expected values are typed from the papers, follow from the
+//! papers by the reasoning beside them, or are answers of the whole verdict.
 
 mod common;
 
@@ -20,24 +20,24 @@ use reference::{
 
 const ROUNDS: usize = 40;
 
-/// The identity with another row, counted from 1.
+/// The identity matrix with one row replaced. Rows count from 1.
 fn with_row(row: usize, entries: [u8; 8]) -> Matrix {
     let mut matrix = identity();
     matrix[at(row, 1)..=at(row, 8)].copy_from_slice(&entries);
     matrix
 }
 
-/// The half of the plain key with this target.
+/// A half with the plain key's T-values and Pub(S), and with this target.
 fn plain_half(field: Field, target: Matrix) -> Half {
     Half { field, t_values: PLAIN_T_VALUES, pair: start(), target }
 }
 
-/// The letter b7 so many times, an even number.
+/// The word file of `letters` letters b7.
 fn sevens(letters: u16) -> Vec<u8> {
     file(&vec![6; letters.into()])
 }
 
-/// The zeros of a refusal, which name the field with 32 elements.
+/// The result of a refusal: zeros, and the field with 32 elements.
 fn refused(answer: u8) -> Halved {
     let pair = Pair::ZEROS;
     Halved { answer, half: Half { field: Gf32, t_values: [0; 8], pair, target: [0; 64] } }
@@ -45,13 +45,16 @@ fn refused(answer: u8) -> Halved {
 
 // ---- The first half ----
 
-/// Row 7 of b7 b7 from the start is 20, 18, 7 in columns 6, 7, 8: b7 has 6, 6, 1, and the T-value is then 7, so
-/// 6 + 7 × 6 = 20, 7 × 6 = 18, 1 + 6 = 7. A zero byte is b7, four times, so n bytes have 18^2n in the middle, and the
-/// others times s = 1 + 18 + .. + 18^(2n - 1) = (18^2n + 1)/19.
+/// The target of a digest of zero bytes under the plain key, by hand. Only row 7 differs from the identity.
 ///
-/// 32 zero bytes over 32 elements: 18^64 = 18^2 = 9, since t^31 = 1; s = 1 + 18 = 19; 20 × 19 = 30 and 7 × 19 = 22. 64
-/// zero bytes over 256: 18^128 is the root of 18, since t^256 = t; 129^2 = x^14 + 1 = 19 + 1 = 18. With 128 = x^7 and
-/// 19 = x^14 s is 128/19, that is 1/128, which is 27; 20 × 27 = 193 and 7 × 27 = 65.
+/// From the start b7 has 6, 6, 1 in columns 6, 7, 8 of row 7. The next T-value is 7, so b7 b7 has 6 + 7 × 6 = 20,
+/// 7 × 6 = 18, 1 + 6 = 7. A zero byte is b7, four times. So n zero bytes have 20 × s, 18^2n, 7 × s, where
+/// s = 1 + 18 + .. + 18^(2n - 1) = (18^2n + 1)/19.
+///
+/// 32 zero bytes over 32 elements: 18^64 = 18^2 = 9, since t^31 = 1. So s = 1 + 18 = 19, 20 × 19 = 30, 7 × 19 = 22.
+///
+/// 64 zero bytes over 256 elements: 18^128 is the square root of 18, since t^256 = t. The root is 129, since
+/// 129^2 = x^14 + 1 = 19 + 1 = 18. With 128 = x^7 and 19 = x^14, s = 128/19 = 1/128 = 27, 20 × 27 = 193, 7 × 27 = 65.
 fn zeros_target(field: Field) -> Matrix {
     match field {
         Gf32 => with_row(7, [0, 0, 0, 0, 0, 30, 9, 22]),
@@ -67,9 +70,9 @@ fn half_of_the_plain_key() {
     }
 }
 
-/// The second matrix stands at the right. With its rows 7 to 1 and then 8 of the identity, row 7 of the product has 30
-/// in column 2, 9 in column 1 and 22 in column 8; the other way round row 1 would hold them, in columns 6 to 8. Pub(S)
-/// comes as it is.
+/// The second matrix is the right factor of the target. Its rows are rows 7 to 1 of the identity matrix, then row 8. So
+/// row 7 of the product has 9 in column 1, 30 in column 2 and 22 in column 8. As the left factor it would put these
+/// numbers into row 1, columns 6 to 8. The half holds Pub(S) unchanged.
 #[test]
 fn second_matrix_stands_at_the_right() {
     let mut turned = [0; 64];
@@ -85,8 +88,8 @@ fn second_matrix_stands_at_the_right() {
     assert_eq!(half.target, target);
 }
 
-/// With all T-values 1 a letter's square is the identity's, so every digest's braid is, and the target is the second
-/// matrix.
+/// If all T-values are 1, the matrix of a letter's square is the identity. Then the matrix of every digest's braid is
+/// the identity too, and the target is the second matrix.
 #[test]
 fn targets_where_all_t_values_are_1() {
     let mut random = Random::seeded(61);
@@ -99,7 +102,7 @@ fn targets_where_all_t_values_are_1() {
     }
 }
 
-/// The key's questions, 26 among them, come before 8, and a refusal gives zeros.
+/// The key's questions, also 26, come before 8. A refusal gives zeros.
 #[test]
 fn first_half_refusals() {
     for length in 0..130 {
@@ -116,7 +119,8 @@ fn first_half_refusals() {
     }
 }
 
-/// What the target is worked out from: the braid of a half byte leaves the list, and its matrix has an inverse.
+/// The two facts that the target rests on: the braid of a half byte does not change the list, and its matrix has an
+/// inverse.
 #[test]
 fn half_bytes_are_pure() {
     let mut random = Random::seeded(62);
@@ -131,7 +135,7 @@ fn half_bytes_are_pure() {
 
 // ---- The second half ----
 
-/// b7, 128 times for 32 zero bytes and 256 times for 64, as with the whole verdict; and other words.
+/// As in the whole verdict, 128 letters b7 sign 32 zero bytes, and 256 letters b7 sign 64. Other words get 14.
 #[test]
 fn words_for_zero_bytes() {
     for (field, letters) in [(Gf32, 128), (Gf256, 256)] {
@@ -142,8 +146,8 @@ fn words_for_zero_bytes() {
     }
 }
 
-/// From the start b3⁻¹ has 1, 1/3, 1/3 in row 3, where 1/3 is 28 over 32 elements and 244 over 256: a half is judged
-/// over the field that it names, and 244 is no element of the smaller one.
+/// A half is judged over the field that it names. From the start b3⁻¹ has 1, 1/3, 1/3 in row 3, where 1/3 is 28 over 32
+/// elements and 244 over 256. 244 is not an element of the smaller field.
 #[test]
 fn halves_are_judged_over_their_field() {
     let word = hex("00 01 A0");
@@ -154,8 +158,8 @@ fn halves_are_judged_over_their_field() {
     }
 }
 
-/// There is no question 5: with T-value 3 at label 0, b1 has 3, 1 in row 1. And row 8 may hold anything: 5 in column 3
-/// goes by b3, of T-value 2, to 10, 10, 5 in columns 2, 3, 4.
+/// Question 5 is not asked of a half: with T-value 3 at label 0, b1 has 3, 1 in row 1. Row 8 may hold any elements: b3
+/// with T-value 2 turns a 5 in column 3 into 10, 10, 5 in columns 2, 3, 4.
 #[test]
 fn halves_that_no_key_has() {
     let half = Half {
@@ -169,8 +173,7 @@ fn halves_that_no_key_has() {
     assert_eq!(second_half(&Half { pair, ..plain_half(Gf32, target) }, &hex("00 01 20")), 0);
 }
 
-/// A half with these faults: 17 in the T-values, in the first matrix and in the target; 4 at any label; 6; 26 in the
-/// first matrix and in the target.
+/// A half with these faults, each named as in `FAULTS`.
 fn with_faults(field: Field, faults: &[&str]) -> Half {
     let mut half = plain_half(field, identity());
     for fault in faults {
@@ -188,7 +191,7 @@ fn with_faults(field: Field, faults: &[&str]) -> Half {
     half
 }
 
-/// The faults of a half in the order of their questions, each with its number; then words, each with its own.
+/// The faults of a half in the order of their questions, each with its answer.
 const FAULTS: [(&str, u8); 7] = [
     ("T-value 32", 17),
     ("entry 32", 17),
@@ -198,6 +201,8 @@ const FAULTS: [(&str, u8); 7] = [
     ("no inverse", 26),
     ("target without inverse", 26),
 ];
+
+/// Words, each with its answer for the half without faults.
 const WORDS: [(&str, u8); 7] = [
     ("", 9),
     ("27 11", 10),
@@ -208,8 +213,8 @@ const WORDS: [(&str, u8); 7] = [
     ("00 00", 0),
 ];
 
-/// Each fault alone and with each other one: the half's questions come before the word's, 17 before 4, 4 before 6, 6
-/// before 26. Over the larger field 32 is an element.
+/// Tests each fault alone and each two faults together. The half's questions come before the word's: 17, 4, 6, 26. Over
+/// the larger field 32 is an element and not a fault.
 #[test]
 fn second_half_refusals_in_order() {
     for field in Field::BOTH {
@@ -231,7 +236,7 @@ fn second_half_refusals_in_order() {
     }
 }
 
-/// A refused first half's zeros are no half.
+/// The second half refuses the zeros that a refused first half gives.
 #[test]
 fn zeros_are_refused() {
     assert_eq!(second_half(&refused(1).half, &hex("00 00")), 4);
@@ -240,7 +245,7 @@ fn zeros_are_refused() {
 
 // ---- The whole and its halves ----
 
-/// The answer by halves: the first half's refusal, or what the second says of what the first gave.
+/// The answer by halves: the first half's refusal, or the answer of the second half to the result of the first.
 fn by_halves(key: &[u8], digest: &[u8], word: &[u8]) -> u8 {
     match first_half(key, digest) {
         Halved { answer: 0, half } => second_half(&half, word),
@@ -251,8 +256,8 @@ fn by_halves(key: &[u8], digest: &[u8], word: &[u8]) -> u8 {
     }
 }
 
-/// Accepted slips, slips with another word, key or digest, and damaged ones. An accepted key and digest have a target
-/// with an inverse, which is the digest's matrix times that of Pub(S').
+/// Accepted slips, slips with another word, key or digest, and damaged slips get the same answer from the whole verdict
+/// and from the halves. The target of an accepted key and digest has an inverse.
 #[test]
 fn whole_is_its_halves() {
     let mut random = Random::seeded(63);
@@ -287,7 +292,7 @@ fn whole_is_its_halves() {
     assert!(answers[0] >= 4 * ROUNDS && answers[14] > 4 * ROUNDS && answers[8] >= 4 * ROUNDS);
 }
 
-/// The matrix that a digest's braid reaches, times that of Pub(S'), however it is worked out.
+/// The target is the matrix that the digest's whole braid reaches, times the matrix of Pub(S').
 #[test]
 fn targets_half_byte_by_half_byte() {
     let mut random = Random::seeded(64);
@@ -302,8 +307,8 @@ fn targets_half_byte_by_half_byte() {
     }
 }
 
-/// Demand 3 for halves: a rewritten word gets from the second half the answer of the original, for any half that passes
-/// its questions, whether it is a key's or not.
+/// Demand 3 for halves: the second half gives a rewritten word the same answer as the original word. The half need not
+/// come from a key.
 #[test]
 fn copies_are_judged_alike() {
     let mut random = Random::seeded(65);

@@ -1,5 +1,6 @@
-//! Cloaks anywhere (document 02, section 12): a word that cloaks for the list reached at a place leaves the verdict
-//! when it is inserted there. By hand on the slips of document 01, then on seeded samples.
+//! Cloaks anywhere (document 02, section 12). If a word cloaks for the list that a signature reaches at some place, it
+//! can be inserted at this place without changing the verdict. The first tests use the slips of document 01, the others
+//! use seeded samples.
 
 mod common;
 
@@ -18,13 +19,14 @@ const NO: Cloak = Cloak { answer: 0, yes: false };
 
 // ---- By hand ----
 
-/// The plain key and 32 zero bytes accept b7, 128 times. These letters leave the labels 0 to 5 where they are.
+/// The verdict on a word with the plain key and 32 zero bytes. 128 letters b7 get 0. They do not move the labels 0 to
+/// 5.
 fn judged(codes: &[u8]) -> u8 {
     verify(&plain_key(), &[0; 32], &file(codes))
 }
 
-/// b1 b1 cloaks for 0 to 7, and that list is reached at each even place. At odd places the list is 0 to 5, 7, 6, and
-/// labels 0 and 1 are still at positions 1 and 2.
+/// b1 b1 cloaks for the list 0 to 7, which the signature reaches at each even place. At odd places the list is 0 to 5,
+/// 7, 6. There b1 b1 cloaks too, since labels 0 and 1 are still at positions 1 and 2.
 #[test]
 fn b1_b1_in_the_slip() {
     let sevens = [6; 128];
@@ -33,9 +35,9 @@ fn b1_b1_in_the_slip() {
     assert!((0..=128).all(|place| judged(&inserted(&sevens, place, &[0, 0])) == 0));
 }
 
-/// After b2 the list is 0 2 1 3 to 7, and positions 1 and 2 have the T-values 1 and 2. There b1 b1 does not cloak, and
-/// b1, 62 times, does, since 2 has the order 31. It cloaks for 0 to 7 too, where both T-values are 1. After b2 b1 the
-/// list is 2 0 1 3 to 7, and b2 b2 cloaks, but not for 0 to 7.
+/// After b2 the list is 0 2 1 3 to 7, and positions 1 and 2 have the T-values 1 and 2. b1 b1 does not cloak for this
+/// list, but 62 letters b1 do, since 2 has the order 31. 62 letters b1 also cloak for 0 to 7, where both T-values are
+/// 1. After b2 b1 the list is 2 0 1 3 to 7. b2 b2 cloaks for this list, but not for 0 to 7.
 #[test]
 fn the_list_reached_decides() {
     let word = [vec![1, 9], vec![6; 128]].concat();
@@ -49,7 +51,7 @@ fn the_list_reached_decides() {
     assert_eq!(judged(&inserted(&word, 4, &[1, 1])), 14);
 }
 
-/// After b2 the list is not that of Pub(S). A word that cloaks for the latter alone changes the verdict.
+/// After b2 the list is not the list of Pub(S). A word that cloaks only for the list of Pub(S) changes the verdict.
 #[test]
 fn the_list_of_the_key_does_not_decide() {
     let word = [vec![1, 9], vec![6; 128]].concat();
@@ -60,7 +62,8 @@ fn the_list_of_the_key_does_not_decide() {
     assert_eq!([0, 1, 2].map(|place| judged(&inserted(&word, place, &[0, 0]))), [0, 14, 0]);
 }
 
-/// b1, an even number of times, cloaks for 0 to 7. 128 + 9,872 = 10,000. An odd number of letters b7 is no signature.
+/// An even number of letters b1 cloaks for 0 to 7. A word may have at most 128 + 9,872 = 10,000 letters. An odd number
+/// of letters b7 gets 14.
 #[test]
 fn at_most_10_000_letters() {
     let with_ones = |sevens: usize, ones: usize| judged(&inserted(&vec![6; sevens], 64, &vec![0; ones]));
@@ -68,8 +71,8 @@ fn at_most_10_000_letters() {
     assert_eq!([with_ones(129, 0), with_ones(129, 9_870), with_ones(129, 9_872)], [14, 14, 10]);
 }
 
-/// The orders of elements divide 31, which is a prime number, or 255. Each divisor d of 255 is the order of φ(d)
-/// elements. 214 × 214 = 214 + 1, so 214 has the order 3, and so has 215.
+/// The order of an element divides 31 in the smaller field, and 255 in the larger. 31 is a prime number. Each divisor d
+/// of 255 is the order of φ(d) elements. 214 × 214 = 214 + 1, so 214 and 215 have the order 3.
 #[test]
 fn orders() {
     assert!((2..32).all(|element| order(Gf32, element) == 31));
@@ -79,7 +82,7 @@ fn orders() {
     assert_eq!([1, 2, 214, 215].map(|element| order(Gf256, element)), [1, 255, 3, 3]);
 }
 
-/// 2 and 18 are reciprocal in the smaller field, 2 and 142 in the larger.
+/// 2 and 18 are reciprocals in the smaller field, 2 and 142 in the larger.
 #[test]
 fn half_powers() {
     assert_eq!([half_power(Gf32, 1, 1), half_power(Gf32, 2, 18), half_power(Gf32, 1, 2)], [1, 2, 31]);
@@ -91,7 +94,8 @@ fn half_powers() {
 
 // ---- On seeded samples ----
 
-/// The half power is the least: powers of b_i are made letter by letter until one brings the pair back.
+/// Twice the half power is the least number of letters b_i that bring a pair back. The test multiplies by one letter
+/// after another until the pair comes back.
 #[test]
 fn half_powers_are_the_least() {
     let mut random = Random::seeded(41);
@@ -109,7 +113,8 @@ fn half_powers_are_the_least() {
     }
 }
 
-/// A power's cloaking word brings back every pair with its list, whatever the matrix. All orders are met.
+/// A cloaking word made of a power brings back every pair with its list, whatever the matrix. The samples meet all
+/// orders.
 #[test]
 fn power_cloaks_cloak() {
     let mut random = Random::seeded(42);
@@ -128,8 +133,8 @@ fn power_cloaks_cloak() {
     }
 }
 
-/// b_i b_i between w and w⁻¹ cloaks where w takes labels 0 and 1 to positions i and i + 1. For other lists it mostly
-/// does not.
+/// w b_i b_i w⁻¹ cloaks for a list if w takes labels 0 and 1 to positions i and i + 1. For most other lists it does not
+/// cloak.
 #[test]
 fn unit_cloaks_cloak() {
     let mut random = Random::seeded(45);
@@ -151,7 +156,7 @@ fn plain_cloak(random: &mut Random, field: Field, labels: &Labels) -> Vec<u8> {
     random.power_cloak(field, &PLAIN_T_VALUES, labels, letters)
 }
 
-/// A cloaking word still cloaks with another one inserted at any place.
+/// A cloaking word still cloaks after another cloaking word is inserted at any place.
 #[test]
 fn cloaks_in_cloaks() {
     let mut random = Random::seeded(43);
@@ -165,7 +170,7 @@ fn cloaks_in_cloaks() {
     }
 }
 
-/// Insertions and accepted moves, one after another, leave the verdict, 0 or 14.
+/// The test inserts cloaking words and makes accepted moves, by turns. The verdict, 0 or 14, does not change.
 #[test]
 fn verdicts_stay() {
     let mut random = Random::seeded(44);

@@ -1,5 +1,5 @@
-//! Which matrices have an inverse (document 02, section 1): determinants beside elimination, and keys with matrices of
-//! every rank. All of it over both fields (section 7).
+//! Which matrices have an inverse (document 02, section 1), over both fields (section 7). The tests compare
+//! determinants with elimination, and read and write keys with matrices of every rank.
 
 mod common;
 
@@ -13,18 +13,18 @@ use reference::{
 
 const ROUNDS: usize = 300;
 
-/// A matrix of any entries, with many zeros or few.
+/// A random matrix with any entries, half of the time with many zeros.
 fn matrix(random: &mut Random, field: Field) -> Matrix {
     let few = random.one_in(2);
     random.elements(field).map(|entry: u8| if few && !random.one_in(4) { 0 } else { entry })
 }
 
-/// So many rounds, with a field each, by turns.
+/// Every round from 0 to `count` - 1, once with each field.
 fn rounds(count: usize) -> impl Iterator<Item = (usize, Field)> {
     (0..count).flat_map(|round| Field::BOTH.map(|field| (round, field)))
 }
 
-/// The identity with a square of other entries at its end, given row by row.
+/// The identity matrix with its lower right square replaced, given row by row.
 fn with_square<const SIZE: usize>(rows: [[u8; SIZE]; SIZE]) -> Matrix {
     let mut matrix = identity();
     for (row, entries) in (9 - SIZE..).zip(rows) {
@@ -37,7 +37,8 @@ fn with_square<const SIZE: usize>(rows: [[u8; SIZE]; SIZE]) -> Matrix {
 
 // ---- Determinants ----
 
-/// Minors of two and three rows by their rules, ad + bc and the six terms; the rest of the matrix is the identity.
+/// Determinants of two and three rows by their formulas, ad + bc and the six terms. The rest of the matrix is the
+/// identity.
 #[test]
 fn small_determinants() {
     let mut random = Random::seeded(41);
@@ -79,8 +80,8 @@ fn products_multiply_determinants() {
     }
 }
 
-/// A determinant is not 0 exactly where elimination finds an inverse, which is one on both sides, and where it finds
-/// the rank 8.
+/// A determinant is not 0 exactly if elimination finds an inverse, and exactly if elimination finds the rank 8. The
+/// inverse is a left inverse and a right inverse.
 #[test]
 fn determinants_agree_with_elimination() {
     let mut random = Random::seeded(44);
@@ -108,8 +109,8 @@ fn determinants_agree_with_elimination() {
 
 // ---- Keys ----
 
-/// The answer to a key with these matrices, which reader, writer, verdict and cloaking give alike: on 26 the writer
-/// leaves its output, and what is read is zeros and names the field with 32 elements.
+/// The answer to a key with these matrices. Reader, writer, verdict and cloaking must give the same answer. On a
+/// refusal the writer must leave its output unchanged, and the reader must return zeros and the field with 32 elements.
 fn answer(field: Field, first: &Matrix, second: &Matrix) -> u8 {
     let key = key_with_matrices(field, first, second);
     let mut out = vec![0xAA; key.len()];
@@ -131,8 +132,8 @@ fn answer(field: Field, first: &Matrix, second: &Matrix) -> u8 {
     answer
 }
 
-/// Matrices of every rank below 8 are refused in the first place, in the second and in both, whether the last entry is
-/// zero or not; those of rank 8 are not.
+/// A key is refused if its first matrix, its second or both have a rank below 8, whether the last entry is zero or not.
+/// Matrices of rank 8 are accepted.
 #[test]
 fn keys_of_every_rank() {
     let mut random = Random::seeded(45);
@@ -154,7 +155,7 @@ fn keys_of_every_rank() {
     }
 }
 
-/// The identity with one entry changed has an inverse unless it is a one that became zero.
+/// The identity matrix with one entry changed has an inverse. Exception: a one of the diagonal became zero.
 #[test]
 fn identity_with_one_entry_changed() {
     let places = (1..=7).flat_map(|row| (1..=8).map(move |column| (row, column)));
@@ -173,7 +174,8 @@ fn identity_with_one_entry_changed() {
     }
 }
 
-/// Permutation matrices pass, and none does with ones made zeros, or with column 8 moved so that row 8 has no entry.
+/// Permutation matrices are accepted. A permutation matrix is refused after column 8 has changed places with another
+/// column, so that row 8 is zero. Random matrices without an inverse are refused too.
 #[test]
 fn keys_of_permutations() {
     let mut random = Random::seeded(46);
@@ -192,7 +194,7 @@ fn keys_of_permutations() {
     }
 }
 
-/// The blank key, and a plain key with one blank matrix.
+/// The blank key, and plain keys with one matrix of zeros.
 #[test]
 fn keys_of_zeros() {
     for field in Field::BOTH {

@@ -1,6 +1,5 @@
-//! Strength 256: the field with 256 elements, its keys and digests (document 02, section 7). What is expected is typed
-//! from the papers, or follows from them by the reasoning written beside it; none of it was computed by the code under
-//! test.
+//! Strength 256: the field with 256 elements, its keys and digests (document 02, section 7). Expected values are typed
+//! from the papers, or follow from the papers by the reasoning beside them. The code under test computed none of them.
 
 mod common;
 
@@ -23,8 +22,8 @@ fn times(left: u8, right: u8) -> u8 {
 
 // ---- The field ----
 
-/// x^8 = x^4 + x^3 + x^2 + 1, so 128 × 2 = 16 + 8 + 4 + 1 = 29, and x^4 x^4 is the same. (Reduced by x^8 + x^4 + x^3 +
-/// x + 1 it would be 27.) Below x^8 nothing is reduced: 16 × 2 = 32, which is 5 in the smaller field.
+/// x^8 = x^4 + x^3 + x^2 + 1, so 128 × 2 = 16 + 8 + 4 + 1 = 29. 16 × 16 = x^4 x^4 = 29 as well. (With the polynomial
+/// x^8 + x^4 + x^3 + x + 1 it would be 27.) Below x^8 nothing is reduced: 16 × 2 = 32, which is 5 in the smaller field.
 #[test]
 fn products_by_hand() {
     assert_eq!(times(128, 2), 29);
@@ -35,9 +34,10 @@ fn products_by_hand() {
     assert_eq!(times(1, 255), 255);
 }
 
-/// The powers of x from x^8 on, each x times the last, where sums are exclusive or: 29, 58, 116, 232; then
-/// 2 × 232 = 256 + 208 and 208 + 29 = 205; 2 × 205 = 256 + 154 and 154 + 29 = 135; 2 × 135 = 256 + 14 and 14 + 29 = 19.
-/// The square of 255 is the sum of x^14, x^12, .., x^2 and 1: 19 + 205 + 116 + 29 + 64 + 16 + 4 + 1 = 226.
+/// The powers of x from x^8 on. Each is x times the one before. Sums in the field are exclusive or. x^8 to x^11 are 29,
+/// 58, 116, 232. Then 2 × 232 = 256 + 208 and 208 + 29 = 205, 2 × 205 = 256 + 154 and 154 + 29 = 135,
+/// 2 × 135 = 256 + 14 and 14 + 29 = 19. The square of 255 is the sum of x^14, x^12, .., x^2 and 1:
+/// 19 + 205 + 116 + 29 + 64 + 16 + 4 + 1 = 226.
 #[test]
 fn powers_of_x_by_hand() {
     let mut power = 128;
@@ -48,8 +48,9 @@ fn powers_of_x_by_hand() {
     assert_eq!(times(255, 255), 226);
 }
 
-/// x (x^7 + x^3 + x^2 + x) = x^8 + x^4 + x^3 + x^2 = 1, so the reciprocal of 2 is 128 + 8 + 4 + 2 = 142. And
-/// (x + 1)(x^7 + x^6 + x^5 + x^4 + x^2) = x^8 + x^4 + x^3 + x^2 = 1, so that of 3 is 128 + 64 + 32 + 16 + 4 = 244.
+/// x (x^7 + x^3 + x^2 + x) = x^8 + x^4 + x^3 + x^2 = 1, so the reciprocal of 2 is 128 + 8 + 4 + 2 = 142.
+/// (x + 1)(x^7 + x^6 + x^5 + x^4 + x^2) = x^8 + x^4 + x^3 + x^2 = 1, so the reciprocal of 3 is
+/// 128 + 64 + 32 + 16 + 4 = 244.
 #[test]
 fn reciprocals_by_hand() {
     for (element, expected) in [(1, 1), (2, 142), (142, 2), (3, 244), (244, 3)] {
@@ -58,7 +59,7 @@ fn reciprocals_by_hand() {
     assert_eq!(reciprocal(Gf256, 0), Element { answer: 4, value: 0 });
 }
 
-/// The 255 elements other than zero are the powers of x: x^255 is the first that is 1 again.
+/// The 255 elements other than zero are the powers of x. After x^0, x^255 is the first power that is 1.
 #[test]
 fn powers_of_x_are_all_elements() {
     let powers: Vec<u8> = std::iter::successors(Some(1), |power| Some(times(2, *power))).take(256).collect();
@@ -75,9 +76,9 @@ fn start_with_row_3(entries: [u8; 8], labels: [u8; 8]) -> Pair {
     pair
 }
 
-/// From the start, b3 has 2, 2, 1 in row 3, and b3 b3 has 2 + 3 × 2 = 4, 3 × 2 = 6, 1 + 2 = 3, as in the smaller field:
-/// nothing is reduced. b3⁻¹ has 1, 1/3, 1/3 with 1/3 = 244. With T-values 128 and 2 at labels 2 and 3, b3 b3 has
-/// 128 + 2 × 128 = 157, 2 × 128 = 29, 1 + 128 = 129.
+/// Row 3 from the start. b3 has 2, 2, 1, and b3 b3 has 2 + 3 × 2 = 4, 3 × 2 = 6, 1 + 2 = 3. Both are as in the smaller
+/// field, since nothing is reduced. b3⁻¹ has 1, 1/3, 1/3 with 1/3 = 244. With T-values 128 and 2 at labels 2 and 3,
+/// b3 b3 has 128 + 2 × 128 = 157, 2 × 128 = 29, 1 + 128 = 129.
 #[test]
 fn b3_from_the_start() {
     let swapped = [0, 1, 3, 2, 4, 5, 6, 7];
@@ -97,7 +98,7 @@ fn b3_from_the_start() {
     }
 }
 
-/// Every byte is an element of the larger field: 17 is never given, and 4, 6 and 12 follow in their order.
+/// Every byte is an element of the larger field, so 17 never occurs there. 4, 6 and 12 follow in this order.
 #[test]
 fn multiplier_refusals_in_order() {
     let high = Pair { matrix: [255; 64], ..start() };
@@ -122,7 +123,7 @@ fn multiplier_refusals_in_order() {
 
 // ---- Keys ----
 
-/// 3 bytes, 8 T-values, 57 entries, 3 bytes of labels, 57 entries: 128 bytes without filler.
+/// 3 bytes of N and q, 8 T-values, 57 entries, 3 bytes of labels and 57 entries are 128 bytes, without filler.
 #[test]
 fn plain_key_has_128_bytes() {
     assert_eq!(large_plain_key().len(), 3 + 8 + 57 + 3 + 57);
@@ -146,7 +147,7 @@ fn plain_key_is_read_and_written() {
     assert!(out[128..].iter().all(|byte| *byte == 0xAA));
 }
 
-/// Each part stands where the one before it ends, and the last ends with the file.
+/// Each part begins where the part before it ends. The last part ends with the file.
 #[test]
 fn parts_of_keys_stand_end_to_end() {
     for (field, bytes, element, filler) in [(Gf32, 83, 5, 3), (Gf256, 128, 8, 0)] {
@@ -168,8 +169,8 @@ fn parts_of_keys_stand_end_to_end() {
     }
 }
 
-/// 200 on the diagonal and the entry's own number elsewhere above it: an entry is a byte, in the file's order. The
-/// matrices are triangular without a zero on the diagonal.
+/// The first matrix has 200 on the diagonal, and above it 100 plus the number of the entry. So each entry shows its
+/// byte in the file. Both matrices are triangular without a zero on the diagonal, so they have inverses.
 #[test]
 fn every_entry_has_its_place() {
     let mut first = [0; 57];
@@ -195,8 +196,8 @@ fn every_entry_has_its_place() {
     assert_eq!(key.second, start().matrix);
 }
 
-/// The key is refused by reader, verdict and cloaking alike; what is read is zeros and names the field with 32
-/// elements.
+/// Reader, verdict and cloaking must refuse the key with this answer. The reader must return zeros and the field with
+/// 32 elements.
 fn refused(file: &[u8], expected: u8) {
     let zeros = Key { answer: expected, field: Gf32, t_values: [0; 8], pair: Pair::ZEROS, second: [0; 64] };
     assert_eq!(read_key(file), zeros);
@@ -206,7 +207,7 @@ fn refused(file: &[u8], expected: u8) {
     assert_eq!(verify(file, &[0; 32], &hex("00 00")), expected);
 }
 
-/// Question 1 is "83 or 128".
+/// Question 1 asks for 83 or 128 bytes. Files of every other length get 1.
 #[test]
 fn other_lengths() {
     for length in (0..300).filter(|length| *length != 83 && *length != 128) {
@@ -217,7 +218,7 @@ fn other_lengths() {
     refused(&large_plain_key()[..83], 3);
 }
 
-/// Question 3 wants the q that goes with the length.
+/// Question 3 asks for the q that goes with the file's length.
 #[test]
 fn q_goes_with_the_length() {
     for (q, small, large) in [
@@ -241,7 +242,8 @@ fn q_goes_with_the_length() {
     }
 }
 
-/// A file of 128 bytes FF, with one fault after another mended. There is no filler, so that 7 is never given.
+/// The file starts as 128 bytes FF, and the test repairs one fault after another. There is no filler, so the answer is
+/// never 7.
 #[test]
 fn key_refusals_in_order() {
     let mut file = vec![0xFF; 128];
@@ -305,7 +307,7 @@ fn inverses_are_of_the_keys_own_field() {
     assert_eq!(read_key(&file).answer, 0);
 }
 
-/// 16 wants the matching size, 17 has the bound q.
+/// Question 16 asks for the room that a key over the field needs. Question 17 asks for numbers below q.
 #[test]
 fn key_writer_refusals_in_order() {
     let good = identity_entries();
@@ -347,9 +349,8 @@ fn key_writer_refusals_in_order() {
 
 // ---- Digests ----
 
-/// The encoder alone takes 32 bytes or 64: half byte 0 is b7 b7, half byte 6 is document 01's. 64 zero bytes give 256
-/// letters b7, and a digest whose second half alone is 66 gives 128 letters b7 and then 64 times 12 letters, 896 in
-/// all.
+/// The encoder accepts 32 or 64 bytes. Half byte 0 is b7 b7, and document 01 gives half byte 6. 64 zero bytes give 256
+/// letters b7. 32 zero bytes and 32 bytes 66 give 128 letters b7 and then 64 times 12 letters, 896 in all.
 #[test]
 fn digests_as_words() {
     let sixes = "65 43 22 22 BC DE ";
@@ -370,17 +371,17 @@ fn digests_as_words() {
 
 // ---- The verdict and cloaking ----
 
-/// The word b7 so many times.
+/// The word file of `letters` letters b7, an even number.
 fn sevens(letters: u16) -> Vec<u8> {
     let mut word = letters.to_be_bytes().to_vec();
     word.resize(2 + usize::from(letters) / 2, 0x66);
     word
 }
 
-/// Under the larger plain key both sides of 64 zero bytes are the letter b7, 256 times. With m = 6 × 7 = 18, the
-/// product of b7's two T-values, 2 k letters have m^k at row 7, column 7. So 128 letters, as for the first half alone,
-/// would need m^64 = 1; then the order of m divides 64 and 255, and m is 1, which it is not. The empty word would need
-/// m^128 = 1.
+/// The braid of 64 zero bytes is b7, 256 times, so this word gets 0 under the larger plain key. Let m = 6 × 7 = 18, the
+/// product of b7's two T-values. 2 k letters have m^k in row 7, column 7. So 128 letters would need m^64 = 1. Then the
+/// order of m would divide 64 and 255, and m would be 1, which it is not. The empty word would need m^128 = 1, which is
+/// false for the same reason.
 #[test]
 fn verdicts() {
     assert_eq!(times(6, 7), 18);
@@ -394,7 +395,7 @@ fn verdicts() {
     assert_eq!(verify(&key, &other, &sevens(256)), 14);
 }
 
-/// 8 wants the digest that goes with the key, before the word's questions.
+/// Question 8 asks for the digest length that goes with the key. It comes before the word's questions.
 #[test]
 fn digest_goes_with_the_key() {
     for length in 0..130 {
@@ -406,10 +407,11 @@ fn digest_goes_with_the_key() {
     }
 }
 
-/// Where two neighbours have the same T-value t, b_i n times has the row t + .. + t^n, t^n, 1 + .. + t^(n-1). For
-/// t = 2 that is 0, 1, 0 at n = 255 in the larger field, since t^255 = 1 for all elements but zero, and at n = 31 in
-/// the smaller one. An odd number of letters does not bring the list back, twice as many do. It is not so the other way
-/// round: 62 is no multiple of 255, the order of x in the larger field, and 510 = 16 × 31 + 14 is none of 31.
+/// If positions i and i + 1 have the same T-value t, n letters b_i have t + .. + t^n, t^n, 1 + .. + t^(n-1) in row i.
+/// In the smaller field this is 0, 1, 0 for t = 2 and n = 31, since t^31 = 1 for all elements but zero. In the larger
+/// field it is 0, 1, 0 for t = 2 and n = 255, since t^255 = 1. An odd number of letters does not bring the list back.
+/// So 62 or 510 letters cloak. In the other field they do not: 62 is not a multiple of 255, the order of x in the
+/// larger field, and 510 = 16 × 31 + 14 is not a multiple of 31.
 #[test]
 fn cloaking_in_the_keys_own_field() {
     let small = key_with_t_values("08 44 22 14 C7");
@@ -436,8 +438,8 @@ fn cloaking_in_the_keys_own_field() {
     }
 }
 
-/// Under T-values 1 1 2 2 4 5 6 7 the letter b3, 255 times, brings the matrix back but not the list: the verdict does
-/// not mind.
+/// Under T-values 1 1 2 2 4 5 6 7, 255 letters b3 bring the matrix back but not the list. The verdict does not compare
+/// lists, so it is still 0.
 #[test]
 fn lists_are_not_compared() {
     let key = large_key_with_t_values("01 01 02 02 04 05 06 07");
@@ -449,7 +451,7 @@ fn lists_are_not_compared() {
 
 // ---- The desk ----
 
-/// Bytes 1 and 2 of the input say where it is cut.
+/// Bytes 1 and 2 of the input, counted from 0, decide where it is cut.
 #[test]
 fn desk_cuts_by_bytes_1_and_2() {
     for (input, expected) in [
@@ -481,7 +483,7 @@ fn desk_cuts_by_bytes_1_and_2() {
     }
 }
 
-/// Slips end to end: of the larger size, of the smaller, and with the parts of one under the other's q.
+/// Slips of the larger size, of the smaller size, and keys of one size with the q of the other.
 #[test]
 fn desk_answers() {
     let joined = |parts: &[&[u8]]| desk::answer(&parts.concat());
@@ -496,16 +498,16 @@ fn desk_answers() {
     assert_eq!(joined(&[&large]), 8);
     assert_eq!(joined(&[&large[..127]]), 1);
     assert_eq!(joined(&[&large[..84]]), 1);
-    // just 83 bytes are a key's length, and their q does not go with it
+    // 83 bytes are the length of a smaller key, but q is 256
     assert_eq!(joined(&[&large[..83]]), 3);
     assert_eq!(joined(&[&large[..82]]), 1);
     assert_eq!(joined(&[&small, &[0; 32], &sevens(128)]), 0);
-    // the digest's other 32 zero bytes stand where the word does: 00 00 and then more
+    // the digest is cut after 32 bytes, so the word begins with 00 00: no letters, but more bytes follow
     assert_eq!(joined(&[&small, &[0; 64], &sevens(128)]), 11);
-    // a key of 128 bytes that says 32 is cut at 83, and the first five bits of its T-values are 0
+    // a key of 128 bytes with q = 32 is cut at 83 bytes, and the first five bits of its T-values are 0
     let says_32 = [&hex("08 00 20"), &large[3..]].concat();
     assert_eq!(joined(&[&says_32, &[0; 64], &sevens(256)]), 4);
-    // one of 83 bytes that says 256 is cut at 128, and its first eight bytes of T-values end with 00 00
+    // a key of 83 bytes with q = 256 is cut at 128 bytes, and the eight bytes of its T-values have zeros
     let says_256 = [&hex("08 01 00"), &small[3..]].concat();
     assert_eq!(joined(&[&says_256, &[0; 32], &sevens(128)]), 4);
     assert_eq!(joined(&[&says_256, &[0; 32]]), 1);

@@ -1,5 +1,5 @@
-//! Laws that hold for all inputs, by brute force where the inputs are few and on seeded random ones where
-//! they are many.
+//! Laws that hold for all inputs. If there are few inputs, the tests go through all of them. If there are many, they
+//! use seeded random ones.
 
 mod common;
 
@@ -17,7 +17,7 @@ use reference::{
 
 const ROUNDS: usize = 200;
 
-/// The product of two elements, which must be one.
+/// The product of two elements. The product must be an element.
 fn times(field: Field, left: u8, right: u8) -> u8 {
     let element = product(field, left, right);
     assert_eq!(element.answer, 0);
@@ -30,12 +30,12 @@ fn letter(generator: usize, inverse: bool) -> u8 {
     generator as u8 - 1 + if inverse { 8 } else { 0 }
 }
 
-/// The inverse word: the inverse letters in the other order.
+/// The inverse word: the inverse letters in reverse order.
 fn inverted(word: &[u8]) -> Vec<u8> {
     word.iter().rev().map(|code| code ^ 8).collect()
 }
 
-/// Do two words carry the same random pairs to the same pairs, over both fields?
+/// Two words must carry a random pair to the same pair, over both fields.
 fn assert_equal_braids(random: &mut Random, left: &[u8], right: &[u8]) {
     for field in Field::BOTH {
         let (pair, t_values) = (random.pair(field), random.t_values(field));
@@ -46,7 +46,7 @@ fn assert_equal_braids(random: &mut Random, left: &[u8], right: &[u8]) {
 
 // ---- The field ----
 
-/// All products of a field, once: the laws below are asked of the table.
+/// All products of a field. `field_laws` reads them from this table, because it needs each product many times.
 fn table(field: Field) -> Vec<Vec<u8>> {
     let elements = || (0..=255).filter(|number| u16::from(*number) < field.size());
     elements().map(|a| elements().map(|b| times(field, a, b)).collect()).collect()
@@ -73,7 +73,8 @@ fn field_laws() {
     }
 }
 
-/// Times x is a shift, and x^5 is x^2 + 1, or x^8 is x^4 + x^3 + x^2 + 1: with the laws above this fixes every product.
+/// A product with x is a shift, with x^5 = x^2 + 1 or x^8 = x^4 + x^3 + x^2 + 1. Together with `field_laws` this rule
+/// determines every product.
 #[test]
 fn times_x() {
     for a in 0..32 {
@@ -87,7 +88,7 @@ fn times_x() {
     }
 }
 
-/// A reciprocal's product with its element is 1: for all 31, and for all 255.
+/// The product of an element and its reciprocal is 1, for all 31 elements other than zero and for all 255.
 #[test]
 fn reciprocals() {
     for (field, last) in [(Gf32, 31), (Gf256, 255)] {
@@ -98,7 +99,7 @@ fn reciprocals() {
     }
 }
 
-/// Over the field with 32 elements a number over 31 is none; over the one with 256 every byte is one.
+/// In the field with 32 elements a number above 31 is not an element. In the field with 256 every byte is an element.
 #[test]
 fn numbers_that_are_no_elements() {
     for a in 0..=255 {
@@ -125,7 +126,7 @@ fn matrix_laws() {
     }
 }
 
-/// A letter in the words of document 01: columns gain multiples of the old column i.
+/// A pair times a letter as document 01 states it: the neighbours of column i gain multiples of the old column i.
 fn by_columns(field: Field, pair: &Pair, t_values: &[u8; 8], i: usize, inverse: bool) -> Pair {
     let mut result = *pair;
     let t_value = |position: usize| t_values[usize::from(pair.labels[position - 1])];
@@ -164,8 +165,8 @@ fn letters_change_columns_as_document_01_says() {
     }
 }
 
-/// Document 02, section 5: the label at the position of a is a, and the position of the label at position i is i, after
-/// every word and in every key and half.
+/// Document 02, section 5: after every word the label at the position of a is a, and the position of the label at
+/// position i is i.
 #[test]
 fn lists_stay_inverse() {
     let mut random = Random(31);
@@ -182,7 +183,8 @@ fn lists_stay_inverse() {
     }
 }
 
-/// A letter acts on the right, so a matrix from the left goes through: what the verdict rests on.
+/// A letter multiplies from the right. So a factor from the left may be multiplied before the word or after it. The
+/// verdict rests on this law.
 #[test]
 fn matrices_from_the_left_go_through() {
     let mut random = Random(3);
@@ -253,8 +255,8 @@ fn pure(i: u8, j: u8) -> Vec<u8> {
     [down.clone(), vec![i - 1, i - 1], inverted(&down)].concat()
 }
 
-/// The first three relations after equation (11) of source 003. (The fourth there cannot hold as printed:
-/// its two sides differ in positive letters less inverse ones.)
+/// The first three relations after equation (11) of source 003. The fourth cannot hold as printed: the exponent sums of
+/// its two sides differ.
 #[test]
 fn pure_braid_relations_of_source_003() {
     let mut random = Random(8);
@@ -271,7 +273,7 @@ fn pure_braid_relations_of_source_003() {
     }
 }
 
-/// All r < s and i < j among the eight strands.
+/// All (r, s, i, j) with r < s and i < j among the eight strands.
 fn quadruples() -> Vec<(u8, u8, u8, u8)> {
     let pairs = || (1..=8).flat_map(|a| (a + 1..=8).map(move |b| (a, b)));
     pairs().flat_map(|(r, s)| pairs().map(move |(i, j)| (r, s, i, j))).collect()
@@ -297,7 +299,7 @@ fn words_come_back() {
     }
 }
 
-/// Random short files: an accepted one is written back byte for byte, a refused one has no letters.
+/// Random short files. An accepted file is written back byte for byte, and a refused file has no letters.
 #[test]
 fn word_files_come_back() {
     let mut random = Random(10);
@@ -370,7 +372,7 @@ fn cancelling_letters() {
 
 // ---- Keys ----
 
-/// 26 if one of the matrices has no inverse over the field, by elimination; 0 otherwise.
+/// 26 if elimination finds that one of the matrices has no inverse over the field, otherwise 0.
 fn inverse_answer(field: Field, matrices: [Matrix; 2]) -> u8 {
     if matrices.iter().all(|matrix| inverse_matrix(field, matrix).is_some()) {
         0
@@ -396,7 +398,8 @@ fn keys_come_back() {
     }
 }
 
-/// Random matrix bytes, in the smaller field with the filler cleared: an accepted file is written back byte for byte.
+/// Keys with random matrix bytes. In the smaller field the filler is cleared. An accepted file is written back byte for
+/// byte.
 #[test]
 fn key_files_come_back() {
     let mut random = Random(14);
@@ -425,7 +428,8 @@ fn key_files_come_back() {
     }
 }
 
-/// Keys with many zeros in their matrices, of which many have no inverse: writer and reader ask alike.
+/// Keys with many zeros in their matrices. Many of these matrices have no inverse. Writer and reader give the same
+/// answer.
 #[test]
 fn keys_with_many_zeros() {
     let mut random = Random(17);
@@ -445,8 +449,9 @@ fn keys_with_many_zeros() {
     }
 }
 
-/// Every single bit of filler is asked about, and no other bit of the matrices but those of the diagonal: each one
-/// there is the only entry of its row. The larger field has no filler.
+/// Flips each bit of the plain key. The answer is 7 exactly for the bits of filler, which the larger field does not
+/// have. Of the matrix bits, those that hold a one of the diagonal give 26, because that one is the only entry of its
+/// row. All other matrix bits give 0.
 #[test]
 fn filler_of_keys() {
     for (field, width, first, second, fillers) in
@@ -468,7 +473,8 @@ fn filler_of_keys() {
 
 // ---- Digests and cloaks ----
 
-/// A digest's braid is pure, it is the braid of its halves, and its word file is accepted.
+/// A digest's braid is pure. It is the braid of the digest's first bytes followed by the braid of the others. Its word
+/// file is accepted.
 #[test]
 fn digest_braids() {
     let mut random = Random(15);
@@ -486,8 +492,8 @@ fn digest_braids() {
     }
 }
 
-/// Source 003, proposition 4.2, and source 000, section 5.2: w b_i b_i w⁻¹ cloaks for a list if w takes
-/// labels 0 and 1 to positions i and i + 1; so do its inverse, its powers and its free reduction.
+/// Source 003, proposition 4.2, and source 000, section 5.2: w b_i b_i w⁻¹ cloaks for a list if w takes labels 0 and 1
+/// to positions i and i + 1. Its inverse, its powers and their free reductions cloak for this list too.
 #[test]
 fn cloaking_elements() {
     let mut random = Random(16);
@@ -513,7 +519,7 @@ fn cloaking_elements() {
     assert!(keys.iter().all(|key| cloaks(key, &PLAIN_LIST, &hex("00 02 88")).yes));
 }
 
-/// b1 b1 5,000 times: as long as a word may be.
+/// b1 b1, 5,000 times, is as long as a word may be.
 #[test]
 fn longest_cloaking_word() {
     let mut word = hex("27 10");

@@ -1,23 +1,22 @@
-//! The rewriter and the verdict: the worked examples of document 01 and what follows from it by hand. What is
-//! expected is typed, or built by the reasoning written beside it; none of it was computed by the code under
-//! test.
+//! The rewriter and the verdict: the worked examples of document 01, and examples that follow from it by hand. Expected
+//! values are typed, or follow by the reasoning beside them. The code under test computed none of them.
 
 mod common;
 
 use common::{blank_key, file, hex, key_with_t_values, output, plain_key, refuses, PACKED_IDENTITY};
 use reference::{rewrite, verify, Written};
 
-/// The word that a list of moves leaves, both in hexadecimal.
+/// The word after a list of moves. Word and list are typed in hexadecimal.
 fn rewritten(word: &str, list: &str) -> Vec<u8> {
     output(|out| rewrite(&hex(word), &hex(list), out))
 }
 
-/// The rewriter must refuse with this number and leave an output of 5,002 bytes alone.
+/// The rewriter must refuse with this answer and leave its output of 5,002 bytes unchanged.
 fn refused(expected: u8, word: &[u8], list: &[u8]) {
     refuses(expected, 5_002, |out| rewrite(word, list, out));
 }
 
-/// A list typed move by move, as places and kinds: for inputs of tests, never for what a test expects.
+/// A move list from places and kinds. Tests use it for inputs only, never for expected values.
 fn list(moves: &[(u16, u8)]) -> Vec<u8> {
     let mut bytes = (moves.len() as u16).to_be_bytes().to_vec();
     bytes.extend(moves.iter().flat_map(|(place, _)| place.to_be_bytes()));
@@ -25,7 +24,7 @@ fn list(moves: &[(u16, u8)]) -> Vec<u8> {
     bytes
 }
 
-/// The word b1 so many times.
+/// The word file of `letters` letters b1.
 fn ones(letters: usize) -> Vec<u8> {
     file(&vec![0; letters])
 }
@@ -56,19 +55,19 @@ fn verdict_slips() {
 #[test]
 fn accepted_moves() {
     for (word, moves, expected) in [
-        ("00 02 80", "00 01 00 00 01", "00 00"),          // b1⁻¹ b1 goes too
+        ("00 02 80", "00 01 00 00 01", "00 00"),          // b1⁻¹ b1
         ("00 04 06 E3", "00 01 00 01 01", "00 02 03"),    // from the middle
         ("00 03 06 E0", "00 01 00 01 01", "00 01 00"),    // from the end
         ("00 02 02", "00 01 00 00 02", "00 02 20"),       // b1 b3
         ("00 02 20", "00 01 00 00 02", "00 02 02"),       // b3 b1
         ("00 02 0A", "00 01 00 00 02", "00 02 A0"),       // signs do not matter
-        ("00 02 E8", "00 01 00 00 02", "00 02 8E"),       // the farthest
+        ("00 02 E8", "00 01 00 00 02", "00 02 8E"),       // the generators farthest apart
         ("00 03 53 90", "00 01 00 01 02", "00 03 59 30"), // b4 and b2⁻¹
         ("00 03 10 10", "00 01 00 00 03", "00 03 01 00"), // b2 b1 b2
         ("00 03 56 50", "00 01 00 00 03", "00 03 65 60"), // b6 b7 b6
         ("00 03 9A 90", "00 01 00 00 03", "00 03 A9 A0"), // three inverses
         ("00 04 60 10", "00 01 00 01 03", "00 04 61 01"), // at the end
-        ("00 00", "00 01 00 00 10", "00 02 08"),          // before the place 0 of no letters
+        ("00 00", "00 01 00 00 10", "00 02 08"),          // into the empty word
         ("00 00", "00 01 00 00 18", "00 02 80"),          // an inverse and then its letter
         ("00 01 30", "00 01 00 00 16", "00 03 6E 30"),    // before a letter
         ("00 01 30", "00 01 00 01 1E", "00 03 3E 60"),    // after the last
@@ -84,19 +83,19 @@ fn letters_without_the_shape() {
         ("00 02 00", 1),    // b1 b1
         ("00 02 09", 1),    // b1 b2⁻¹
         ("00 02 88", 1),    // b1⁻¹ b1⁻¹
-        ("00 02 01", 2),    // neighbours
-        ("00 02 10", 2),    // neighbours
-        ("00 02 09", 2),    // neighbours, signs apart
+        ("00 02 01", 2),    // generators that differ by 1
+        ("00 02 10", 2),    // generators that differ by 1
+        ("00 02 09", 2),    // generators that differ by 1, with different signs
         ("00 02 0E", 1),    // b1 b7⁻¹
-        ("00 02 00", 2),    // one generator
-        ("00 02 08", 2),    // one generator, both signs
-        ("00 03 00 00", 3), // one generator
-        ("00 03 02 00", 3), // too far apart
-        ("00 03 01 20", 3), // the third is another
-        ("00 03 01 80", 3), // the third's sign
-        ("00 03 09 00", 3), // the second's sign
-        ("00 03 81 00", 3), // the first's sign
-        ("00 03 89 00", 3), // two inverses and a letter
+        ("00 02 00", 2),    // the same generator
+        ("00 02 08", 2),    // the same generator, with both signs
+        ("00 03 00 00", 3), // the same generator
+        ("00 03 02 00", 3), // generators that differ by 2
+        ("00 03 01 20", 3), // the third letter has another generator
+        ("00 03 01 80", 3), // the third letter has another sign
+        ("00 03 09 00", 3), // the second letter has another sign
+        ("00 03 81 00", 3), // the first letter has another sign
+        ("00 03 89 00", 3), // two inverses and a generator
         ("00 03 01 10", 3), // j k k
         ("00 03 00 10", 3), // j j k
     ] {
@@ -131,8 +130,8 @@ fn letters_that_do_not_exist() {
     }
 }
 
-/// Kinds are 1, 2, 3, 16 to 22 and 24 to 30. On the empty word those that need letters get 22, and the
-/// insertions are made.
+/// Kinds are 1, 2, 3, 16 to 22 and 24 to 30. On the empty word the kinds that need letters get 22, and insertions are
+/// accepted.
 #[test]
 fn every_kind() {
     for kind in 0..=255 {
@@ -182,19 +181,20 @@ fn no_moves() {
     assert_eq!(output(|out| rewrite(&ones(10_000), &hex("00 00"), out)), ones(10_000));
 }
 
-/// b1 b1⁻¹ b1 b2 b1: after the removal j k j stands at place 0. In the other order, or on the word handed in,
-/// b1 b1⁻¹ b1 stands there.
+/// The word is b1 b1⁻¹ b1 b2 b1. After the removal b1 b2 b1 stands at place 0, so kind 3 is accepted there. Before the
+/// removal b1 b1⁻¹ b1 stands there, and kind 3 is refused.
 #[test]
 fn each_move_works_on_what_the_last_one_left() {
     let word = "00 05 08 01 00";
     assert_eq!(rewritten(word, "00 02 00 00 00 00 01 03"), hex("00 03 10 10"));
     refused(23, &hex(word), &hex("00 02 00 00 00 00 03 01"));
-    // The same with places that shift: j k j stands at place 2 until the removal.
+    // Before the removal b1 b2 b1 stands at place 2. After it the word has no three letters from place 2 on.
     assert_eq!(rewritten(word, "00 02 00 02 00 00 03 01"), hex("00 03 10 10"));
     refused(22, &hex(word), &hex("00 02 00 00 00 02 01 03"));
 }
 
-/// Source 004, section 5.2's braid b1 b3 b2⁻¹ b3 b1⁻¹: b1 and b3 swap, b3 and b1⁻¹ swap, b1 b1⁻¹ cannot meet.
+/// The braid b1 b3 b2⁻¹ b3 b1⁻¹ of source 004, section 5.2. b1 and b3 swap, and b3 and b1⁻¹ swap. b2⁻¹ stays between b1
+/// and b1⁻¹, so the two cannot be removed.
 #[test]
 fn braid_of_source_004() {
     let word = "00 05 02 92 80";
@@ -204,14 +204,14 @@ fn braid_of_source_004() {
 
 #[test]
 fn places_past_the_word_handed_in() {
-    // The second insertion stands behind the first one's letters.
+    // The second insertion stands after the letters of the first.
     assert_eq!(rewritten("00 00", "00 02 00 00 00 02 10 11"), hex("00 04 08 19"));
     assert_eq!(rewritten("00 01 00", "00 02 00 01 00 01 11 01"), hex("00 01 00"));
     refused(22, &hex("00 00"), &hex("00 02 00 00 00 03 10 11"));
     refused(22, &hex("00 00"), &hex("00 02 00 02 00 00 11 10"));
 }
 
-/// b1 b1⁻¹ and 9,998 times b1: a removal makes room, and the insertion at the end takes it.
+/// The word is b1 b1⁻¹ and then b1, 9,998 times. A removal makes room for an insertion at the end.
 #[test]
 fn removal_before_an_insertion_on_the_longest_word() {
     let mut codes = vec![0; 10_000];
@@ -226,7 +226,7 @@ fn removal_before_an_insertion_on_the_longest_word() {
     refused(22, &word, &list(&[(0, 1), (9_999, 17)]));
 }
 
-/// The list 00 02 00 00 01 00 10 10 inserts b1 b1⁻¹ at places 0 and 256. Read place, kind, place, kind, it
+/// The list 00 02 00 00 01 00 10 10 inserts b1 b1⁻¹ at places 0 and 256. If each kind stood after its place, the list
 /// would remove the letters at place 0 and insert at place 16.
 #[test]
 fn all_places_come_before_all_kinds() {
@@ -246,7 +246,7 @@ fn one_refused_move_refuses_the_list() {
     refused(24, &ones(9_998), &list(&[(0, 16), (0, 16)]));
 }
 
-/// The first move refused decides, whatever the later ones would get.
+/// The first refused move decides the answer, whatever the later moves are.
 #[test]
 fn moves_are_tried_in_order() {
     let bad = [(21, (0, 0)), (22, (10_001, 16)), (23, (0, 1)), (24, (0, 16))];
@@ -257,7 +257,7 @@ fn moves_are_tried_in_order() {
     }
 }
 
-/// 4,096 is 10 00. b1 and b3 change places so many times.
+/// A list may have 4,096 moves, which is 10 00 in hexadecimal. Each move swaps b1 and b3.
 #[test]
 fn the_most_moves() {
     for (number, expected) in [(4_096, "00 02 02"), (4_095, "00 02 20")] {
@@ -268,7 +268,7 @@ fn the_most_moves() {
     refused(23, &hex("00 03 02 00"), &list(&[vec![(0, 2); 4_095], vec![(0, 1)]].concat()));
 }
 
-/// Insertions before place 0, 4,096 times, leave b1 b1⁻¹ as often; as many removals take it all back.
+/// 4,096 insertions at place 0 give b1 b1⁻¹, 4,096 times. 4,096 removals give the empty word again.
 #[test]
 fn the_most_insertions_and_removals() {
     let grown = hex(&format!("20 00 {}", "08 ".repeat(4_096)));
@@ -296,13 +296,13 @@ fn list_questions_in_order() {
 fn rewriter_questions_in_order() {
     let word = hex("00 02 08");
     let good = hex("00 01 00 00 01");
-    // 15 before all else.
+    // 15 comes first.
     for size in [0, 5_001] {
         refuses(15, size, |out| rewrite(&word, &good, out));
         refuses(15, size, |out| rewrite(&[], &[], out));
         refuses(15, size, |out| rewrite(&word, &[], out));
     }
-    // Then the word's, before the list's and its moves'.
+    // The word's questions come before those of the list and its moves.
     let words = [
         (hex(""), 9),
         (hex("00"), 9),
@@ -320,7 +320,7 @@ fn rewriter_questions_in_order() {
             refused(expected, &word, &hex(moves));
         }
     }
-    // Then 18, 19, 20 and the moves'.
+    // The list's questions come next, then the moves' questions.
     refused(18, &word, &[0]);
     refused(19, &word, &hex("10 01 00 00 00"));
     refused(20, &word, &hex("00 01 00 00 00 00"));
@@ -331,7 +331,7 @@ fn rewriter_questions_in_order() {
 
 // ---- The verdict ----
 
-/// 128 letters b7, what a digest of zeros is encoded as.
+/// 128 letters b7: the braid of a digest of zeros.
 const SEVENS: &str = "66 66 66 66 66 66 66 66 66 66 66 66 66 66 66 66 66 66 66 66 66 66 66 66 66 66 66 66 66 66 66 66 \
                       66 66 66 66 66 66 66 66 66 66 66 66 66 66 66 66 66 66 66 66 66 66 66 66 66 66 66 66 66 66 66 66";
 
@@ -340,16 +340,18 @@ fn verdict(key: &[u8], word: &str) -> u8 {
     verify(key, &[0; 32], &hex(word))
 }
 
-/// The plain key with b6's matrix as Pub(S'): the identity with row 6 0 0 0 0 5 5 1 0. Of the 57 entries
-/// these are 44, 45, 46, so of the 288 bits 222 and 224, 227 and 229, 234 are ones.
+/// The plain key with the matrix of b6 as Pub(S'): the identity matrix with row 6 replaced by 0 0 0 0 5 5 1 0. The 5, 5
+/// and 1 are the entries 44, 45, 46 of the 57, counted from 0. So the bits 222, 224, 227, 229 and 234 of the 288 are
+/// ones.
 fn key_with_b6() -> Vec<u8> {
     let second = "08 00 00 00 00 00 40 00 00 00 00 02 00 00 00 00 00 10 \
                   00 00 00 00 00 80 00 00 00 02 94 20 00 00 00 00 20 08";
     hex(&format!("08 00 20 08 44 32 14 C7 {PACKED_IDENTITY} 05 39 77 {second}"))
 }
 
-/// The matrix of the digest comes first, that of Pub(S') second: b7 128 times, then b6, reaches the product in
-/// this order, since 128 letters b7 bring the list back. With b6 first row 7 has no entry in column 5.
+/// The digest's matrix is the left factor of the target, and the matrix of Pub(S') is the right factor. 128 letters b7
+/// and then b6 reach this product, since 128 letters b7 bring the list back. With b6 first, row 7 has no entry in
+/// column 5.
 #[test]
 fn second_matrix_stands_on_the_right() {
     assert_eq!(verdict(&key_with_b6(), &format!("00 81 {SEVENS} 50")), 0);
@@ -358,7 +360,7 @@ fn second_matrix_stands_on_the_right() {
     assert_eq!(verdict(&plain_key(), &format!("00 81 {SEVENS} 50")), 14);
 }
 
-/// Under T-values 1 1 2 2 4 5 6 7 the letter b3, 31 times, brings the matrix back but not the list.
+/// Under T-values 1 1 2 2 4 5 6 7, 31 letters b3 bring the matrix back but not the list. The verdict is still 0.
 #[test]
 fn lists_are_not_compared() {
     let key = key_with_t_values("08 44 22 14 C7");
@@ -366,8 +368,8 @@ fn lists_are_not_compared() {
     assert_eq!(verdict(&key, &format!("00 9E {SEVENS} {}", "22 ".repeat(15))), 14);
 }
 
-/// With labels 7 and 6 changed in Pub(S)'s list, b7 starts from T-value 7, not 6. For T-values t, u of the two
-/// labels and m = t × u, b7 128 times has (1 + t)(1 + m) in row 7, column 8: another number for t = 7.
+/// If labels 6 and 7 are exchanged in Pub(S)'s list, b7 starts from T-value 7, not 6. For the T-values t, u of the two
+/// labels and m = t × u, 128 letters b7 have (1 + t)(1 + m) in row 7, column 8. This number is different for t = 7.
 #[test]
 fn list_of_the_first_matrix_counts() {
     let swapped = hex(&format!("08 00 20 08 44 32 14 C7 {PACKED_IDENTITY} 05 39 7E {PACKED_IDENTITY}"));
@@ -376,8 +378,8 @@ fn list_of_the_first_matrix_counts() {
     assert_eq!(verdict(&equal, &format!("00 80 {SEVENS}")), 0, "the same T-value twice");
 }
 
-/// A signature that only its free reduction shows to be the right one, and the empty word where the digest
-/// encodes no identity.
+/// Cancelling letters before or after a right signature do not change the verdict. Two more letters b7, or another
+/// digest, change it.
 #[test]
 fn cancelling_letters_do_not_count() {
     assert_eq!(verdict(&plain_key(), &format!("00 82 08 {SEVENS}")), 0);
@@ -386,8 +388,8 @@ fn cancelling_letters_do_not_count() {
     assert_eq!(verify(&plain_key(), &[0x11; 32], &hex(&format!("00 80 {SEVENS}"))), 14);
 }
 
-/// With both matrices zero both sides would be zero, whatever the word; with one of them no word would do. No such
-/// key is accepted.
+/// If both matrices of a key were zero, every word would reach the target. If one were zero, no word would. Such keys
+/// are refused.
 #[test]
 fn keys_of_zeros_are_refused() {
     let (plain, blank) = (plain_key(), blank_key());

@@ -1,5 +1,5 @@
-//! The worked examples of the papers at strength 128; `larger.rs` has strength 256. What is expected is typed from
-//! them, or follows from them by the reasoning written beside it; none of it was computed by the code under test.
+//! The worked examples of the papers at strength 128. `larger.rs` has strength 256. Expected values are typed from the
+//! papers, or follow from the papers by the reasoning beside them. The code under test computed none of them.
 
 mod common;
 
@@ -17,7 +17,7 @@ use reference::{
     Pair, Word, WordReader, Written,
 };
 
-/// The starting pair carried by letters written as in source 004: 3 is b3, -3 its inverse.
+/// The starting pair carried by letters, written as in source 004: 3 is b3, -3 is its inverse.
 fn carried(t_values: &[u8; 8], braid: &[i8]) -> Pair {
     carried_from(start(), t_values, braid)
 }
@@ -37,7 +37,7 @@ fn codes(braid: &[i8]) -> Vec<u8> {
     braid.iter().map(|letter| code(*letter)).collect()
 }
 
-/// Eight rows of eight as one run of 64.
+/// The matrix with these rows.
 fn rows(rows: [[u8; 8]; 8]) -> [u8; 64] {
     let mut matrix = [0; 64];
     matrix.copy_from_slice(&rows.concat());
@@ -59,8 +59,8 @@ fn products_and_reciprocals_of_the_slips() {
     assert_eq!(reciprocal(Gf32, 3), Element { answer: 0, value: 28 });
 }
 
-/// x (x^4 + x) = x^5 + x^2 = 1, so 2 and 18 are reciprocal; (x^2 + x + 1)(x^3 + x^2) = x^5 + x^2 = 1, so 7 and
-/// 12 are; 31 × 31 = 18 is half of 1, so the reciprocal of 31 is 2 × 31 = 27.
+/// x (x^4 + x) = x^5 + x^2 = 1, so 2 and 18 are reciprocals. (x^2 + x + 1)(x^3 + x^2) = x^5 + x^2 = 1, so 7 and 12 are
+/// reciprocals. 31 × 31 = 18 and 2 × 18 = 1, so the reciprocal of 31 is 2 × 31 = 27.
 #[test]
 fn products_that_follow_by_hand() {
     assert_eq!(product(Gf32, 2, 18).value, 1);
@@ -115,8 +115,8 @@ fn starting_pair() {
     assert_eq!(start(), Pair { matrix: expected, labels: PLAIN_LIST, positions });
 }
 
-/// Document 02, section 5, on document 01's list 1 3 0 4 2 6 5 7: label 0 stands at position 3, label 1 at 1, label 2 at
-/// 5, label 3 at 2, label 4 at 4, label 5 at 7, label 6 at 6, label 7 at 8. Then wrong positions are refused.
+/// Document 02, section 5, on document 01's list 1 3 0 4 2 6 5 7: label 0 stands at position 3, label 1 at 1, label 2
+/// at 5, label 3 at 2, label 4 at 4, label 5 at 7, label 6 at 6, label 7 at 8. Wrong positions are refused.
 #[test]
 fn where_each_strand_is() {
     let pair = carried(&PLAIN_T_VALUES, &[-3, 6, 4, -1, 2]);
@@ -131,7 +131,7 @@ fn where_each_strand_is() {
     }
 }
 
-/// The starting pair with one row and the list replaced: a word in one generator changes no other row.
+/// The starting pair with one row and the list replaced. A word in one generator changes no other row.
 fn start_with_row(row: usize, entries: [u8; 8], labels: [u8; 8]) -> Pair {
     let mut pair = Pair::of(start().matrix, labels);
     pair.matrix[8 * (row - 1)..8 * row].copy_from_slice(&entries);
@@ -147,7 +147,7 @@ fn b3_from_the_start() {
     assert_eq!(carried(t, &[3, 3]), start_with_row(3, [0, 4, 6, 3, 0, 0, 0, 0], PLAIN_LIST));
 }
 
-/// The first and last generators: b1 has no column to its left; 1/7 is 12 (see above).
+/// The first and the last generator. b1 has no column to its left. 1/7 is 12, as in `products_that_follow_by_hand`.
 #[test]
 fn generators_at_the_edges() {
     let t = &PLAIN_T_VALUES;
@@ -159,15 +159,16 @@ fn generators_at_the_edges() {
     assert_eq!(carried(t, &[-7]), start_with_row(7, [0, 0, 0, 0, 0, 1, 12, 12], last));
 }
 
-/// Source 004, section 8.4, less one (document 01), and section 5.2 on its three strands: 2 3 1, less one.
+/// Source 004, section 8.4, and section 5.2 with its permutation 2 3 1 of three strands. Source 004 counts from 1. Our
+/// labels count from 0 (document 01).
 #[test]
 fn permutations_of_source_004() {
     assert_eq!(carried(&PLAIN_T_VALUES, &[-3, 6, 4, -1, 2]).labels, [1, 3, 0, 4, 2, 6, 5, 7]);
     assert_eq!(carried(&PLAIN_T_VALUES, &[-1, 2]).labels, [1, 2, 0, 3, 4, 5, 6, 7]);
 }
 
-/// Source 004, section 6.4: T-values 14 1 8 1 and b3 b1⁻¹ on four strands. Only products with 0 and 1 occur,
-/// so the field does not matter. The last matrix there prints 0 8 8 0 where the one before it has t3 t3 1.
+/// Source 004, section 6.4: T-values 14 1 8 1 and b3 b1⁻¹ on four strands. Only products with 0 and 1 occur, so the
+/// field does not matter. The last matrix of that section prints 0 8 8 0, a misprint: the matrix before it has t3 t3 1.
 #[test]
 fn e_multiplication_of_source_004() {
     let t_values = [14, 1, 8, 1, 9, 9, 9, 9];
@@ -177,10 +178,10 @@ fn e_multiplication_of_source_004() {
     assert_eq!(carried(&t_values, &[3, -1]), expected);
 }
 
-/// Source 004, section 8.4: the matrix of b3⁻¹ b6 b4 b1⁻¹ b2 is there, in its T-values,
-/// (1 + t1)/t2, t1/t2, 1/t2; t1, t1, 1; t1, t1, (1 + t3)/t4 + 1, t3/t4, 1/t4; 0, 0, t3, t3, 1; and so on.
-/// Its field is another, so smaller T-values stand here, with 1/3 = 28 (document 01) and
-/// 22 × 28 = 17, 23 × 28 = 17 + 28 = 13, 2 × 28 = 29 by hand.
+/// The matrix of b3⁻¹ b6 b4 b1⁻¹ b2. Source 004, section 8.4, gives its rows in terms of the T-values:
+/// (1 + t1)/t2, t1/t2, 1/t2; t1, t1, 1; t1, t1, (1 + t3)/t4 + 1, t3/t4, 1/t4; 0, 0, t3, t3, 1; and so on. Source 004
+/// uses another field, so this test uses smaller T-values. 1/3 = 28 is from document 01. By hand 22 × 28 = 17,
+/// 23 × 28 = 17 + 28 = 13 and 2 × 28 = 29.
 #[test]
 fn matrix_of_source_004() {
     let labels = [1, 3, 0, 4, 2, 6, 5, 7];
@@ -209,9 +210,9 @@ fn matrix_of_source_004() {
     assert_eq!(carried(&PLAIN_T_VALUES, &braid), Pair::of(plain, labels));
 }
 
-/// Source 003, section 2: the matrix of b3 b3 is the letter's matrix at t3 = 2 times the one at t3 = 3, since
-/// the first letter swaps the labels; document 01 gives its third row. In the other order the row is
-/// 3 + 3 × 2 = 5, 3 × 2 = 6, 1 + 3 = 2.
+/// Source 003, section 2: the matrix of b3 b3 is the letter's matrix at t3 = 2 times its matrix at t3 = 3, since the
+/// first letter swaps the labels. Document 01 gives the third row of this product. With the factors exchanged, the row
+/// is 3 + 3 × 2 = 5, 3 × 2 = 6, 1 + 3 = 2.
 #[test]
 fn product_of_two_letter_matrices() {
     let at_two = start_with_row(3, [0, 2, 2, 1, 0, 0, 0, 0], PLAIN_LIST).matrix;
@@ -250,7 +251,7 @@ fn multiplier_refusals_in_order() {
     }
 }
 
-/// The first two T-values need not be 1 for the multiplier: t1 = 5 gives b1 the row 5, 1.
+/// For the multiplier the first two T-values need not be 1. With t1 = 5, b1 has the row 5, 1.
 #[test]
 fn multiplier_does_not_ask_question_5() {
     let first = [1, 0, 2, 3, 4, 5, 6, 7];
@@ -270,10 +271,10 @@ fn word_of_source_000_is_read() {
     assert_eq!(read_word(&word), Word { answer: 0, letters: 7 });
     assert_eq!(letters(&word), expected);
     assert_eq!(code_part(&word), hex("09 23 C5 E0"));
-    assert_eq!(code_part(&word).as_ptr(), word[2..].as_ptr(), "a part of the caller's file");
+    assert_eq!(code_part(&word).as_ptr(), word[2..].as_ptr(), "it is not a part of the caller's file");
     assert_eq!(letter_at(&word, 0), Some(0));
     assert_eq!(letter_at(&word, 6), Some(0xE));
-    assert_eq!(letter_at(&word, 7), None, "filler is no b1");
+    assert_eq!(letter_at(&word, 7), None, "filler is not a letter");
 }
 
 #[test]
@@ -321,7 +322,7 @@ fn numbers_of_source_000() {
     }
 }
 
-/// Source 004, section 5.2: the braid 1 3 -2 3 -1, in our packing: codes 0 2 9 2 8.
+/// The braid 1 3 -2 3 -1 of source 004, section 5.2. Its codes are 0 2 9 2 8.
 #[test]
 fn braid_of_source_004() {
     let word = hex("00 05 02 92 80");
@@ -404,8 +405,8 @@ fn plain_key_is_written() {
     assert!(out[83..].iter().all(|byte| *byte == 0xAA));
 }
 
-/// Rows 1 to 7 whole, then the last entry of row 8: of the numbers 0 to 63, row by row, 0 to 55 and 63. A file has no
-/// other entry of row 8, whatever stands there.
+/// A file holds rows 1 to 7 whole, then the last entry of row 8. The matrix has the numbers 0 to 63, row by row, so the
+/// file has 0 to 55 and 63. The other entries of row 8 do not matter.
 #[test]
 fn entries_of_a_matrix() {
     let mut matrix = [0; 64];
@@ -429,9 +430,10 @@ fn plain_key_has_83_bytes() {
     assert_eq!(hex(PACKED_IDENTITY).len() * 8, 57 * 5 + 3);
 }
 
-/// 16 on the diagonal and 1 above it: eight entries of five bits are five bytes, so a row is packed by itself, row 1 as
-/// 10000 00001 00001 00001 00001 00001 00001 00001 and row 2 as 00000 10000 00001 and so on. The last of the 57 is
-/// 16, so 10000, and three zero bits follow it. The matrix is triangular without a zero on its diagonal.
+/// The first matrix has 16 on the diagonal and 1 above it. It is triangular without a zero on its diagonal, so it has
+/// an inverse. Eight entries of five bits are five bytes, so each row begins with a new byte. Row 1 is
+/// 10000 00001 00001 00001 00001 00001 00001 00001, row 2 is 00000 10000 00001 and so on. The last of the 57 entries is
+/// 16, that is 10000, and three zero bits follow.
 #[test]
 fn every_entry_has_its_place() {
     let mut first = [0; 57];
@@ -549,7 +551,7 @@ fn key_writer_refusals_in_order() {
 
 // ---- The digest as a braid (document 01) ----
 
-/// The braid of every half byte, by document 01's rule; 6 is its slip.
+/// The braid of every half byte, by document 01's rule. Document 01 gives half byte 6 as an example.
 const HALF_BYTES: [&[u8]; 16] = [
     &[6, 6],
     &[6, 5, 4, 4, 0xD, 0xE],
@@ -610,15 +612,15 @@ fn encoder_refusals_in_order() {
 #[test]
 fn free_reductions() {
     for (word, expected) in [
-        ("00 04 01 92", "00 02 02"), // b1 b2 b2⁻¹ b3 is b1 b3 (000)
-        ("00 02 08", "00 00"),       // the slip of kind 1
-        ("00 02 80", "00 00"),       // the inverse first (000)
+        ("00 04 01 92", "00 02 02"), // b1 b2 b2⁻¹ b3 becomes b1 b3 (source 000)
+        ("00 02 08", "00 00"),       // the slip of document 01 for kind 1
+        ("00 02 80", "00 00"),       // the inverse comes first (source 000)
         ("00 04 01 98", "00 00"),    // b1 b2 b2⁻¹ b1⁻¹: the outer letters become neighbours
         ("00 03 08 00", "00 01 00"), // b1 b1⁻¹ b1
         ("00 06 01 2A 98", "00 00"), // b1 b2 b3 b3⁻¹ b2⁻¹ b1⁻¹
         ("00 00", "00 00"),
         (SEVEN, SEVEN),
-        // g35 g47 g37 (004): 4 3 3 -4 6 5 4 4 -5 -6 6 5 4 3 3 -4 -5 -6
+        // g35 g47 g37 of source 004: 4 3 3 -4 6 5 4 4 -5 -6 6 5 4 3 3 -4 -5 -6
         ("00 12 32 2B 54 33 CD 54 32 2B CD", "00 0E 32 2B 54 33 32 2B CD"),
     ] {
         assert_eq!(output(|out| free_reduce(&hex(word), out)), hex(expected));
@@ -650,8 +652,8 @@ fn cloaking_slips() {
     assert!(yes(&plain_key(), PLAIN_LIST, &hex("00 00")));
 }
 
-/// b_i b_i cloaks where both labels have T-value 1 (source 000, section 5.2), wherever they stand; an odd
-/// number of letters never does, since the list cannot come back.
+/// b_i b_i cloaks if the labels at positions i and i + 1 have T-value 1 (source 000, section 5.2). An odd number of
+/// letters never cloaks, since the list cannot come back.
 #[test]
 fn cloaking_follows_the_labels() {
     assert!(yes(&plain_key(), [2, 3, 0, 1, 4, 5, 6, 7], &hex("00 02 22")));
@@ -662,9 +664,9 @@ fn cloaking_follows_the_labels() {
     assert!(yes(&plain_key(), [7, 6, 5, 4, 3, 2, 1, 0], &hex("00 02 3B")));
 }
 
-/// Source 003, proposition 4.3: w, 2μ times, cloaks for 0 to 7 if the T-values of its μ strands have the
-/// product minus one, which is 1 in this field. 3 × 28 = 1 (document 01) serves for the products. The
-/// figures are those of appendix A. T-values are packed by hand.
+/// Source 003, proposition 4.3: w, 2μ times, cloaks for 0 to 7 if the T-values of its μ strands have the product -1,
+/// which is 1 in this field. The products use 3 × 28 = 1 (document 01). The figures are those of appendix A. T-values
+/// are packed by hand.
 #[test]
 fn cores_of_source_003() {
     for (packed, number, core, times) in [
@@ -681,8 +683,8 @@ fn cores_of_source_003() {
     }
 }
 
-/// Source 003, appendix A: a 4-core spliced into a 3-core, six times, with two identities of T-values.
-/// Figures 7 and 8 want t1 t5 t6 = 1 and t2 t3 t4 = -1, figure 9 wants t1 t4 t6 = 1 and t2 t3 t5 = -1.
+/// Source 003, appendix A: a 4-core spliced into a 3-core, six times. The T-values must satisfy two equations. Figures
+/// 7 and 8 need t1 t5 t6 = 1 and t2 t3 t4 = -1. Figure 9 needs t1 t4 t6 = 1 and t2 t3 t5 = -1.
 #[test]
 fn spliced_cores_of_source_003() {
     for (packed, core) in [
@@ -695,9 +697,9 @@ fn spliced_cores_of_source_003() {
     }
 }
 
-/// Where two neighbours have the same T-value t, b_i n times has the row t + .. + t^n, t^n, 1 + .. + t^(n-1). For
-/// t = 2 and n = 31 that is 0, 1, 0, since t^31 = 1 for all elements but zero: the matrix comes back, but 31
-/// letters do not bring the list back, and 62 do. T-values 1 1 2 2 4 5 6 7.
+/// If positions i and i + 1 have the same T-value t, n letters b_i have t + .. + t^n, t^n, 1 + .. + t^(n-1) in row i.
+/// For t = 2 and n = 31 this is 0, 1, 0, since t^31 = 1 for all elements but zero. So 31 letters bring the matrix back,
+/// but not the list. 62 letters bring both back. The T-values are 1 1 2 2 4 5 6 7.
 #[test]
 fn list_counts_in_cloaking() {
     let key = key_with_t_values("08 44 22 14 C7");
@@ -709,16 +711,17 @@ fn list_counts_in_cloaking() {
     assert_eq!(carried(&[1, 1, 2, 2, 4, 5, 6, 7], &[3; 31]), swapped);
 }
 
-/// A positive letter's matrix has the determinant t. In (b1 b2), six times, each two of the three strands
-/// cross four times, so the determinant is (t1 t2 t3)^4 = 2^4 = 16 under the plain key: not the identity.
+/// The matrix of a generator has the determinant t. In b1 b2, six times, each two of the three strands cross four
+/// times. So the determinant is (t1 t2 t3)^4 = 2^4 = 16 under the plain key, and the matrix is not the identity.
 #[test]
 fn core_without_its_identity_does_not_cloak() {
     assert!(!yes(&plain_key(), PLAIN_LIST, &hex("00 0C 01 01 01 01 01 01")));
 }
 
-/// The cloaking element of source 004, section 8.4. As printed it has 39 letters, so its permutation is odd;
-/// the inverse half lacks one of three letters 4⁻¹. With it, labels 3 and 4 stand at positions 5 and 6 when
-/// b5 b5 comes, so it leaves every pair with that list if these two have the T-value 1.
+/// The cloaking element of source 004, section 8.4. As printed it has 39 letters, so its permutation is odd: the second
+/// half lacks one of three letters -4. Here this letter is added. Then labels 3 and 4 of the list 1 3 0 4 2 6 5 7 stand
+/// at positions 5 and 6 before 5 5. So the word brings back every pair with this list if both labels have the T-value
+/// 1.
 const CLOAK_OF_004: [i8; 40] = [
     4, 5, 2, 3, 4, 4, 3, 3, -4, 6, 5, 4, 4, 4, 3, 3, -4, -5, -6, 5, 5, 6, 5, 4, -3, -3, -4, -4, -4, -5, -6,
     4, -3, -3, -4, -4, -3, -2, -5, -4,
@@ -732,7 +735,7 @@ fn cloaking_element_of_source_004() {
     let whole = hex("00 28 34 12 33 22 B5 43 33 22 BC D4 45 43 AA BB BC D3 AA BB A9 CB");
     let printed = hex("00 27 34 12 33 22 B5 43 33 22 BC D4 45 43 AA BB CD 3A AB BA 9C B0");
     assert_eq!(letters(&whole), codes(&CLOAK_OF_004));
-    // Under a key labels 0 and 1 have the T-value 1: they must stand at positions 2 and 4.
+    // Under a key labels 0 and 1 have the T-value 1. The word cloaks if these two labels stand at positions 2 and 4.
     assert!(yes(&plain_key(), [2, 0, 3, 1, 4, 5, 6, 7], &whole));
     assert!(yes(&plain_key(), [7, 1, 6, 0, 5, 4, 3, 2], &whole));
     assert!(!yes(&plain_key(), [2, 0, 3, 1, 4, 5, 6, 7], &printed));

@@ -1,16 +1,18 @@
-//! How words spread: document 02's number and small lengths by hand, both ways to count beside each other, the sum of
-//! all lists, and what is refused.
+//! How words spread over lists: document 02's number, small lengths by hand, both ways to count, the sum over all
+//! lists, and refusals.
 
 use reference::spread::{by_a_power, by_every_word, lists};
 use reference::{words_ending, Count};
 
-/// For length 2 the unmoved list has 12.
+/// 12 words of length 2 end in the list 0, 1, 2, 3.
 #[test]
 fn the_paper_s_number() {
     assert_eq!(words_ending(2, &[0, 1, 2, 3]), Count { answer: 0, words: 12 });
 }
 
-/// No letter leaves the list. Of two letters 8 words are a b1 and a b3 of any signs; 4 words each are other two.
+/// A word without letters keeps the list, and every letter changes it. Of the words of two letters, 12 have one
+/// generator twice and keep the list. 8 have b1 and b3, in either order and with any signs. For each other order of two
+/// generators there are 4, one for each choice of signs.
 #[test]
 fn lengths_by_hand() {
     let one = [([0, 1, 3, 2], 2), ([0, 2, 1, 3], 2), ([1, 0, 2, 3], 2)];

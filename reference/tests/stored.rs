@@ -1,12 +1,12 @@
-//! Stored forms (document 02, section 6). What is expected is worked out by hand from the request's text, with the
-//! reasoning written beside it; none of it was computed by the code under test.
+//! Stored forms (document 02, section 6). Expected values are worked out by hand from the text of the request, with the
+//! reasoning beside them. The code under test computed none of them.
 
 mod common;
 
 use common::{file, hex, output, refuses, Random};
 use reference::{restore, store, Written};
 
-/// What storing writes to an output of 5,006 bytes.
+/// The stored form of an accepted word.
 fn stored(word: &[u8]) -> Vec<u8> {
     let mut out = vec![0xAA; 5_006];
     let Written { answer, bytes } = store(word, &mut out);

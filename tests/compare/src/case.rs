@@ -1,45 +1,45 @@
-//! Inputs, and what the reference and the library make of them.
+//! Inputs, and the outcomes that the reference and the library give for them.
 
 use reference::{desk, Field, Shelf};
 
 use crate::operation::{parts, By, Facts, Op, Output, Over, Part};
 
-/// The bytes that stand before and after an output, to show whether a writer leaves them alone.
+/// The number of bytes before an output, and after it. They show whether a writer writes outside its output.
 pub const GUARD: usize = 64;
 
-/// The bytes of each part that an operation takes.
+/// The parts that an operation takes, as bytes.
 pub type Parts = Vec<Vec<u8>>;
 
-/// An operation with what it takes.
+/// An operation and its input.
 #[derive(Clone, PartialEq)]
 pub struct Input {
     pub operation: Op,
-    /// The field that is named to it; the smaller one where none is.
+    /// The field that the caller names. It is the smaller field if the operation takes none.
     pub named: Field,
     pub parts: Parts,
-    /// The bytes of the output; 0 without one.
+    /// The number of bytes of the output, or 0 without an output.
     pub room: usize,
-    /// What the output's bytes are made of before the call.
+    /// The bytes of the output before the call are made from this byte.
     pub fill: u8,
 }
 
-/// All that an operation returns, and all that it may have changed.
+/// Everything that an operation returns, and everything that it may change.
 #[derive(Clone, Debug, PartialEq, Eq)]
 pub struct Outcome {
     pub answer: u8,
-    /// The numbers that it gives beside, as its facts name them.
+    /// The numbers that it returns besides the answer. The operation's facts name them.
     pub numbers: Vec<i64>,
-    /// What it returns besides, or what a lent pair or the output between its guards is after the call.
+    /// The other values that it returns; or, after the call, the lent pair, or the output with its guards.
     pub bytes: Vec<u8>,
 }
 
 impl Outcome {
-    /// An answer with nothing beside it.
+    /// An outcome that is an answer alone.
     pub fn of(answer: u8) -> Outcome {
         Outcome { answer, numbers: Vec::new(), bytes: Vec::new() }
     }
 
-    /// One more number beside it.
+    /// Adds a number.
     pub fn number(mut self, number: impl TryInto<i64>) -> Outcome {
         self.numbers.push(number.try_into().ok().expect("a number of 64 bits"));
         self
@@ -50,7 +50,7 @@ impl Outcome {
     }
 }
 
-/// The outcome of what a call gives: its answer, and these of its members as numbers.
+/// The outcome of a call's result: its answer, and the named members as numbers.
 macro_rules! outcome {
     ($given:expr $(, $number:ident)*) => {{
         let given = $given;
@@ -59,7 +59,7 @@ macro_rules! outcome {
 }
 pub(crate) use outcome;
 
-/// The field of a key file, right or wrong: that of its length, and without one that of its q.
+/// The field of a key file, right or wrong. Its length decides. If no key has this length, its q decides.
 pub fn field_of_key(file: &[u8]) -> Field {
     let by_length = Field::BOTH.into_iter().find(|field| field.key_bytes() == file.len());
     by_length.unwrap_or(desk::field_told(file))
@@ -76,7 +76,7 @@ impl Input {
         self.operation.facts()
     }
 
-    /// The field that it works over: the one that is named, or that the key or the digest tells.
+    /// The field that the operation works over: the field of the key, of the digest, or the one that is named.
     pub fn field(&self) -> Field {
         match self.facts().over {
             Over::Key => field_of_key(self.part(parts::KEY)),
@@ -109,18 +109,18 @@ impl Input {
         self.named == Field::Gf256
     }
 
-    /// All parts, as many as there are.
+    /// All parts. There must be `COUNT` of them.
     pub fn slices<const COUNT: usize>(&self) -> [&[u8]; COUNT] {
         let slices: Vec<&[u8]> = self.parts.iter().map(Vec::as_slice).collect();
         slices.try_into().expect("as many parts as the operation takes")
     }
 
-    /// A part of a fixed length. Makers and the shrinker keep its length.
+    /// The part at a place, which has a fixed length. Makers and the shrinker keep this length.
     pub fn array<const COUNT: usize>(&self, place: usize) -> [u8; COUNT] {
         self.parts[place].as_slice().try_into().expect("a fixed part keeps its length")
     }
 
-    /// The output between its guards as it is lent; nothing without an output.
+    /// The output with its guards before the call. It is empty without an output.
     pub fn lent(&self) -> Vec<u8> {
         let length = match self.facts().output {
             Output::Nothing => 0,
@@ -129,7 +129,7 @@ impl Input {
         (0..length).map(|place| self.fill ^ (place as u8).wrapping_mul(167)).collect()
     }
 
-    /// Lends the output to a call; the outcome's bytes are what it then is.
+    /// Lends the output to a call. The outcome's bytes are the output with its guards after the call.
     pub fn lending(&self, call: impl FnOnce(&mut [u8]) -> Outcome) -> Outcome {
         let mut bytes = self.lent();
         let outcome = call(&mut bytes[GUARD..GUARD + self.room]);
@@ -140,7 +140,7 @@ impl Input {
         self.operation.call(by, self)
     }
 
-    /// Does the library differ from the reference on it?
+    /// Do the library and the reference give different outcomes?
     pub fn differs(&self) -> bool {
         self.outcome(By::Reference) != self.outcome(By::Library)
     }

@@ -1,6 +1,7 @@
-//! Fixed cases: inputs with a name, and all that must come of them typed, for library and reference alike. Each
-//! operation has its own. What is typed is the papers', or follows from them by the reasoning written beside it:
-//! document 01's "Slips to check by", document 02, and source 000's worked examples where document 01 follows it.
+//! Fixed cases: inputs with a name and a typed outcome. Both the library and the reference must give this outcome. Each
+//! operation has its own cases. They come from document 01's "Slips to check by", from document 02, and from the worked
+//! examples of source 000 where document 01 follows it. Other outcomes follow from the papers by the reasoning beside
+//! them.
 
 pub mod keys;
 
@@ -13,10 +14,10 @@ use crate::operation::{By, Op, Output};
 use crate::operations::{over_fields, ALL};
 use crate::show;
 
-/// What outputs are made of before they are lent.
+/// The byte from which outputs are made before the call.
 const FILL: u8 = 0xAA;
 
-/// An input, and what must come of it.
+/// An input with its name and its expected outcome.
 pub struct Fixed {
     name: String,
     input: Input,
@@ -24,8 +25,8 @@ pub struct Fixed {
 }
 
 impl Fixed {
-    /// An input over the smaller field, where one is named. Until more is said it is accepted, with zeros beside the
-    /// answer and an unchanged output. An output has eight bytes more than a writer asks for over either field.
+    /// A case over the smaller field. Until another method changes it, the expected outcome is answer 0, zeros as
+    /// numbers, and an unchanged output. The output has eight bytes more than a writer asks for over either field.
     pub fn of(operation: Op, name: &str, parts: &[&[u8]]) -> Fixed {
         let facts = operation.facts();
         let parts = parts.iter().map(|part| part.to_vec()).collect();
@@ -39,25 +40,25 @@ impl Fixed {
         Fixed { name: name.to_string(), input, expected }
     }
 
-    /// This field is named.
+    /// Names this field.
     pub fn over(self, field: Field) -> Fixed {
         let name = if field == Field::Gf256 { self.name + ", 256 elements" } else { self.name };
         Fixed { name, input: Input { named: field, ..self.input }, ..self }
     }
 
-    /// The larger field is named.
+    /// Names the larger field.
     pub fn large(self) -> Fixed {
         self.over(Field::Gf256)
     }
 
-    /// The output has this room.
+    /// Gives the output this number of bytes.
     pub fn room(self, room: usize) -> Fixed {
         let input = Input { room, ..self.input };
         let expected = self.expected.bytes(input.lent());
         Fixed { input, expected, ..self }
     }
 
-    /// The first number is this.
+    /// Expects this first number.
     pub fn number(mut self, number: i64) -> Fixed {
         self.expected.numbers[0] = number;
         self
@@ -74,8 +75,8 @@ impl Fixed {
         Fixed { expected: self.expected.bytes(bytes), ..self }
     }
 
-    /// This file, or row of entries, is written to the output's front, and the rest of the output stays. A writer of
-    /// words reports its length.
+    /// Expects this file, or these entries, at the front of the output, and the rest of the output unchanged. A writer
+    /// of words must also return the file's length.
     pub fn writes(mut self, file: &[u8]) -> Fixed {
         self.expected.bytes[GUARD..GUARD + file.len()].copy_from_slice(file);
         if self.input.facts().numbers.first() == Some(&"bytes") {
@@ -84,15 +85,15 @@ impl Fixed {
         self
     }
 
-    /// It is refused: an output or a lent pair stays, and all else that comes back is zeros and names the smaller
-    /// field.
+    /// Expects a refusal: the output and the lent pair stay unchanged, everything else is zero, and the field is the
+    /// smaller one.
     pub fn refused(mut self, answer: u8) -> Fixed {
         self.expected.answer = answer;
         let bytes = self.input.operation.refused(&self.input);
         self.bytes(bytes)
     }
 
-    /// What is wrong, if it is not what is typed that is found.
+    /// Describes the difference if the outcome found is not the typed one.
     fn account(&self, whose: &str, found: Outcome) -> Option<String> {
         if found == self.expected {
             return None;
@@ -117,8 +118,10 @@ pub fn hex(text: &str) -> Vec<u8> {
 /// The list 0 to 7.
 pub const LIST: [u8; 8] = [0, 1, 2, 3, 4, 5, 6, 7];
 
-/// The list 0 to 7 and the list 7 to 0, each with its inverse list: label a stands at position a + 1, or at 8 - a.
+/// The list 0 to 7 and its inverse list: label a stands at position a + 1.
 pub const LISTS: [u8; 16] = [0, 1, 2, 3, 4, 5, 6, 7, 1, 2, 3, 4, 5, 6, 7, 8];
+
+/// The list 7 to 0 and its inverse list: label a stands at position 8 - a.
 pub const TURNED_LISTS: [u8; 16] = [7, 6, 5, 4, 3, 2, 1, 0, 8, 7, 6, 5, 4, 3, 2, 1];
 
 /// The T-values of document 01's slips.
@@ -132,32 +135,34 @@ pub fn identity() -> Vec<u8> {
     (0..64).map(|place| u8::from(place % 9 == 0)).collect()
 }
 
-/// The matrix with another row, counted from 1.
+/// The matrix with one row replaced. Rows count from 1.
 pub fn with_row(mut matrix: Vec<u8>, row: usize, entries: [u8; 8]) -> Vec<u8> {
     matrix[8 * (row - 1)..8 * row].copy_from_slice(&entries);
     matrix
 }
 
-/// What a key file has of a matrix: rows 1 to 7, and the last entry of row 8.
+/// The entries of a matrix that a key file holds: rows 1 to 7, and the last entry of row 8.
 pub fn entries(matrix: &[u8]) -> Vec<u8> {
     [&matrix[..56], &matrix[63..]].concat()
 }
 
-/// The word b7 so many times, an even number.
+/// The word file of `letters` letters b7, an even number.
 pub fn sevens(letters: u16) -> Vec<u8> {
     let mut word = letters.to_be_bytes().to_vec();
     word.resize(2 + usize::from(letters) / 2, 0x66);
     word
 }
 
-/// Row 7, columns 6 to 8, of the matrix that as many zero bytes as a digest has over a field reach from the start under
-/// document 01's T-values; the rest is the identity's.
+/// The matrix that a digest of zero bytes reaches from the start under document 01's T-values: columns 6 to 8 of row 7.
+/// All other entries are those of the identity matrix.
 ///
-/// Row 7 of b7 b7 is 20, 18, 7: b7 has 6, 6, 1, and then 6 + 7 × 6 = 20, 7 × 6 = 18, 1 + 6 = 7. So 2 k letters have
-/// 18^k in the middle, and 20 and 7 times s = 1 + 18 + .. + 18^(k - 1) = (18^k + 1)/19 beside it. 32 bytes are b7, 128
-/// times, and 18^64 = 18^2 = 9, since t^31 = 1; s = 1 + 18 = 19; 20 × 19 = 30 and 7 × 19 = 22. 64 bytes are b7, 256
-/// times, and 18^128 is the root of 18, since t^256 = t; 129 is x^7 + 1, and its square is x^14 + 1 = 19 + 1 = 18. Then
-/// s is 128/19, that is x^7/x^14 = 1/x^7, which is 27; 20 × 27 = 193 and 7 × 27 = 65.
+/// b7 has 6, 6, 1, and b7 b7 has 6 + 7 × 6 = 20, 7 × 6 = 18, 1 + 6 = 7. So 2 k letters have 20 × s, 18^k, 7 × s, where
+/// s = 1 + 18 + .. + 18^(k - 1) = (18^k + 1)/19.
+///
+/// 32 zero bytes are b7, 128 times. 18^64 = 18^2 = 9, since t^31 = 1. So s = 1 + 18 = 19, 20 × 19 = 30, 7 × 19 = 22.
+///
+/// 64 zero bytes are b7, 256 times. 18^128 is the square root of 18, since t^256 = t. The root is 129 = x^7 + 1, since
+/// its square is x^14 + 1 = 19 + 1 = 18. So s = 128/19 = x^7/x^14 = 1/x^7 = 27, 20 × 27 = 193, 7 × 27 = 65.
 pub fn zeros_reach(field: Field) -> [u8; 3] {
     match field {
         Field::Gf32 => [30, 9, 22],
@@ -170,8 +175,8 @@ fn cases() -> Vec<Fixed> {
     ALL.into_iter().flat_map(|operation| operation.fixed()).collect()
 }
 
-/// Holds library and reference to all fixed cases: how many there are, or what is wrong with the first that fails. Each
-/// operation has one over each of its fields.
+/// Checks all fixed cases with the library and with the reference. Returns the number of cases, or an account of the
+/// first failure. Each operation must have a case over each of its fields.
 pub fn check() -> Result<usize, String> {
     let cases = cases();
     for case in &cases {
@@ -196,7 +201,7 @@ pub fn check() -> Result<usize, String> {
 mod tests {
     use super::*;
 
-    /// The reference by itself, without a library.
+    /// Checks the reference alone, without the library.
     #[test]
     fn reference_holds_to_all_cases() {
         let accounts: Vec<String> = cases()

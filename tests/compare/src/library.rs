@@ -1,5 +1,5 @@
-//! Matrices, pairs and halves of the library. It has its matrices by columns and the reference by rows: each matrix
-//! changes its layout here, and nowhere else.
+//! Matrices, pairs and halves of the library. The library stores a matrix by columns, the reference by rows. Only this
+//! module converts between the two.
 
 use reference::matrix::at;
 use reference::{Field, Half, Matrix, Pair};
@@ -11,7 +11,7 @@ fn places() -> impl Iterator<Item = (usize, usize)> {
     (1..=8).flat_map(|row| (1..=8).map(move |column| (row, column)))
 }
 
-/// A matrix of the library's, by rows.
+/// A matrix from the library, by rows.
 pub fn by_rows(columns: &[u8; 64]) -> Matrix {
     let mut rows = [0; 64];
     places().for_each(|(row, column)| rows[at(row, column)] = columns[walnut::place(row, column)]);
@@ -25,7 +25,7 @@ pub fn by_columns(rows: &Matrix) -> [u8; 64] {
     columns
 }
 
-/// A pair of the library's.
+/// A pair from the library.
 pub fn pair_of(pair: exported::Pair) -> Pair {
     Pair { matrix: by_rows(&pair.matrix), labels: pair.labels, positions: pair.positions }
 }
@@ -35,18 +35,18 @@ pub fn lent(pair: &Pair) -> exported::Pair {
     exported::Pair { matrix: by_columns(&pair.matrix), labels: pair.labels, positions: pair.positions }
 }
 
-/// The two lists of a pair end to end: labels, then positions.
+/// The two lists of a pair, one after the other: labels, then positions.
 pub fn lists(pair: &Pair) -> Vec<u8> {
     [pair.labels, pair.positions].concat()
 }
 
-/// The pair of a matrix and the two lists end to end.
+/// The pair of a matrix and the two lists, one after the other.
 pub fn pair_with(matrix: Matrix, lists: [u8; 16]) -> Pair {
     let [labels, positions] = [0, 8].map(|from| std::array::from_fn(|place| lists[from + place]));
     Pair { matrix, labels, positions }
 }
 
-/// A half of the library's.
+/// A half from the library.
 pub fn half_of(half: exported::Half) -> Half {
     let field = if half.large { Field::Gf256 } else { Field::Gf32 };
     Half { field, t_values: half.t_values, pair: pair_of(half.pair), target: by_rows(&half.target) }
@@ -63,15 +63,15 @@ pub fn half_parts(half: &Half) -> Vec<Vec<u8>> {
     [&half.t_values[..], &half.pair.matrix, &lists(&half.pair), &half.target].map(<[u8]>::to_vec).to_vec()
 }
 
-/// A matrix and its lists as one run of bytes.
+/// A pair's matrix and lists, one after the other.
 pub fn pair_bytes(pair: &Pair) -> Vec<u8> {
     [&pair.matrix[..], &lists(pair)].concat()
 }
 
 #[cfg(test)]
 mod tests {
-    /// Columns 2, 3 and 4 after b3 from the start, as they lie in the library's memory: row 3 has 2, 2, 1 there
-    /// (document 01's slip), and the rest is the identity's.
+    /// Columns 1 to 4 after b3 from the start, as they lie in the library's memory. Row 3 has 2, 2, 1 in columns 2 to 4
+    /// (document 01's slip). The other entries are those of the identity matrix.
     #[test]
     fn columns_lie_together() {
         let mut pair = walnut::Pair::start();

@@ -1,13 +1,17 @@
-//! Compares a library that has the exported interface, and the programs over it, with the reference: first on the
-//! papers' slips, whose results are typed, then on seeded inputs.
+//! Compares the library and the programs that use it with the reference: first on the papers' slips, whose results are
+//! typed, then on seeded inputs.
 //!
-//! `compare [--seed N] [--cases N] [--programs FOLDER]`: the seed of all that is drawn, the number of random cases that
-//! follow the systematic ones, and where the programs are, which are not run without it. On a difference it prints
-//! the smallest input found that shows it, and exits with 1. The last lines of a run without one say how many cases
-//! were compared, of each operation and of each program, and how many words that cloak were inserted.
+//! `compare [--seed N] [--cases N] [--programs FOLDER]`
+//!
+//! - `--seed`: the seed of all random choices
+//! - `--cases`: the number of random cases after the systematic ones
+//! - `--programs`: the folder of the programs; without it no program is run
+//!
+//! On a difference it prints the smallest input that shows the difference, and exits with 1. Otherwise its last lines
+//! say how many cases were compared for each operation and each program, and how many cloaking words were inserted.
 
 mod case;
-// the binding's declarations, which it keeps to itself
+// the declarations of the Rust binding, which are private there
 #[path = "../../../bindings/rust/src/exported.rs"]
 mod exported;
 mod fixed;
@@ -32,7 +36,7 @@ use make::Maker;
 use operation::By;
 use plan::{Failure, Run};
 
-/// What the command line sets.
+/// The options of the command line.
 struct Options {
     seed: u64,
     cases: usize,
@@ -41,7 +45,7 @@ struct Options {
 
 const USAGE: &str = "use: compare [--seed N] [--cases N] [--programs FOLDER]";
 
-/// The options of the command line; an account of what is wrong with them otherwise.
+/// Reads the options of the command line, or says what is wrong with them.
 fn options(mut arguments: impl Iterator<Item = String>) -> Result<Options, String> {
     let mut options = Options { seed: 1, cases: 100_000, programs: None };
     while let Some(name) = arguments.next() {
@@ -57,7 +61,7 @@ fn options(mut arguments: impl Iterator<Item = String>) -> Result<Options, Strin
     Ok(options)
 }
 
-/// Prints an input on which the library differs from the reference, made as small as can be.
+/// Makes an input on which the library differs from the reference as small as possible, and prints it.
 fn print_difference(input: Input) {
     let input = shrink::smallest(input, &Input::differs);
     let (reference, library) = (input.outcome(By::Reference), input.outcome(By::Library));
@@ -77,7 +81,7 @@ fn print_unexpected(input: &Input, account: &str) {
     println!("  found: {}", show::outcome(input, &input.outcome(By::Reference)));
 }
 
-/// Runs the plan, and gives whether all is well.
+/// Runs the plan. Returns whether there was no difference and no gap.
 fn run_plan(options: &Options) -> bool {
     let mut run = Run::new(options.seed);
     if let Err(failure) = run.whole(options.cases) {
@@ -96,7 +100,7 @@ fn run_plan(options: &Options) -> bool {
     gaps.is_empty()
 }
 
-/// Runs the fixed cases, then the plan, then the programs, as far as all is well.
+/// Runs the fixed cases, then the plan, then the programs. Stops at the first failure.
 fn run(options: &Options) -> Result<bool, String> {
     println!("fixed cases that hold of library and reference: {}", fixed::check()?);
     println!("seed {}", options.seed);

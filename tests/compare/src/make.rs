@@ -1,7 +1,7 @@
-//! Makers of inputs: without faults, with chosen faults, damaged, and of bytes drawn blindly.
+//! Makers of inputs: without faults, with chosen faults, damaged, and of random bytes.
 //!
-//! With the papers' order of questions the answer to an input with known faults is known before anything is run. What
-//! knows no field is made over the smaller one.
+//! For an input with known faults, the papers' order of questions gives the answer before anything is run. Inputs of
+//! operations without a field are made over the smaller field.
 
 pub mod files;
 pub mod shelves;
@@ -21,13 +21,13 @@ pub enum Size {
     Long,
 }
 
-/// A maker of inputs, with the numbers that it draws from.
+/// A maker of inputs, with its source of random numbers.
 pub struct Maker {
     pub random: Random,
 }
 
 impl Maker {
-    /// So many letters as the size says.
+    /// The codes of a random word of this size.
     pub fn codes(&mut self, size: Size) -> Vec<u8> {
         let letters = match size {
             Size::Short => self.random.within(0, 16),
@@ -53,7 +53,7 @@ impl Maker {
         files::key(&mut self.random, field, &key, faults)
     }
 
-    /// A digest, mostly one whose braid is short.
+    /// A digest. Most digests are zeros except for one byte, so that their braids are short.
     pub fn digest(&mut self, field: Field) -> Vec<u8> {
         let bytes = field.digest_bytes();
         let mut digest = vec![0; bytes];
@@ -73,7 +73,7 @@ impl Maker {
         self.random.accepted_slip(field, &digest, codes)
     }
 
-    /// An input of these parts, with room enough for an output.
+    /// An input of these parts, with enough room for the output.
     pub fn input(&mut self, operation: Op, field: Field, parts: Parts) -> Input {
         let facts = operation.facts();
         let more = self.random.within(1, 100);
@@ -86,8 +86,8 @@ impl Maker {
         Input { operation, named, parts, room, fill: self.random.byte() }
     }
 
-    /// An input with these faults and no others that matter, and the answer that it must get; none if the faults
-    /// cannot stand together.
+    /// An input with these faults, and the answer that it must get. It has no other faults that change the answer.
+    /// `None` if no input can have these faults together.
     pub fn with_faults(
         &mut self,
         operation: Op,
@@ -107,10 +107,10 @@ impl Maker {
 
     /// An input without faults.
     pub fn accepted(&mut self, operation: Op, field: Field, size: Size) -> Input {
-        self.with_faults(operation, field, &[], size).expect("no faults stand together").0
+        self.with_faults(operation, field, &[], size).expect("an input without faults can be made").0
     }
 
-    /// At most so many of the operation's questions over a field, drawn as faults.
+    /// At most `most` random faults: numbers of the operation's questions over a field.
     pub fn faults(&mut self, operation: Op, field: Field, most: usize) -> Vec<u8> {
         let questions = operation.facts().questions_over(field);
         let mut faults: Vec<u8> =
@@ -120,7 +120,7 @@ impl Maker {
         faults
     }
 
-    /// An input with a few bytes changed, cut out or put in, at places drawn at random.
+    /// The input with a few bytes changed, cut out or inserted at random places.
     pub fn damaged(&mut self, mut input: Input) -> Input {
         let parts = input.facts().parts;
         for _ in 0..self.random.within(1, 3) {
@@ -133,7 +133,7 @@ impl Maker {
         input
     }
 
-    /// An input of bytes drawn blindly, but for small numbers at the head of files.
+    /// An input of random bytes. Only the numbers at the head of words and move lists are small.
     pub fn blind(&mut self, operation: Op) -> Input {
         let parts = operation.facts().parts.iter().map(|part| self.blind_part(part.form)).collect();
         let field = self.random.pick(operation.facts().fields());
@@ -170,8 +170,8 @@ mod tests {
     use crate::operation::By;
     use crate::operations::over_fields;
 
-    /// The reference gives each operation's input over each field with each pair of faults the answer that the papers'
-    /// order gives.
+    /// For each operation, each field and each two faults, the reference gives the answer that the papers' order of
+    /// questions gives.
     #[test]
     fn faults_are_what_they_are_called() {
         let mut maker = Maker { random: Random::seeded(51) };

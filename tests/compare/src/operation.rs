@@ -1,4 +1,4 @@
-//! What there is to know of an exported operation. Each says it in a file of its own, below `operations/`.
+//! What each exported operation must provide for the comparison. Each operation has a file in `operations/`.
 
 use reference::word::MOST_BYTES;
 use reference::Field;
@@ -9,7 +9,7 @@ use crate::make::{Maker, Size};
 use crate::plan::{Checked, Run};
 use crate::shrink::Shrinker;
 
-/// What the files of operations use.
+/// The names that the files in `operations/` use.
 pub mod prelude {
     pub use reference::Field;
 
@@ -26,7 +26,7 @@ pub mod prelude {
     pub use crate::shrink::Shrinker;
 }
 
-/// The two that are compared.
+/// The two implementations that are compared.
 #[derive(Clone, Copy)]
 pub enum By {
     Library,
@@ -37,67 +37,73 @@ pub enum By {
 pub trait Operation: Sync {
     fn facts(&self) -> Facts;
 
-    /// Parts with these faults and no others that matter; none if the faults cannot stand together. A fault is the
-    /// number of the question that it answers with no, and one of those that an input over the field can fail.
+    /// Parts with these faults, and with no other faults that change the answer. `None` if no input can have these
+    /// faults together. A fault is the number of a question whose answer is no. The caller gives only faults that an
+    /// input over the field can have.
     fn make(&self, maker: &mut Maker, field: Field, faults: &[u8], size: Size) -> Option<Parts>;
 
-    /// Parts that may be right or wrong, for an operation whose damaged inputs seldom come far.
+    /// Parts that may be right or wrong, for an operation whose damaged inputs are usually refused by early questions.
     fn rough(&self, _maker: &mut Maker) -> Option<Parts> {
         None
     }
 
-    /// What the library or the reference makes of an input. Where the library is called, the pointers come from
-    /// references and slices that live through the call, each slice's with its own length, and what is written is lent
-    /// uniquely. The exported functions take any bytes. SAFETY in these functions means this.
+    /// The outcome that the library or the reference gives for an input.
+    ///
+    /// SAFETY of the calls to the library: each pointer comes from a reference or a slice that lives until the call
+    /// returns. Each pointer of a slice is passed with the slice's own length. Memory that the call writes is borrowed
+    /// mutably. The exported functions accept any bytes.
     fn call(&self, by: By, input: &Input) -> Outcome;
 
-    /// The bytes of an outcome on a refusal: an output as it was lent, and nothing without one.
+    /// The bytes of an outcome on a refusal: the output unchanged, or nothing without an output.
     fn refused(&self, input: &Input) -> Vec<u8> {
         input.lent()
     }
 
-    /// Inputs whose outcome is typed. The first one tells the function's arguments and what it gives from one another.
+    /// Inputs with a typed outcome. The first input has different values in all arguments and results, so that it shows
+    /// if two of them are exchanged.
     fn fixed(&self) -> Vec<Fixed>;
 
-    /// Small inputs, all of them.
+    /// Compares all small inputs.
     fn small(&self, _run: &mut Run) -> Checked {
         Ok(())
     }
 
-    /// An input that fails, with parts made smaller together that do not shrink alone.
+    /// Makes parts of a failing input smaller together, where one part alone cannot shrink.
     fn shrunk(&self, _shrinker: &Shrinker, input: Input) -> Input {
         input
     }
 }
 
-/// One of them, as lists and inputs hold it.
+/// An operation, as lists and inputs hold it.
 pub type Op = &'static dyn Operation;
 
 /// What is known of an operation without calling it.
 #[derive(Clone, Copy)]
 pub struct Facts {
-    /// The function's name, without the prefix that all of them have.
+    /// The function's name, without the prefix `walnut_`.
     pub name: &'static str,
-    /// The numbers of its questions, in the papers' order. Its answers are these and 0.
+    /// The numbers of its questions, in the papers' order. Its answers are these numbers and 0.
     pub questions: &'static [u8],
-    /// What it takes, in the order of the function's arguments, without the field and the output.
+    /// The parts that it takes, in the order of the function's arguments, without the field and the output.
     pub parts: &'static [Part],
     pub over: Over,
     pub output: Output,
-    /// The names of the numbers that it gives beside its answer.
+    /// The names of the numbers that it returns besides its answer.
     pub numbers: &'static [&'static str],
-    /// What the first of them must be on success, each in some case.
+    /// Values that the first of these numbers must take. Each value must occur in some accepted case.
     pub reached: &'static [i64],
-    /// Faults that take long to make: random cases have them seldom.
+    /// Faults that take long to make. Random cases seldom have them.
     pub slow: &'static [u8],
-    /// How often it is drawn among the random cases, beside the others.
+    /// How often random cases choose it, relative to the other operations.
     pub share: usize,
 }
 
-/// Where an operation has its field from. One that knows no field stands with the smaller one.
+/// Where an operation's field comes from.
 #[derive(Clone, Copy, PartialEq, Eq)]
 pub enum Over {
+    /// The operation works over no field. It is counted with the smaller field.
     Nothing,
+    /// The caller names the field.
     Named,
     /// The length of the key that it takes tells it.
     Key,
@@ -112,21 +118,21 @@ pub enum Over {
 pub enum Output {
     Nothing,
     Fixed(usize),
-    /// The least bytes that it asks for over a field, and the answer where there are fewer.
+    /// The fewest bytes that the operation accepts over a field, and its answer if there are fewer.
     Least(fn(Field) -> usize, u8),
 }
 
 /// The output of a writer of words.
 pub const WORDS: Output = Output::Least(|_| MOST_BYTES, 15);
 
-/// A part that an operation takes: its name, and what the bytes are.
+/// A part that an operation takes: its name and its form.
 #[derive(Clone, Copy, Debug, PartialEq, Eq)]
 pub struct Part {
     pub name: &'static str,
     pub form: Form,
 }
 
-/// What the bytes of a part are: so many, or any number of them, as a file or not.
+/// The form of a part: a fixed number of bytes, any number of bytes, a word file, or a move list.
 #[derive(Clone, Copy, Debug, PartialEq, Eq)]
 pub enum Form {
     Fixed(usize),
@@ -159,8 +165,8 @@ pub mod parts {
 }
 
 impl Facts {
-    /// What every operation has to state. The rest is as with an operation that takes no field and no output and gives
-    /// its answer alone.
+    /// The facts that every operation must state. The other facts are those of an operation that takes no field and no
+    /// output, and returns only its answer.
     pub const fn of(name: &'static str, questions: &'static [u8], parts: &'static [Part]) -> Facts {
         let (over, output) = (Over::Nothing, Output::Nothing);
         Facts { name, questions, parts, over, output, numbers: &[], reached: &[], slow: &[], share: 5 }
@@ -174,8 +180,8 @@ impl Facts {
         }
     }
 
-    /// Those of its questions that an input over a field can fail. In the larger field every byte is an element, and a
-    /// key has no filler.
+    /// The questions that an input over a field can fail. Over the larger field no input fails 7 or 17: a key has no
+    /// filler, and every byte is an element.
     pub fn questions_over(&self, field: Field) -> Vec<u8> {
         let mut questions = self.questions.to_vec();
         if field == Field::Gf256 {
@@ -184,12 +190,12 @@ impl Facts {
         questions
     }
 
-    /// The number of the first of its questions that is among the faults, or 0.
+    /// The answer to an input with these faults: the first of the questions that is among the faults, or 0.
     pub fn answer_to(&self, faults: &[u8]) -> u8 {
         self.questions.iter().copied().find(|number| faults.contains(number)).unwrap_or(0)
     }
 
-    /// The least bytes that it asks for in an output over a field; none if it does not ask.
+    /// The fewest bytes that it accepts as an output over a field. `None` if it does not ask for a size.
     pub fn least_room(&self, field: Field) -> Option<usize> {
         match self.output {
             Output::Least(least, _) => Some(least(field)),
@@ -197,12 +203,12 @@ impl Facts {
         }
     }
 
-    /// The place of a part among its parts, if it takes such a part.
+    /// The place of a part among its parts, or `None` if it does not take this part.
     pub fn place(&self, part: Part) -> Option<usize> {
         self.parts.iter().position(|other| *other == part)
     }
 
-    /// Its name over a field; the field is not said where it knows none.
+    /// Its name with the field's size in brackets. An operation without a field has its name alone.
     pub fn name_over(&self, field: Field) -> String {
         match self.fields() {
             [_] => self.name.to_string(),

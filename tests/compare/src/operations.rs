@@ -1,4 +1,4 @@
-//! The list of operations, a file each.
+//! The list of operations. Each operation has its own file.
 
 pub mod cloaks;
 pub mod crossings;
@@ -78,7 +78,7 @@ mod tests {
     use super::*;
     use crate::operation::Operation;
 
-    /// Each function that `walnut.h` declares is there, in its order.
+    /// The list has every function that the Rust binding declares, in the same order.
     #[test]
     fn every_export_is_listed() {
         let declared = include_str!("../../../bindings/rust/src/exported.rs");
@@ -95,7 +95,7 @@ mod tests {
         assert!(![0, 36].into_iter().any(given));
     }
 
-    /// 7 and 17 cannot be given over the larger field, and all others can.
+    /// Over the larger field 7 and 17 cannot occur. All other numbers can.
     #[test]
     fn questions_of_the_larger_field() {
         for facts in ALL.map(|operation| operation.facts()) {

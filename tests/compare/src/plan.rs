@@ -1,4 +1,4 @@
-//! The plan: what is compared, in which order. What works over a field is compared over both alike.
+//! The plan: what is compared, in which order. An operation that works over a field is compared over both fields.
 
 mod cloaks;
 mod halves;
@@ -16,24 +16,24 @@ use crate::operations::{over_fields, ALL};
 use crate::tally::Tally;
 use cloaks::Insertions;
 
-/// How often each fault and each pair of faults is drawn anew.
+/// The number of inputs for each fault, for each two faults, and for the longest words.
 const VARIANTS: usize = 5;
 
-/// How many matrices of any bytes have their entries taken, and how many keys go there and back.
+/// The number of random matrices in the test of `file_entries`, and of keys that are written and read back.
 pub const MATRICES: usize = 200;
 
-/// How many random cases there are to each two slips that are made and judged, one over each field.
+/// After this number of random cases, one slip over each field is made and judged.
 const CASES_TO_A_SLIP: usize = 400;
 
-/// An input on which something is wrong.
+/// An input that fails.
 pub enum Failure {
-    /// The library does not do what the reference does.
+    /// The library and the reference give different outcomes.
     Differs(Input),
-    /// Both do the same, and the account says what is wrong with it.
+    /// Both give the same outcome, but it is wrong. The text says why.
     Unexpected(Input, String),
 }
 
-/// No fault, each alone, and each with each other one.
+/// No fault, each fault alone, and each two faults.
 fn in_pairs(questions: &[u8]) -> Vec<Vec<u8>> {
     let mut pairs = vec![vec![]];
     for (place, first) in questions.iter().enumerate() {
@@ -43,7 +43,7 @@ fn in_pairs(questions: &[u8]) -> Vec<Vec<u8>> {
     pairs
 }
 
-/// What is wrong, or nothing.
+/// The result of a check: a value, or the failure.
 pub type Checked<T = ()> = Result<T, Box<Failure>>;
 
 /// A run of comparisons.
@@ -59,7 +59,7 @@ impl Run {
         Run { maker, tally: Tally::default(), insertions: Insertions::default() }
     }
 
-    /// The whole plan with so many random cases at its end.
+    /// Runs the whole plan, with `cases` random cases at its end.
     pub fn whole(&mut self, cases: usize) -> Checked {
         for operation in ALL {
             operation.small(self)?;
@@ -88,7 +88,7 @@ impl Run {
         Ok(())
     }
 
-    /// Compares one input, with its answer where the papers give it beforehand.
+    /// Compares the outcomes of one input. If the papers determine its answer, also checks this answer.
     pub fn input(&mut self, input: Input, expected: Option<u8>) -> Checked<Outcome> {
         let (reference, library) = (input.outcome(By::Reference), input.outcome(By::Library));
         if library != reference {
@@ -102,7 +102,7 @@ impl Run {
         Ok(reference)
     }
 
-    /// Compares an input of these parts over a field that is named.
+    /// Compares an input of these parts, with a named field.
     pub fn over(
         &mut self,
         operation: Op,
@@ -114,12 +114,12 @@ impl Run {
         self.input(input, expected)
     }
 
-    /// Compares an input of these parts of an operation to which no field is named.
+    /// Compares an input of these parts, for an operation that takes no named field.
     pub fn parts(&mut self, operation: Op, parts: Parts, expected: Option<u8>) -> Checked<Outcome> {
         self.over(operation, Field::Gf32, parts, expected)
     }
 
-    /// Compares an input with these faults, if they can stand together.
+    /// Compares an input with these faults, if an input can have them together.
     fn with_faults(&mut self, operation: Op, field: Field, faults: &[u8], size: Size) -> Checked {
         match self.maker.with_faults(operation, field, faults, size) {
             Some((input, expected)) => self.input(input, Some(expected)).map(drop),
@@ -127,7 +127,7 @@ impl Run {
         }
     }
 
-    /// Each byte as the codes of words of one and two letters, for each operation that takes a word.
+    /// For each operation that takes a word: words of one and of two letters with every byte as their codes.
     fn every_code(&mut self) -> Checked {
         for (operation, field) in over_fields() {
             let Some(place) = operation.facts().place(parts::WORD) else { continue };
@@ -140,7 +140,7 @@ impl Run {
         Ok(())
     }
 
-    /// Each question of each operation over each of its fields answered no, alone and with each other one; and none.
+    /// For each operation and each of its fields: no fault, each fault alone, and each two faults.
     fn faults_in_pairs(&mut self) -> Checked {
         for (operation, field) in over_fields() {
             let pairs = in_pairs(&operation.facts().questions_over(field));
@@ -151,7 +151,7 @@ impl Run {
         Ok(())
     }
 
-    /// Outputs too small, just large enough, and larger, and of the sizes that keys have.
+    /// Outputs that are too small, just large enough, larger, and of sizes near those of keys.
     fn rooms(&mut self) -> Checked {
         for (operation, field) in over_fields() {
             let Output::Least(least, refusal) = operation.facts().output else { continue };
@@ -168,7 +168,7 @@ impl Run {
         Ok(())
     }
 
-    /// The longest words and lists, without and with a fault.
+    /// The longest words and lists, without a fault and with one.
     fn longest(&mut self) -> Checked {
         for (operation, field) in over_fields() {
             for _ in 0..VARIANTS {
@@ -182,13 +182,13 @@ impl Run {
 
     // ---- Random cases ----
 
-    /// An operation, each as often as its share says.
+    /// A random operation. Each is chosen as often as its share says.
     fn operation(&mut self) -> Op {
         let shares = ALL.into_iter().flat_map(|operation| vec![operation; operation.facts().share]);
         self.maker.random.pick(&shares.collect::<Vec<Op>>())
     }
 
-    /// How long words are in a random case: short ones for the most part.
+    /// The length of words in a random case. Most words are short.
     fn size(&mut self) -> Size {
         match self.maker.random.below(500) {
             0 => Size::Long,
@@ -197,7 +197,7 @@ impl Run {
         }
     }
 
-    /// Faults of a random case: none, one, two or more.
+    /// The faults of a random case: at most four.
     fn some_faults(&mut self, operation: Op, field: Field) -> Vec<u8> {
         let most = self.maker.random.pick(&[0, 0, 0, 1, 1, 2, 4]);
         let mut faults = self.maker.faults(operation, field, most);
@@ -207,7 +207,7 @@ impl Run {
         faults
     }
 
-    /// One case of any operation: blind, rough, damaged, or with known faults.
+    /// One case of any operation: random bytes, rough parts, a damaged input, or an input with known faults.
     fn random_case(&mut self) -> Checked {
         let operation = self.operation();
         let way = self.maker.random.below(10);

@@ -1,5 +1,5 @@
-//! The programs beside the reference: each is started on an input, and what it writes is held to what the reference
-//! makes of the same bytes.
+//! Compares the programs with the reference. Each program is started on an input, and its output must be what the
+//! reference gives for the same bytes.
 
 mod crossings;
 mod desk;
@@ -22,13 +22,13 @@ use crate::make::{files, Maker};
 use crate::operation::Operation;
 use crate::operations::read_word::ReadWord;
 
-/// What is wrong, or nothing.
+/// The result of a check: a value, or an account of the failure.
 type Checked<T = ()> = Result<T, String>;
 
-/// How long a program is left without the next piece of its input.
+/// The time between two pieces of a program's input.
 const PAUSE: Duration = Duration::from_millis(2);
 
-/// Starts a program on these arguments and on this input, which comes in pieces. A program need not read all of it.
+/// Starts a program with these arguments and writes its input piece by piece. A program need not read all of its input.
 fn run(program: &Path, arguments: &[&OsStr], pieces: &[&[u8]]) -> io::Result<Output> {
     let mut command = Command::new(program);
     command.args(arguments).stdin(Stdio::piped()).stdout(Stdio::piped()).stderr(Stdio::piped());
@@ -47,7 +47,7 @@ fn run(program: &Path, arguments: &[&OsStr], pieces: &[&[u8]]) -> io::Result<Out
     child.wait_with_output()
 }
 
-/// Starts a program as [`run`] does; an account of what is wrong if it cannot be, or does not end well.
+/// Starts a program as [`run`] does. It is a failure if the program cannot be started or its exit status is not 0.
 fn ran(program: &Path, arguments: &[&OsStr], pieces: &[&[u8]]) -> Checked<Output> {
     let output =
         run(program, arguments, pieces).map_err(|error| format!("{}: {error}\n", program.display()))?;
@@ -57,14 +57,14 @@ fn ran(program: &Path, arguments: &[&OsStr], pieces: &[&[u8]]) -> Checked<Output
     }
 }
 
-/// How often each pair of faults is drawn anew.
+/// The number of words for each fault and for each two faults.
 const VARIANTS: usize = 10;
 
-/// The letters of words drawn at random, short of the longest.
+/// The most letters of a random word.
 const LETTERS: usize = 300;
 
-/// Refused words, with each two faults that a word can have and each by itself; then words with letters that cancel,
-/// each of them damaged too.
+/// Refused words with each fault and each two faults that a word can have; then words with letters that cancel, each
+/// followed by a damaged copy.
 fn odd_words(maker: &mut Maker) -> Vec<Vec<u8>> {
     let random = &mut maker.random;
     let mut words = Vec::new();
@@ -88,7 +88,7 @@ fn odd_words(maker: &mut Maker) -> Vec<Vec<u8>> {
     words
 }
 
-/// Cases counted by the answer that the reference gives.
+/// The number of cases for each answer of the reference.
 #[derive(Default)]
 struct Counts(BTreeMap<u8, usize>);
 
@@ -97,7 +97,7 @@ impl Counts {
         *self.0.entry(answer).or_default() += 1;
     }
 
-    /// How many cases there are, in all and of each answer; an account if one of these answers was not reached.
+    /// The number of cases, in all and for each answer. It is a failure if one of `answers` did not occur.
     fn summary(&self, name: &str, answers: &[u8]) -> Checked<String> {
         let missing: Vec<&u8> = answers.iter().filter(|answer| !self.0.contains_key(answer)).collect();
         if !missing.is_empty() {
@@ -109,7 +109,7 @@ impl Counts {
     }
 }
 
-/// Runs all programs of the folder: a line for each, or what is wrong with the first case that fails.
+/// Runs all programs of the folder. Returns lines about them, or an account of the first failure.
 pub fn check(folder: &Path, maker: &mut Maker) -> Checked<Vec<String>> {
     let mut lines = desk::check(folder, maker)?;
     lines.push(letters::check(&folder.join("letters"), maker)?);

@@ -1,9 +1,9 @@
-//! Inputs and outcomes in print.
+//! Prints inputs and outcomes.
 
 use crate::case::{Input, Outcome, GUARD};
 use crate::operation::{Output, Over};
 
-/// Bytes in hexadecimal; four and more equal ones in a row as one of them with their number.
+/// Bytes in hexadecimal. Four or more equal bytes in a row are written as one byte and their number.
 pub fn hex(bytes: &[u8]) -> String {
     let runs = bytes.chunk_by(|a, b| a == b).map(|run| match run.len() {
         length @ 4.. => format!("{:02X}*{length}", run[0]),
@@ -17,13 +17,13 @@ pub fn hex(bytes: &[u8]) -> String {
     }
 }
 
-/// Has the input's operation an output?
+/// Does the input's operation have an output?
 fn has_output(input: &Input) -> bool {
     !matches!(input.facts().output, Output::Nothing)
 }
 
-/// The operation, the field if one is named, and what it takes, one part to a line, with the number of its bytes in
-/// brackets.
+/// The operation, the field if the caller names one, the parts, and the output. Each has its own line. Brackets hold
+/// the number of bytes.
 pub fn input(input: &Input) -> String {
     let facts = input.facts();
     let mut text = format!("walnut_{}\n", facts.name);
@@ -39,14 +39,14 @@ pub fn input(input: &Input) -> String {
     text
 }
 
-/// The answer and the numbers beside it.
+/// The answer and the other numbers.
 pub fn outcome(input: &Input, outcome: &Outcome) -> String {
     let numbers = input.facts().numbers.iter().zip(&outcome.numbers);
     let beside: String = numbers.map(|(name, number)| format!(", {name} {number}")).collect();
     format!("answer {}{beside}", outcome.answer)
 }
 
-/// Where a byte of an outcome stands.
+/// The name of a place in an outcome's bytes.
 pub fn place_name(input: &Input, place: usize) -> String {
     match place {
         _ if !has_output(input) => format!("returned or lent byte {place}"),
@@ -56,7 +56,7 @@ pub fn place_name(input: &Input, place: usize) -> String {
     }
 }
 
-/// The first byte in which the outcomes differ, with how many differ in all.
+/// The first byte in which the outcomes differ, and the number of bytes that differ.
 pub fn difference(input: &Input, reference: &Outcome, library: &Outcome) -> Option<String> {
     let pairs = || reference.bytes.iter().zip(&library.bytes);
     let place = pairs().position(|(a, b)| a != b)?;

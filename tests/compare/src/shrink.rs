@@ -1,4 +1,4 @@
-//! Makes a failing input smaller while it still fails: cuts letters, moves and bytes, lowers numbers.
+//! Makes a failing input smaller, as long as it still fails: cuts letters, moves and bytes, and lowers numbers.
 
 pub mod items;
 
@@ -11,10 +11,10 @@ use crate::case::Input;
 use crate::operation::Form;
 use items::{filler, move_items, word_items, word_of, Item};
 
-/// The longest time that is spent on it.
+/// The longest time that is spent on shrinking.
 const PATIENCE: Duration = Duration::from_secs(20);
 
-/// The smallest input that is found to fail as this one does.
+/// The smallest failing input that is found.
 pub fn smallest(input: Input, fails: &dyn Fn(&Input) -> bool) -> Input {
     let shrinker = Shrinker { fails, end: Instant::now() + PATIENCE };
     let mut input = input;
@@ -27,17 +27,17 @@ pub fn smallest(input: Input, fails: &dyn Fn(&Input) -> bool) -> Input {
     }
 }
 
-/// How a part is made of its items.
+/// A function that makes a part from its items.
 type File<'a, T> = &'a dyn Fn(&[T]) -> Vec<u8>;
 
-/// The input with another part.
+/// The input with the part at a place replaced.
 fn with_part(input: &Input, place: usize, part: Vec<u8>) -> Input {
     let mut other = input.clone();
     other.parts[place] = part;
     other
 }
 
-/// The test of an input, and the time when it is no longer made.
+/// The test of an input, and the time when shrinking ends.
 pub struct Shrinker<'a> {
     fails: &'a dyn Fn(&Input) -> bool,
     end: Instant,
@@ -49,13 +49,13 @@ impl Shrinker<'_> {
         Instant::now() < self.end
     }
 
-    /// Does it still fail, and is there still time?
+    /// Does the input still fail, and is there still time?
     pub fn fails(&self, input: &Input) -> bool {
         self.has_time() && (self.fails)(input)
     }
 
-    /// The field, the output and each part made smaller once, parts that shrink together before each by itself; moves
-    /// and digests before words, which take longest.
+    /// Makes the field, the output and each part smaller once. Parts that shrink together come before single parts.
+    /// Words come last, because they take longest.
     fn pass(&self, input: Input) -> Input {
         let (operation, parts) = (input.operation, input.facts().parts);
         let input = self.room(self.field(input));
@@ -68,18 +68,18 @@ impl Shrinker<'_> {
         words.into_iter().fold(input, |input, place| self.part(input, place))
     }
 
-    /// The first of these that still fails; the input if none does.
+    /// The first of `smaller` that still fails, or the input if none fails.
     fn first(&self, input: Input, mut smaller: impl Iterator<Item = Input>) -> Input {
         smaller.find(|smaller| self.fails(smaller)).unwrap_or(input)
     }
 
-    /// The smaller field in the place of the larger.
+    /// Replaces the larger field by the smaller.
     fn field(&self, input: Input) -> Input {
         let smaller = Some(Input { named: Field::Gf32, ..input.clone() }).filter(|_| input.large());
         self.first(input, smaller.into_iter())
     }
 
-    /// The output made smaller.
+    /// Makes the output smaller.
     fn room(&self, input: Input) -> Input {
         let Some(least) = input.facts().least_room(input.named) else { return input };
         let rooms = [0, least.saturating_sub(1), least, least + 1].into_iter();
@@ -87,7 +87,7 @@ impl Shrinker<'_> {
         self.first(input.clone(), smaller)
     }
 
-    /// One part as plain as can be: all zeros, zeros but for the number at its head, or the numbers from 0 on.
+    /// Replaces one part by a plain one: all zeros, zeros after the first two bytes, or the numbers from 0 on.
     fn plain(&self, input: Input, place: usize) -> Input {
         let part = &input.parts[place];
         let head = part.iter().enumerate().map(|(place, byte)| if place < 2 { *byte } else { 0 }).collect();
@@ -96,7 +96,7 @@ impl Shrinker<'_> {
         self.first(input.clone(), plain.map(|plain| with_part(&input, place, plain)))
     }
 
-    /// One part, cut and lowered.
+    /// Cuts and lowers one part.
     fn part(&self, input: Input, place: usize) -> Input {
         let part = input.parts[place].clone();
         let plain = |bytes: &[u8]| bytes.to_vec();
@@ -117,7 +117,7 @@ impl Shrinker<'_> {
         }
     }
 
-    /// One part, cut and lowered item by item.
+    /// Cuts and lowers one part, item by item.
     fn items<T: Item>(&self, input: Input, place: usize, items: Vec<T>, file: File<T>) -> Input {
         let fails = |items: &[T]| self.fails(&with_part(&input, place, file(items)));
         let items = lower(cut(items, &fails), &fails);
@@ -125,7 +125,7 @@ impl Shrinker<'_> {
     }
 }
 
-/// The items without all those that can be cut: longer runs are tried first.
+/// Cuts all items that the failure does not need. Longer runs are tried first.
 pub fn cut<T: Item>(mut items: Vec<T>, fails: &dyn Fn(&[T]) -> bool) -> Vec<T> {
     let mut size = items.len();
     while size > 0 {
@@ -144,7 +144,7 @@ pub fn cut<T: Item>(mut items: Vec<T>, fails: &dyn Fn(&[T]) -> bool) -> Vec<T> {
     items
 }
 
-/// The items, lowered as far as can be: runs of them at once, longer ones first, and then each.
+/// Lowers the items as far as possible: first whole runs, longer runs before shorter ones, then single items.
 fn lower<T: Item>(mut items: Vec<T>, fails: &dyn Fn(&[T]) -> bool) -> Vec<T> {
     let mut size = items.len();
     while size > 1 {
@@ -161,7 +161,7 @@ fn lower<T: Item>(mut items: Vec<T>, fails: &dyn Fn(&[T]) -> bool) -> Vec<T> {
     (0..items.len()).fold(items, |items, place| lower_one(items, place, fails))
 }
 
-/// The items, one of them lowered as far as can be.
+/// Lowers one item as far as possible.
 fn lower_one<T: Item>(mut items: Vec<T>, place: usize, fails: &dyn Fn(&[T]) -> bool) -> Vec<T> {
     let old = items[place];
     for item in old.lower() {
@@ -210,7 +210,7 @@ mod tests {
         assert_eq!(smallest.room, 0);
     }
 
-    /// A move keeps its letters when those before it are cut.
+    /// If letters before a move are cut, its place is lowered, so that the move keeps its letters.
     #[test]
     fn places_follow_the_letters() {
         let input = rewriting(vec![0, 6, 0x11, 0x11, 0x08], vec![0, 1, 0, 4, 1]);
@@ -223,7 +223,7 @@ mod tests {
         assert_eq!(smallest(input, &fails).parts, [vec![0, 2, 0x08], vec![0, 1, 0, 0, 1]]);
     }
 
-    /// Damaged files shrink byte by byte, fixed parts keep their length.
+    /// Damaged files shrink byte by byte. Fixed parts keep their length.
     #[test]
     fn bytes_and_fixed_parts() {
         let bytes = input(&ReadWord, vec![vec![9, 9, 9, 7, 9]], 0);
@@ -237,7 +237,7 @@ mod tests {
         assert_eq!(smallest.named, Field::Gf32);
     }
 
-    /// The larger field stays where the failure needs it.
+    /// The larger field stays if the failure needs it.
     #[test]
     fn larger_field_stays() {
         let product = input(named("product"), vec![vec![200, 90]], 0);

@@ -1,4 +1,4 @@
-//! What has been compared: how many cases of each operation over each field, and which answers were seen.
+//! Counts what was compared: the cases of each operation over each field, and the answers that occurred.
 
 use std::collections::{BTreeMap, BTreeSet};
 
@@ -13,7 +13,7 @@ use crate::operations::over_fields;
 struct Seen {
     cases: usize,
     answers: BTreeSet<u8>,
-    /// The first number on success, as far as it is one that must be seen.
+    /// The values of the first number on success that are among the values it must take.
     numbers: BTreeSet<i64>,
 }
 
@@ -22,7 +22,7 @@ struct Seen {
 pub struct Tally(BTreeMap<(&'static str, Field), Seen>);
 
 impl Tally {
-    /// Counts a case on which both agreed.
+    /// Counts a case on which the library and the reference agree.
     pub fn count(&mut self, input: &Input, outcome: &Outcome) {
         let facts = input.facts();
         let seen = self.0.entry((facts.name, input.field())).or_default();
@@ -34,7 +34,8 @@ impl Tally {
         }
     }
 
-    /// What an operation over a field did not reach, or reached although the papers do not allow it.
+    /// Describes the answers and numbers of an operation over a field that are missing or not allowed, if there are
+    /// any.
     fn gap(&self, operation: Op, field: Field) -> Option<String> {
         let (facts, empty) = (operation.facts(), Seen::default());
         let seen = self.0.get(&(facts.name, field)).unwrap_or(&empty);
@@ -48,13 +49,13 @@ impl Tally {
         (!whole).then_some(account)
     }
 
-    /// What the cases did not reach, or reached although the papers do not allow it; nothing if each operation gave
-    /// over each of its fields just the answers that it can give there, and each of the numbers that it must reach.
+    /// Describes what is missing or not allowed. It is empty if every operation over each of its fields gave exactly
+    /// the answers that it can give, and every number that it must reach.
     pub fn gaps(&self) -> Vec<String> {
         over_fields().filter_map(|(operation, field)| self.gap(operation, field)).collect()
     }
 
-    /// How many cases of each operation were compared, over each of its fields.
+    /// The number of cases of each operation over each of its fields.
     pub fn summary(&self) -> String {
         let cases = |name, field| self.0.get(&(name, field)).map_or(0, |seen| seen.cases);
         let counts = over_fields().map(|(operation, field)| (operation.facts(), field));

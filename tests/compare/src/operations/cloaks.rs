@@ -50,9 +50,9 @@ fn case(name: &str, key: &[u8], labels: &[u8], word: &[u8]) -> Fixed {
     Fixed::of(&Cloaks, name, &[key, labels, word])
 }
 
-/// Under the plain key, and for lists that bring labels 0 and 1, whose T-values are 1, to positions 3 and 4 (source
-/// 000, section 5.2). Under T-values 1 1 2 2 4 5 6 7 b3, 31 times, brings the matrix back, since 2^31 = 1, but not the
-/// list.
+/// Under the plain key labels 0 and 1 have T-value 1, so b3 b3 cloaks for lists with these labels at positions 3 and 4
+/// (source 000, section 5.2). Under T-values 1 1 2 2 4 5 6 7, 31 letters b3 bring the matrix back, since 2^31 = 1, but
+/// not the list.
 fn small_keys() -> Vec<Fixed> {
     let (plain, equal) = (keys::plain(Field::Gf32), keys::with_equal_t_values(Field::Gf32));
     let many = hex(&format!("00 1F {}20", "22 ".repeat(15)));
@@ -70,9 +70,9 @@ fn small_keys() -> Vec<Fixed> {
     ]
 }
 
-/// Under T-values 1 1 2 2 4 5 6 7 b3, 255 times, brings the matrix back, since t^255 = 1 for all elements but zero, and
-/// 510 times the list too; 62 times do in the smaller field, where t^31 = 1, and not in this one, where x has the order
-/// 255.
+/// Under T-values 1 1 2 2 4 5 6 7, 255 letters b3 bring the matrix back, since t^255 = 1 for all elements but zero. 510
+/// letters also bring the list back. In the smaller field 62 letters are enough, since t^31 = 1 there. In the larger
+/// field they are not, since x has the order 255.
 fn large_keys() -> Vec<Fixed> {
     let (plain, equal) = (keys::plain(Field::Gf256), keys::with_equal_t_values(Field::Gf256));
     let threes = |head: &str, bytes: usize| [hex(head), vec![0x22; bytes]].concat();
@@ -94,8 +94,8 @@ fn refusals() -> Vec<Fixed> {
     cases
 }
 
-/// A word that cloaks for the list that comes with it: w b_i b_i w⁻¹, where w takes labels 0 and 1, whose T-values are
-/// 1, to positions i and i + 1.
+/// A list, and a word that cloaks for it: w b_i b_i w⁻¹, where w takes labels 0 and 1 of the list to positions i and
+/// i + 1. In a key the T-values of labels 0 and 1 are 1.
 fn cloaking(maker: &mut Maker, letters: usize) -> (Labels, Vec<u8>) {
     let (w, i) = (maker.random.word(letters), maker.random.below(7));
     let mut places = [0, 1, 2, 3, 4, 5, 6, 7];
@@ -112,7 +112,7 @@ fn cloaking(maker: &mut Maker, letters: usize) -> (Labels, Vec<u8>) {
     (labels, codes)
 }
 
-/// The list. Fault: 25.
+/// The list as bytes. Fault: 25.
 fn list(maker: &mut Maker, labels: Labels, faults: &[u8]) -> Vec<u8> {
     let (random, mut file) = (&mut maker.random, labels.to_vec());
     if !faults.contains(&25) {

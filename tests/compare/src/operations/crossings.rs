@@ -15,7 +15,7 @@ impl Operation for Crossings {
         Facts { numbers: &["crossings"], share: 4, ..facts }
     }
 
-    /// For 27 a label over 7, or one twice.
+    /// Fault 27 is a label above 7, or a label twice.
     fn make(&self, maker: &mut Maker, _: Field, faults: &[u8], size: Size) -> Option<Parts> {
         let word = maker.word(faults, size);
         let random = &mut maker.random;
@@ -38,12 +38,12 @@ impl Operation for Crossings {
         }
     }
 
-    /// The two labels may be exchanged unseen: the number is symmetric in them, and so is their question.
+    /// No case can show that the two labels are exchanged: the number and the question are symmetric in them.
     fn fixed(&self) -> Vec<Fixed> {
         by_hand().into_iter().chain(of_the_paper()).chain(refusals()).collect()
     }
 
-    /// Labels up to 8, each with each, on every word of two letters.
+    /// Every two labels from 0 to 8, on every word of two letters.
     fn small(&self, run: &mut Run) -> Checked {
         let codes = || (0..16).filter(|code| Letter::from_code(*code).is_some());
         for (first, second) in codes().flat_map(|first| codes().map(move |second| (first, second))) {
@@ -60,8 +60,8 @@ fn case(name: &str, word: &str, a: u8, b: u8) -> Fixed {
     Fixed::of(&Crossings, &format!("{name}, labels {a} and {b}"), &[&hex(word), &[a, b]])
 }
 
-/// b1 brings label 0 to the second position, so b2 swaps 0 and 2, and b1 then 1 and 2. Of the seven letters each swaps
-/// 0, which goes to the right, and the next label.
+/// In b1 b2 b1, b1 brings label 0 to the second position, so b2 exchanges 0 and 2. The second b1 exchanges 1 and 2.
+/// Each of the seven letters exchanges label 0, which moves to the right, with the next label.
 fn by_hand() -> Vec<Fixed> {
     let mut cases = vec![case("b1 b2 b2", "00 03 01 10", 2, 0).number(2)];
     for (a, b) in [(0, 1), (0, 2), (1, 2)] {
@@ -79,7 +79,7 @@ fn by_hand() -> Vec<Fixed> {
     cases
 }
 
-/// 00 02 00: 2 for the labels 0 and 1, and 0 for all others, whichever of the two comes first.
+/// The word 00 02 00 gives 2 for the labels 0 and 1, and 0 for all other labels, in either order.
 fn of_the_paper() -> Vec<Fixed> {
     let pairs = (0..8).flat_map(|a| (0..8).map(move |b| (a, b))).filter(|(a, b)| a != b);
     pairs.map(|(a, b)| case("b1 b1", "00 02 00", a, b).number(if a + b == 1 { 2 } else { 0 })).collect()

@@ -1,4 +1,4 @@
-//! The encoder of digests, used alone.
+//! The encoder of digests.
 
 use crate::operation::prelude::*;
 
@@ -10,7 +10,7 @@ impl Operation for EncodeDigest {
         Facts { over: Over::Digest, output: WORDS, numbers: &["bytes"], ..facts }
     }
 
-    /// For 8 a length that no digest has.
+    /// Fault 8 is a length that no digest has.
     fn make(&self, maker: &mut Maker, field: Field, faults: &[u8], _: Size) -> Option<Parts> {
         let mut digest = maker.digest(field);
         if faults.contains(&8) {
@@ -34,8 +34,9 @@ impl Operation for EncodeDigest {
         })
     }
 
-    /// Half byte 0 gives b7 b7; 6 is document 01's, with twelve letters; 1, 2, 3, 4 follow its rule (source 000's 1234,
-    /// by that rule). A digest of 64 bytes whose second half alone is 66 has 128 + 64 × 12 = 896 letters.
+    /// Half byte 0 gives b7 b7. Document 01 gives half byte 6, which has twelve letters. Half bytes 1, 2, 3, 4 follow
+    /// document 01's rule; the digest 1234 is an example of source 000. 32 zero bytes and 32 bytes 66 have
+    /// 128 + 64 × 12 = 896 letters.
     fn fixed(&self) -> Vec<Fixed> {
         let encode = |name: &str, digest: &[u8]| Fixed::of(&EncodeDigest, name, &[digest]);
         let sixes = |head: &str, times: usize| hex(&format!("{head} {}", "65 43 22 22 BC DE ".repeat(times)));
@@ -58,7 +59,7 @@ impl Operation for EncodeDigest {
         cases
     }
 
-    /// Each byte at a random place of a digest, and all over it; and each length.
+    /// Digests of zeros with each byte at a random place, digests of one byte repeated, and digests of each length.
     fn small(&self, run: &mut Run) -> Checked {
         for bytes in Field::BOTH.map(Field::digest_bytes) {
             for byte in 0..=255 {

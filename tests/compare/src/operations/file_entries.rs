@@ -1,4 +1,4 @@
-//! The entries that a key file has of a matrix.
+//! The entries of a matrix that a key file holds.
 
 use reference::key::{Entries, PACKED_ENTRIES};
 
@@ -10,7 +10,7 @@ use crate::plan::MATRICES;
 pub struct FileEntries;
 
 impl FileEntries {
-    /// The entries of a matrix, compared.
+    /// Compares the entries of a matrix, and returns them.
     pub fn of(run: &mut Run, matrix: &[u8]) -> Checked<Vec<u8>> {
         let outcome = run.parts(&FileEntries, vec![matrix.to_vec()], Some(0))?;
         Ok(outcome.bytes[GUARD..GUARD + PACKED_ENTRIES].to_vec())
@@ -45,7 +45,7 @@ impl Operation for FileEntries {
         vec![Fixed::of(&FileEntries, "the numbers 0 to 63", &[&numbers]).writes(&entries(&numbers))]
     }
 
-    /// Matrices of any bytes.
+    /// Random matrices of any bytes.
     fn small(&self, run: &mut Run) -> Checked {
         for _ in 0..MATRICES {
             let matrix = run.maker.random.bytes(64);

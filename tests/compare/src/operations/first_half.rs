@@ -18,7 +18,7 @@ impl Operation for FirstHalf {
         Some(vec![key, files::digest(&mut maker.random, field, &digest, faults)])
     }
 
-    /// The bytes are those of the parts that the second half takes, end to end.
+    /// The bytes are the parts that the second half takes, one after another.
     fn call(&self, by: By, input: &Input) -> Outcome {
         let [key, digest] = input.slices();
         let Halved { answer, half } = match by {
@@ -42,7 +42,7 @@ impl Operation for FirstHalf {
         accepted().into_iter().chain(refusals()).collect()
     }
 
-    /// Digests of each length, with a key: the one that goes with it alone is accepted.
+    /// Digests of each length with an accepted key. Only the length that goes with the key is accepted.
     fn small(&self, run: &mut Run) -> Checked {
         for field in Field::BOTH {
             let key = run.maker.key(field, &[]);
@@ -60,8 +60,8 @@ fn case(name: &str, key: &[u8], digest: &[u8]) -> Fixed {
     Fixed::of(&FirstHalf, name, &[key, digest])
 }
 
-/// A key with as many zero bytes as go with it: their matrix is the identity but for row 7, so the target is the second
-/// matrix but for row 7.
+/// A key with a digest of zero bytes. The digest's matrix differs from the identity only in row 7. So the target
+/// differs from the second matrix only in row 7, which is given.
 fn of_zeros(key: &keys::Key, row: [u8; 8]) -> Fixed {
     let [first, second] = &key.matrices;
     let target = with_row(second.clone(), 7, row);
@@ -70,10 +70,10 @@ fn of_zeros(key: &keys::Key, row: [u8; 8]) -> Fixed {
     case(key.name, &key.file, &digest).number((key.field == Field::Gf256).into()).bytes(bytes)
 }
 
-/// The keys with document 01's T-values, in their order. The target's row 7 is that of the digest's matrix times the
-/// second matrix. In the keys whose parts differ row 8 ends in 10, and 22 × 10 = 8, or 65 × 10 = 176 over the larger
-/// field. Of the permutation matrix rows 6, 7 and 8 have their one in columns 2, 1 and 8. The other second matrices
-/// have the identity's rows 6 to 8.
+/// The accepted keys with document 01's T-values, in their order. Row 7 of the target is row 7 of the digest's matrix
+/// times the second matrix. In the keys whose parts differ row 8 ends in 10, and 22 × 10 = 8, or 65 × 10 = 176 over the
+/// larger field. The permutation matrix has the ones of rows 6, 7 and 8 in columns 2, 1 and 8. The other second
+/// matrices have rows 6 to 8 of the identity.
 fn accepted() -> Vec<Fixed> {
     let [[a, b, c], [d, e, f]] = Field::BOTH.map(zeros_reach);
     let rows = [
@@ -88,7 +88,7 @@ fn accepted() -> Vec<Fixed> {
     keys::accepted().iter().zip(rows).map(|(key, row)| of_zeros(key, row)).collect()
 }
 
-/// The key's questions come before 8, and the digest is the one that goes with the key.
+/// The key's questions come before 8. Question 8 asks for the digest length that goes with the key.
 fn refusals() -> Vec<Fixed> {
     let [small, large] = Field::BOTH.map(keys::plain);
     let mut cases = vec![

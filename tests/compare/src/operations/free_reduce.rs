@@ -29,7 +29,7 @@ impl Operation for FreeReduce {
         })
     }
 
-    /// b1 b2 b2⁻¹ b3 is b1 b3 (source 000, section 5.1), and the inverse may come first.
+    /// b1 b2 b2⁻¹ b3 becomes b1 b3 (source 000, section 5.1). Of two cancelling letters the inverse may come first.
     fn fixed(&self) -> Vec<Fixed> {
         let reduce = |name: &str, word: &[u8]| Fixed::of(&FreeReduce, name, &[word]);
         let mut cases = vec![

@@ -1,4 +1,4 @@
-//! A letter multiplied into a pair that is lent.
+//! Multiplies a letter into a lent pair.
 
 use reference::letter::is_letter;
 
@@ -31,7 +31,7 @@ impl Operation for Multiply {
         Some(vec![pair.matrix.to_vec(), lists(&pair), t_values.to_vec(), vec![letter]])
     }
 
-    /// Fixed cases may have more than one letter, each on the pair that the last one left.
+    /// Fixed cases may have more than one letter. Each letter is multiplied into the pair that the letter before left.
     fn call(&self, by: By, input: &Input) -> Outcome {
         let (mut pair, t_values) = (pair_with(input.array(0), input.array(1)), input.array(2));
         let mut multiply = |letter: u8| match by {
@@ -48,7 +48,7 @@ impl Operation for Multiply {
         Outcome::of(refusal.unwrap_or(0)).bytes(pair_bytes(&pair))
     }
 
-    /// The pair stays.
+    /// The pair stays unchanged.
     fn refused(&self, input: &Input) -> Vec<u8> {
         input.parts[..2].concat()
     }
@@ -57,8 +57,8 @@ impl Operation for Multiply {
         [turned(), letters(), large_letters(), refusals()].into_iter().flatten().collect()
     }
 
-    /// Each byte as a letter; each number as an entry and as a T-value: no element from 32 on in the smaller field, and
-    /// always one in the larger. A T-value is not 0. Each number as a label, and as the position of each label.
+    /// Each byte as the letter, as an entry, as a T-value, as each label, and as the position of each label. Numbers
+    /// from 32 on are elements only of the larger field. A T-value is not 0.
     fn small(&self, run: &mut Run) -> Checked {
         for (field, number) in
             Field::BOTH.into_iter().flat_map(|field| (0..=255).map(move |number| (field, number)))
@@ -89,10 +89,10 @@ impl Operation for Multiply {
     }
 }
 
-/// b2 on a matrix with other rows than the identity's, under the list 7 to 0: T-value 6 of label 6 stands at position
-/// 2. Row 1: 1 + 6 × 2 = 13, 6 × 2 = 12, 3 + 2 = 1; row 2: 6, 6, 1. Labels 6 and 5 change places: label 5 is then at
-/// position 2, and label 6 at position 3. With 128 in row 1, column 2, over the larger field: 6 × 128 = 4 × 128 + 2 ×
-/// 128 = 58 + 29 = 39, 1 + 39 = 38, and 3 + 128 = 131.
+/// b2 under the list 7 to 0, on the identity matrix with row 1 replaced. Label 6 with T-value 6 stands at position 2.
+/// Row 1 becomes 1 + 6 × 2 = 13, 6 × 2 = 12, 3 + 2 = 1. Row 2 becomes 6, 6, 1. Labels 6 and 5 change places: label 5 is
+/// then at position 2, and label 6 at position 3. Over the larger field row 1 has 128 in column 2:
+/// 6 × 128 = 4 × 128 + 2 × 128 = 58 + 29 = 39, 1 + 39 = 38, 3 + 128 = 131.
 fn turned() -> Vec<Fixed> {
     let case = |entry: u8, first: [u8; 8]| {
         let before = with_row(identity(), 1, [1, entry, 3, 4, 5, 6, 7, 8]);
@@ -104,18 +104,21 @@ fn turned() -> Vec<Fixed> {
     vec![case(2, [13, 12, 1, 4, 5, 6, 7, 8]), case(128, [38, 39, 131, 4, 5, 6, 7, 8]).large()]
 }
 
-/// The letters from the starting pair on, one after another, give this matrix and these lists.
+/// The letters, multiplied into the starting pair one after another, give this matrix and these lists.
 fn from_start(name: &str, t_values: [u8; 8], letters: &[u8], matrix: Vec<u8>, lists: [u8; 16]) -> Fixed {
     let parts: [&[u8]; 4] = [&identity(), &LISTS, &t_values, letters];
     Fixed::of(&Multiply, name, &parts).bytes([matrix, lists.to_vec()].concat())
 }
 
+/// The two lists after b3 or b3⁻¹ from the start.
 const SWAPPED: [u8; 16] = [0, 1, 3, 2, 4, 5, 6, 7, 1, 2, 4, 3, 5, 6, 7, 8];
 
-/// b3⁻¹ b6 b4 b1⁻¹ b2 has document 01's list; its matrix is source 004's (section 8.4), in T-values (1 + t1)/t2, t1/t2,
-/// 1/t2; t1, t1, 1; t1, t1, (1 + t3)/t4 + 1, t3/t4, 1/t4; 0, 0, t3, t3, 1; and row 6 with t6, t6, 1, where 1/3 = 28 and
-/// 2 × 28 = 29. b1 b2 b1 and b2 b1 b2 are the same braid (source 000, section 5): with both T-values 1 row 1 is 1 1
-/// after b1 and 0 1 1 after all three, row 2 is 1 1 1 after b2 and 1 0 1 after b1 again.
+/// Document 01 gives the list of b3⁻¹ b6 b4 b1⁻¹ b2. Source 004, section 8.4, gives its matrix in terms of the
+/// T-values: (1 + t1)/t2, t1/t2, 1/t2; t1, t1, 1; t1, t1, (1 + t3)/t4 + 1, t3/t4, 1/t4; 0, 0, t3, t3, 1; and t6, t6, 1
+/// in row 6. Here 1/3 = 28 and 2 × 28 = 29.
+///
+/// b1 b2 b1 and b2 b1 b2 are the same braid (source 000, section 5). Both T-values are 1. In b1 b2 b1, row 1 is 1 1
+/// after the first b1, and 0 1 1 at the end. Row 2 is 1 1 1 after b2, and 1 0 1 at the end.
 fn letters() -> Vec<Fixed> {
     let row_3 = |entries: [u8; 8]| with_row(identity(), 3, entries);
     let top = with_row(identity(), 1, [0, 1, 1, 0, 0, 0, 0, 0]);
@@ -135,8 +138,8 @@ fn letters() -> Vec<Fixed> {
     ]
 }
 
-/// Over the larger field, with T-values 128 and 2 at labels 2 and 3: b3 has 128, 128, 1 in row 3, and b3 b3 has 128 + 2
-/// × 128 = 157, 2 × 128 = 29, 1 + 128 = 129; b3⁻¹ has 1, 1/2, 1/2.
+/// Row 3 over the larger field, with T-values 128 and 2 at labels 2 and 3. b3 has 128, 128, 1. b3 b3 has
+/// 128 + 2 × 128 = 157, 2 × 128 = 29, 1 + 128 = 129. b3⁻¹ has 1, 1/2, 1/2.
 fn large_letters() -> Vec<Fixed> {
     let high = [1, 1, 128, 2, 4, 5, 6, 7];
     let case = |name, t_values, letters: &[u8], row_3, lists| {
@@ -151,7 +154,7 @@ fn large_letters() -> Vec<Fixed> {
     ]
 }
 
-/// The questions in their order. Entries and T-values from 32 on are elements of the larger field alone.
+/// The questions in their order. Entries and T-values from 32 on are elements only of the larger field.
 fn refusals() -> Vec<Fixed> {
     let (good, high, zeros, none) = (identity(), [255; 64], [0; 8], [0; 16]);
     let edge = [&good[..63], &[32]].concat();

@@ -23,16 +23,16 @@ impl Operation for Product {
     fn call(&self, by: By, input: &Input) -> Outcome {
         let [a, b] = input.array(0);
         match by {
-            // SAFETY: numbers alone pass.
+            // SAFETY: the function takes only numbers.
             By::Library => outcome!(unsafe { walnut_product(input.large(), a, b) }, value),
             By::Reference => outcome!(reference::product(input.named, a, b), value),
         }
     }
 
-    /// The factors may be exchanged unseen: the product is symmetric, and its question is put to both. In the larger
-    /// field products below x^8 are not reduced. The square of 255 is x^14 + x^12 + x^10 + x^8 + x^6 + x^4 + x^2 + 1,
-    /// with x^8 = 29, x^10 = 116, x^12 = 2 × 2 × 116 = 205, x^14 = 2 × 2 × 205 = 19: 19 + 205 + 116 + 29 + 64 + 16 + 4
-    /// + 1 = 226.
+    /// No case can show that the factors are exchanged: the product and its question are symmetric in them. In the
+    /// larger field products below x^8 are not reduced. The square of 255 is
+    /// x^14 + x^12 + x^10 + x^8 + x^6 + x^4 + x^2 + 1. Here x^8 = 29, x^10 = 116, x^12 = 2 × 2 × 116 = 205 and
+    /// x^14 = 2 × 2 × 205 = 19, so the sum is 19 + 205 + 116 + 29 + 64 + 16 + 4 + 1 = 226.
     fn fixed(&self) -> Vec<Fixed> {
         let product = |a: u8, b: u8| Fixed::of(&Product, &format!("{a} × {b}"), &[&[a, b]]);
         vec![
@@ -50,7 +50,7 @@ impl Operation for Product {
         ]
     }
 
-    /// All products, of elements and of numbers that are none.
+    /// The product of every two bytes, elements or not.
     fn small(&self, run: &mut Run) -> Checked {
         for field in Field::BOTH {
             for number in 0..=0xFFFF_u16 {

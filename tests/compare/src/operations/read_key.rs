@@ -17,7 +17,7 @@ impl Operation for ReadKey {
         Some(vec![maker.key(field, faults)])
     }
 
-    /// The bytes are T-values, matrix, lists and second matrix end to end.
+    /// The bytes are the T-values, the first matrix, the lists and the second matrix, one after another.
     fn call(&self, by: By, input: &Input) -> Outcome {
         let [file] = input.slices();
         let key = match by {

@@ -36,7 +36,8 @@ impl Operation for ReadWord {
     }
 }
 
-/// The letter b1, whose code is 0, so many times: 255 is 00 FF and 256 is 01 00 in source 000, section 10.
+/// Words of b1 repeated, each with its number of letters. The code of b1 is 0. Source 000, section 10, writes 255 as
+/// 00 FF and 256 as 01 00.
 pub fn words_of_b1() -> Vec<(usize, Vec<u8>)> {
     let heads = [(0, "00 00"), (255, "00 FF"), (256, "01 00"), (10_000, "27 10")];
     let file = |(letters, head): (usize, &str)| {

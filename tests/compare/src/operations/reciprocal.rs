@@ -29,13 +29,13 @@ impl Operation for Reciprocal {
     fn call(&self, by: By, input: &Input) -> Outcome {
         let [a] = input.array(0);
         match by {
-            // SAFETY: numbers alone pass.
+            // SAFETY: the function takes only a number.
             By::Library => outcome!(unsafe { walnut_reciprocal(input.large(), a) }, value),
             By::Reference => outcome!(reference::reciprocal(input.named, a), value),
         }
     }
 
-    /// What the larger field gives is by the rules written in `fixed/keys.rs`.
+    /// The reciprocals in the larger field follow from the rules in `fixed/keys.rs`.
     fn fixed(&self) -> Vec<Fixed> {
         let reciprocal = |a: u8| Fixed::of(&Reciprocal, &format!("1 / {a}"), &[&[a]]);
         vec![
@@ -50,7 +50,7 @@ impl Operation for Reciprocal {
         ]
     }
 
-    /// All reciprocals, of elements and of numbers that are none.
+    /// The reciprocal of every byte, element or not.
     fn small(&self, run: &mut Run) -> Checked {
         for field in Field::BOTH {
             for number in 0..=255 {

@@ -1,4 +1,4 @@
-//! Restoring: the word of a stored form.
+//! Restores a word from its stored form.
 
 use reference::stored::stored_form;
 use reference::testkit::Random;
@@ -12,8 +12,8 @@ pub struct Restore;
 const STORED: Part = Part { name: "stored form", form: Form::Bytes };
 
 impl Operation for Restore {
-    /// 28 stands before 10 and after it: where both are among the faults, the file has fewer than six bytes. `small`
-    /// has 10 with sizes that disagree.
+    /// Question 28 comes before 10 and again after it. The facts have it only before 10, so an input with both faults
+    /// must have fewer than six bytes. `small` tests 10 with sizes that disagree.
     fn facts(&self) -> Facts {
         let facts = Facts::of("restore", &[15, 28, 10, 29], &[STORED]);
         Facts { output: WORDS, numbers: &["bytes"], share: 9, ..facts }
@@ -72,7 +72,7 @@ impl Operation for Restore {
 }
 
 impl Restore {
-    /// Small sizes, in every combination, with every length up to 20 bytes.
+    /// Every combination of small sizes, with every file length up to 20 bytes.
     fn every_size(&self, run: &mut Run) -> Checked {
         for (letters, signs) in (0..=17).flat_map(|letters| (0..=4).map(move |signs| (letters, signs))) {
             for (generators, length) in (0..=7).flat_map(|size| (0..=20).map(move |length| (size, length))) {
@@ -84,7 +84,7 @@ impl Restore {
         Ok(())
     }
 
-    /// One letter: every byte of signs with every byte of generators.
+    /// One letter, with every byte of signs and every byte of generators.
     fn every_row_of_one_letter(&self, run: &mut Run) -> Checked {
         for (signs, generators) in (0..=255).flat_map(|signs| (0..=255).map(move |byte| (signs, byte))) {
             run.parts(&Restore, vec![vec![0, 1, 0, 1, 0, 1, signs, generators]], None)?;
@@ -92,7 +92,7 @@ impl Restore {
         Ok(())
     }
 
-    /// Up to 17 letters: every bit of the stored form turned, one at a time.
+    /// Stored forms of up to 17 letters, with each bit flipped, one at a time.
     fn every_bit(&self, run: &mut Run) -> Checked {
         for letters in 0..=17 {
             let form = stored_form(&run.maker.random.word(letters));
@@ -105,7 +105,7 @@ impl Restore {
         Ok(())
     }
 
-    /// Over 10,000 letters, with sizes that agree and sizes that do not, and with rows that are wrong.
+    /// More than 10,000 letters. The files have several lengths, and zeros or ones in their rows.
     fn too_many_letters(&self, run: &mut Run) -> Checked {
         for letters in [MOST_LETTERS + 1, MOST_LETTERS + 8, 0xFFFF] {
             let form = sizes(letters, letters.div_ceil(8), (3 * letters).div_ceil(8));
@@ -118,7 +118,7 @@ impl Restore {
         Ok(())
     }
 
-    /// Words of many lengths: stored and restored they are the same bytes, and so are their stored forms.
+    /// Words of many lengths are stored, and their stored forms are restored. The lengths of the results must be right.
     fn there_and_back(&self, run: &mut Run) -> Checked {
         for letters in (0..=130).chain(9_980..=MOST_LETTERS) {
             let codes = run.maker.random.word(letters);
@@ -132,13 +132,13 @@ impl Restore {
     }
 }
 
-/// The three sizes of a stored form, the low 16 bits of each.
+/// The three sizes of a stored form, as two bytes each. Larger sizes lose their high bits.
 fn sizes(letters: usize, signs: usize, generators: usize) -> Vec<u8> {
     [letters, signs, generators].into_iter().flat_map(|size| (size as u16).to_be_bytes()).collect()
 }
 
-/// Turns bits of the rows of a stored form into those of a fault 29: a generator 7, or filler that is not zero. The
-/// stored form has one letter at least.
+/// Puts fault 29 into the rows of a stored form: a generator 7, or filler that is not zero. The stored form must have
+/// at least one letter.
 fn spoil_rows(random: &mut Random, form: &mut [u8], letters: usize) {
     let signs = 8 * 6..8 * 6 + letters;
     let generators = 8 * (6 + letters.div_ceil(8));

@@ -32,7 +32,7 @@ impl Operation for Rewrite {
         Some(vec![files::word(random, &codes, faults), moves(random, &codes, count, faults)])
     }
 
-    /// Moves of which each may be possible or not.
+    /// Random moves, each possible or not.
     fn rough(&self, maker: &mut Maker) -> Option<Parts> {
         let codes = maker.codes(Size::Short);
         let random = &mut maker.random;
@@ -83,7 +83,7 @@ impl Operation for Rewrite {
         self.on_full_words(run)
     }
 
-    /// Letters that can be cut are cut, with the places of the moves behind them lowered.
+    /// Cuts letters, and lowers the places of moves after them.
     fn shrunk(&self, shrinker: &Shrinker, mut input: Input) -> Input {
         let letters = |input: &Input| word_items(&input.parts[0]).map_or(0, |items| items.len());
         let mut size = letters(&input);
@@ -101,7 +101,7 @@ impl Operation for Rewrite {
     }
 }
 
-/// The input without so many letters from a place on, and with the places behind lowered by as many.
+/// The input without `count` letters, starting at `from`. The places of moves after these letters are lowered.
 fn without_letters(input: &Input, from: usize, count: usize) -> Option<Input> {
     let [word, list] = input.slices();
     let (mut letters, mut moves) = (word_items(word)?, move_items(list)?);
@@ -114,7 +114,7 @@ fn without_letters(input: &Input, from: usize, count: usize) -> Option<Input> {
 }
 
 impl Rewrite {
-    /// Each kind, at each place that a word of four letters has and two more.
+    /// Each kind, at each place from 0 to 6 of a word of four letters.
     fn every_kind(&self, run: &mut Run) -> Checked {
         for (kind, place) in (0..=255).flat_map(|kind| (0..=6).map(move |place| (kind, place))) {
             let word = word_file(&run.maker.random.tangled_word(4));
@@ -134,7 +134,7 @@ impl Rewrite {
         Ok(())
     }
 
-    /// Two refused moves in a list, in both orders, after moves that are possible: the first one decides.
+    /// Two refused moves in a list, in either order, after possible moves. The first refused move decides the answer.
     fn refused_twice(&self, run: &mut Run) -> Checked {
         for (early, late) in (21..=24).flat_map(|early| (21..=24).map(move |late| (early, late))) {
             let random = &mut run.maker.random;
@@ -146,8 +146,8 @@ impl Rewrite {
         Ok(())
     }
 
-    /// Moves on words with room for one more pair of letters and without, at both ends and past the end; then the same
-    /// after a removal at the front.
+    /// Moves on words with room for two more letters and on words without, at both ends and past the end. Each move is
+    /// also tried after a removal at the front.
     fn on_full_words(&self, run: &mut Run) -> Checked {
         for letters in [9_998, 9_999, 10_000] {
             let mut codes = run.maker.random.tangled_word(letters);
@@ -167,7 +167,7 @@ impl Rewrite {
 
 // ---- Move lists with chosen faults ----
 
-/// A number of a kind that there is not.
+/// A number that is not a kind.
 fn bad_kind(random: &mut Random) -> u8 {
     let between = random.within(4, 15) as u8;
     let above = random.within(31, 255) as u8;
@@ -179,7 +179,7 @@ fn insertion(random: &mut Random) -> u8 {
     16 + random.letter()
 }
 
-/// A place from which on a kind finds too few letters.
+/// A place with too few letters after it for a move of this kind.
 fn place_past(random: &mut Random, letters: usize, kind: u8) -> u16 {
     let needs = match kind {
         1 | 2 => 2,
@@ -191,8 +191,8 @@ fn place_past(random: &mut Random, letters: usize, kind: u8) -> u16 {
     random.pick(&[least as u16, near, 0xFFFF])
 }
 
-/// A move whose letters exist and do not match its kind. The word has two letters at least: no two letters match kinds
-/// 1 and 2 both.
+/// A move whose letters exist but do not match its kind. The word must have at least two letters. Such a move exists,
+/// because no two letters match both kind 1 and kind 2.
 fn misshapen(random: &mut Random, word: &[Letter]) -> Move {
     let place = random.within(0, word.len() - 2) as u16;
     let kinds = random.shuffled([1, 2, 3]);
@@ -200,7 +200,8 @@ fn misshapen(random: &mut Random, word: &[Letter]) -> Move {
     steps.into_iter().find(|step| move_answer(word, *step) == 23).expect("kind 1 or 2 does not match")
 }
 
-/// A move with these of the faults 21 to 24. For 24 the word is full, for 23 it has two letters at least.
+/// A move with the faults that are among 21 to 24. For 24 the word must be full. For 23 it must have at least two
+/// letters.
 fn bad_move(random: &mut Random, word: &[Letter], faults: &[u8]) -> Move {
     let has = |number: u8| faults.contains(&number);
     let within = random.within(0, word.len()) as u16;
@@ -219,7 +220,7 @@ fn bad_move(random: &mut Random, word: &[Letter], faults: &[u8]) -> Move {
     Move { place: within, kind: insertion(random) }
 }
 
-/// Adds insertions until the word has so many letters at least.
+/// Adds insertions until the word has at least `letters` letters.
 fn grow(random: &mut Random, mut walk: Walk, letters: usize) -> Walk {
     while walk.word.len() < letters {
         let step = Move { place: random.within(0, walk.word.len()) as u16, kind: insertion(random) };
@@ -229,7 +230,7 @@ fn grow(random: &mut Random, mut walk: Walk, letters: usize) -> Walk {
     walk
 }
 
-/// A walk after which a move with these faults can be tried, if there are such faults.
+/// A walk after which the word is long enough for a move with these faults.
 fn prepared(random: &mut Random, codes: &[u8], moves: usize, faults: &[u8]) -> Walk {
     let walk = random.walk(codes, moves);
     let letters = [(24, MOST_LETTERS - 1), (23, 2)];
@@ -237,13 +238,13 @@ fn prepared(random: &mut Random, codes: &[u8], moves: usize, faults: &[u8]) -> W
     grow(random, walk, needed.map_or(0, |(_, letters)| *letters))
 }
 
-/// Any moves, which come too late to matter.
+/// Random moves after a refused move. They do not change the answer.
 fn tail(random: &mut Random) -> Vec<Move> {
     let count = random.below(4);
     (0..count).map(|_| Move { place: random.below(0x1_0000) as u16, kind: random.byte() }).collect()
 }
 
-/// A list of moves for the word with these codes. Faults: 18 to 24. A list without faults is accepted on it.
+/// A list of moves for the word with these codes. Faults: 18 to 24. A list without faults is accepted for this word.
 fn moves(random: &mut Random, codes: &[u8], count: usize, faults: &[u8]) -> Vec<u8> {
     let Walk { mut moves, word } = prepared(random, codes, count, faults);
     if faults.iter().any(|fault| (21..=24).contains(fault)) {
@@ -254,7 +255,7 @@ fn moves(random: &mut Random, codes: &[u8], count: usize, faults: &[u8]) -> Vec<
     spoiled(random, move_list(&moves), faults)
 }
 
-/// The list with faults of its own: 18, 19, 20.
+/// The list with faults in its form: 18, 19, 20.
 fn spoiled(random: &mut Random, mut list: Vec<u8>, faults: &[u8]) -> Vec<u8> {
     if faults.contains(&19) {
         let any = random.within(MOST_MOVES + 1, 0xFFFF) as u16;

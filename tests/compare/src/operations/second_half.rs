@@ -22,7 +22,7 @@ impl Operation for SecondHalf {
         Facts { over: Over::Named, share: 6, ..facts }
     }
 
-    /// A half that the word signs, made of a key or freely, and then changed by the faults.
+    /// A half from a key or a random half. The word reaches its target. Then the faults are put in.
     fn make(&self, maker: &mut Maker, field: Field, faults: &[u8], size: Size) -> Option<Parts> {
         let codes = maker.codes(size);
         let mut half = if maker.random.one_in(3) {
@@ -48,9 +48,9 @@ impl Operation for SecondHalf {
         [turned(), of_zeros(), of_no_key(), refusals()].into_iter().flatten().collect()
     }
 
-    /// Without a word: each number as an entry of either matrix and as a T-value, and matrices with an inverse and
-    /// without one. The half's questions come first, and 9 says that it passes them. Then an accepted half with its
-    /// word under the other field.
+    /// Each number as an entry of either matrix and as a T-value, and matrices with and without an inverse. These have
+    /// no word: the half's questions come first, so answer 9 says that the half passes them. Then an accepted half with
+    /// its word over each field.
     fn small(&self, run: &mut Run) -> Checked {
         for field in Field::BOTH {
             for number in 0..=255 {
@@ -70,7 +70,7 @@ impl Operation for SecondHalf {
         Ok(())
     }
 
-    /// An accepted half is solved again for plainer parts and fewer letters.
+    /// Replaces an accepted half by one with plainer parts and fewer letters, with a new target for them.
     fn shrunk(&self, shrinker: &Shrinker, input: Input) -> Input {
         if self.call(By::Reference, &input).answer != 0 {
             return input;
@@ -98,12 +98,12 @@ impl Operation for SecondHalf {
 }
 
 impl SecondHalf {
-    /// A half, whose field is named beside, and a word.
+    /// The parts of a half and a word. The field is named separately.
     pub fn parts(half: &Half, word: Vec<u8>) -> Parts {
         [half_parts(half), vec![word]].concat()
     }
 
-    /// A number as an entry off the diagonal of the identity, in either place, and as a T-value.
+    /// A number as an entry off the diagonal of either matrix, which is the identity otherwise, and as a T-value.
     fn number(&self, run: &mut Run, field: Field, number: u8) -> Checked {
         let random = &mut run.maker.random;
         let (row, column) = files::two_places(random);
@@ -123,7 +123,7 @@ impl SecondHalf {
     }
 }
 
-/// The half that an input hands in.
+/// The half of an input.
 fn half_of(input: &Input) -> Half {
     let pair = pair_with(input.array(1), input.array(2));
     Half { field: input.named, t_values: input.array(0), pair, target: input.array(3) }
@@ -134,14 +134,15 @@ fn signed_by(half: Half, codes: &[u8]) -> Half {
     Half { target: carried(half.field, &half.pair, &half.t_values, codes).matrix, ..half }
 }
 
-/// A half that no key needs to have: any T-values but zero, and a matrix of any shape with an inverse.
+/// A random half, which need not come from a key: any T-values but zero, and any matrix with an inverse. The letters
+/// reach its target.
 fn free(random: &mut Random, field: Field, codes: &[u8]) -> Half {
     let pair = Pair::of(random.invertible_matrix(field), random.labels());
     signed_by(Half { field, t_values: random.t_values(field), pair, target: one() }, codes)
 }
 
-/// Puts faults into a half: 14 into the target as it is, 26 into whole matrices, then 17, 4 and 6, such that all of
-/// them stay.
+/// Puts faults into a half, in an order and at places such that all of them remain. 14 changes an entry of the target,
+/// and 26 replaces whole matrices. 17, 4 and 6 change single numbers.
 fn spoil(random: &mut Random, half: &mut Half, faults: &[u8]) {
     if faults.contains(&14) {
         change_target(random, half);
@@ -168,7 +169,7 @@ fn spoil(random: &mut Random, half: &mut Half, faults: &[u8]) {
     }
 }
 
-/// Changes an entry of a target with an inverse such that it keeps one.
+/// Changes an entry of a target with an inverse. The new target has an inverse too.
 fn change_target(random: &mut Random, half: &mut Half) {
     let before = half.target;
     while half.target == before || !is_invertible(half.field, &half.target) {
@@ -181,8 +182,8 @@ fn case(name: &str, t_values: &[u8], matrix: &[u8], lists: &[u8], target: &[u8],
     Fixed::of(&SecondHalf, name, &[t_values, matrix, lists, target, word])
 }
 
-/// b2 under the list 7 to 0, as the multiplier has it, over either field. Neither matrix reaches the other the other
-/// way round: row 2, column 1 then has 6 + 6 × 6, where 6 × 6 = 20, and not 0.
+/// b2 under the list 7 to 0, as in the cases of `multiply`, over either field. With the two matrices exchanged the word
+/// does not reach the target: row 2, column 1 then has 6 + 6 × 6, where 6 × 6 = 20, and not 0.
 fn turned() -> Vec<Fixed> {
     let mut cases = Vec::new();
     for (field, entry, row) in
@@ -200,15 +201,15 @@ fn turned() -> Vec<Fixed> {
     cases
 }
 
-/// A word under the half of the plain key over a field and zero bytes.
+/// A word under the half of the plain key over a field and a digest of zeros.
 fn for_zeros(field: Field, name: &str, word: &[u8]) -> Fixed {
     let [a, b, c] = zeros_reach(field);
     let target = with_row(identity(), 7, [0, 0, 0, 0, 0, a, b, c]);
     case(name, &T_VALUES, &identity(), &LISTS, &target, word)
 }
 
-/// b7 as often as the verdict has it, and less often: 64 letters have 18^32 = 18 at row 7, column 7. The half of the
-/// larger field has numbers that are no elements of the smaller.
+/// b7 as often as in the cases of `verify`, and half as often. 64 letters have 18^32 = 18 in row 7, column 7. The
+/// target of the larger field has numbers that are not elements of the smaller.
 fn of_zeros() -> Vec<Fixed> {
     let (small, large) = (Field::Gf32, Field::Gf256);
     vec![
@@ -222,9 +223,9 @@ fn of_zeros() -> Vec<Fixed> {
     ]
 }
 
-/// There is no question 5: with T-value 3 at label 0, b1 has 3, 1 in row 1. Row 8 may hold anything: 5 in column 3 goes
-/// by b3, of T-value 2, to 10, 10, 5 in columns 2 to 4. b3⁻¹ has 1, 1/3, 1/3 in row 3, and 1/3 is 28 over the smaller
-/// field and 244 over the larger: the field that is named is the one that counts.
+/// Question 5 is not asked of a half: with T-value 3 at label 0, b1 has 3, 1 in row 1. Row 8 may hold any elements: b3
+/// with T-value 2 turns a 5 in column 3 into 10, 10, 5 in columns 2 to 4. The named field decides: b3⁻¹ has 1, 1/3, 1/3
+/// in row 3, and 1/3 is 28 over the smaller field and 244 over the larger.
 fn of_no_key() -> Vec<Fixed> {
     let good = identity();
     let first = with_row(identity(), 1, [3, 1, 0, 0, 0, 0, 0, 0]);
@@ -244,7 +245,8 @@ fn of_no_key() -> Vec<Fixed> {
     ]
 }
 
-/// The questions in their order: each fault with all that come after it, the word's before 14.
+/// The questions in their order. Each faulty half also has the faults of later questions. The word's questions come
+/// before 14.
 fn refusals() -> Vec<Fixed> {
     let (good, zeros, none, unlisted) = (identity(), [0; 64], [0; 8], [0; 16]);
     let edge = [&good[..63], &[32]].concat();

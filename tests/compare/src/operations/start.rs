@@ -16,7 +16,7 @@ impl Operation for Start {
 
     fn call(&self, by: By, _: &Input) -> Outcome {
         let pair = match by {
-            // SAFETY: nothing passes.
+            // SAFETY: the function takes nothing.
             By::Library => pair_of(unsafe { walnut_start() }),
             By::Reference => reference::start(),
         };

@@ -1,4 +1,4 @@
-//! Storing: a word's stored form.
+//! Writes the stored form of a word.
 
 use reference::stored::MOST_STORED;
 
@@ -42,7 +42,8 @@ impl Operation for Store {
     }
 }
 
-/// Words and their stored forms, worked out by hand from request §6: the name, the word and the stored form.
+/// Words and their stored forms, worked out by hand from document 02, section 6: the name, the word and the stored
+/// form.
 pub fn typed_pairs() -> Vec<(&'static str, Vec<u8>, Vec<u8>)> {
     let mut pairs = [
         // signs 0100101 and a zero bit; generators 000 001 010 011 100 101 110 and three zero bits
@@ -56,7 +57,7 @@ pub fn typed_pairs() -> Vec<(&'static str, Vec<u8>, Vec<u8>)> {
     ]
     .map(|(name, word, form)| (name, hex(word), hex(form)))
     .to_vec();
-    // of b1 both rows are zeros
+    // the sign and the generator of b1 are zeros
     let longest = words_of_b1().pop().expect("there are words of b1").1;
     pairs.push(("10,000 letters", longest, [hex("27 10 04 E2 0E A6"), vec![0; 5_000]].concat()));
     pairs

@@ -18,8 +18,8 @@ impl Operation for Verify {
         Facts { over: Over::Key, share: 4, ..facts }
     }
 
-    /// Without faults a slip that is accepted, and with 14 alone one whose second matrix has a wrong bit, so that the
-    /// matrices differ.
+    /// Without faults an accepted slip. With fault 14 alone, an accepted slip with one bit of the second matrix
+    /// flipped. With other faults mostly a random key, digest and word.
     fn make(&self, maker: &mut Maker, field: Field, faults: &[u8], size: Size) -> Option<Parts> {
         let codes = maker.codes(size);
         let mut slip = if faults.is_empty() || faults == [14] || maker.random.one_in(20) {
@@ -51,10 +51,10 @@ impl Operation for Verify {
         })
     }
 
-    /// Under the large plain key 64 zero bytes are b7, 256 times. b7's two T-values have the product 6 × 7 = 18, so 2 k
-    /// letters have 18^k at row 7, column 7: 128 letters, as for the digest's first half alone, or none, would need the
-    /// order of 18 to divide 64 or 128, but it divides 255, and 18 is not 1. Under permutation matrices the empty word
-    /// is no signature: letters b7 change row 7 alone, and the two matrices differ in row 1.
+    /// The braid of 64 zero bytes is b7, 256 times. The T-values of b7 are 6 and 7, and 6 × 7 = 18. So 2 k letters have
+    /// 18^k in row 7, column 7. For 128 letters, or for none, the order of 18 would have to divide 64 or 128. But it
+    /// divides 255, and 18 is not 1. Under permutation matrices the empty word gets 14: letters b7 change only row 7,
+    /// and the two matrices differ in row 1.
     fn fixed(&self) -> Vec<Fixed> {
         let [small, large] = Field::BOTH.map(keys::plain);
         let judge = |name: &str, key: &[u8], digest: &[u8], word: &[u8]| {
@@ -81,7 +81,7 @@ impl Operation for Verify {
         cases
     }
 
-    /// Digests of each length, with a key: the one that goes with it alone is accepted.
+    /// Digests of each length with an accepted key and word. Only the length that goes with the key is accepted.
     fn small(&self, run: &mut Run) -> Checked {
         for field in Field::BOTH {
             let codes = run.maker.random.tangled_word(5);
@@ -96,7 +96,8 @@ impl Operation for Verify {
         Ok(())
     }
 
-    /// An accepted slip is solved again for a plainer key, a digest of zeros and fewer letters.
+    /// Replaces an accepted slip by one with a plainer key, a digest of zeros and fewer letters, and solves it for a
+    /// new second matrix.
     fn shrunk(&self, shrinker: &Shrinker, input: Input) -> Input {
         let Some(mut source) = Source::of(&input) else { return input };
         let plainer: [fn(&Source) -> Source; 3] = [
@@ -118,9 +119,9 @@ impl Operation for Verify {
     }
 }
 
-/// Words before b7 repeated, which is accepted alone (document 02, section 12). b1 b1 cloaks for 0 to 7. After b2 the
-/// list is 0 2 1 3 to 7, and the T-values at positions 1 and 2 are 1 and 2. There b1 b1 does not cloak. b1, 62 times,
-/// does over 32 elements, where 2^31 = 1, but not over 256, where 2 has the order 255.
+/// Words inserted before b7 repeated, which is accepted alone (document 02, section 12). b1 b1 cloaks for 0 to 7. After
+/// b2 the list is 0 2 1 3 to 7, and the T-values at positions 1 and 2 are 1 and 2. b1 b1 does not cloak for this list.
+/// 62 letters b1 cloak for it over 32 elements, where 2^31 = 1, but not over 256, where 2 has the order 255.
 fn insertions() -> Vec<Fixed> {
     let many = format!("10 {}09", "00 ".repeat(30));
     let fronts = [
@@ -141,7 +142,7 @@ fn insertions() -> Vec<Fixed> {
     cases
 }
 
-/// Turns one bit of the second matrix of a key file without faults round, such that it keeps an inverse.
+/// Flips one bit of the second matrix of an accepted key file. The new matrix has an inverse too.
 pub fn flip_second_matrix(random: &mut Random, field: Field, file: &mut [u8]) {
     let second = &layout(field).second;
     loop {
@@ -154,7 +155,7 @@ pub fn flip_second_matrix(random: &mut Random, field: Field, file: &mut [u8]) {
     }
 }
 
-/// What a slip is solved from.
+/// The parts of an accepted slip, without the second matrix, which is solved for.
 #[derive(Clone)]
 struct Source {
     field: Field,
@@ -165,7 +166,7 @@ struct Source {
 }
 
 impl Source {
-    /// The source of an input that is accepted; none otherwise.
+    /// The source of an accepted input. `None` if the input is refused.
     fn of(input: &Input) -> Option<Source> {
         let [file, digest, word] = input.slices();
         if verify(file, digest, word) != 0 {
@@ -176,14 +177,14 @@ impl Source {
         Some(Source { field: key.field, t_values: key.t_values, pair: key.pair, digest, codes })
     }
 
-    /// The accepted slip in the place of the input's.
+    /// The input with its slip replaced by the accepted slip of this source.
     fn solved(&self, input: &Input) -> Input {
         let slip = accepted_slip(self.field, &self.t_values, &self.pair, &self.digest, &self.codes);
         Input { parts: vec![slip.key, slip.digest, slip.word], ..input.clone() }
     }
 }
 
-/// The number of bytes, then their sum.
+/// The size of an input: the number of its bytes, then their sum.
 fn weight(input: &Input) -> (usize, usize) {
     let bytes = || input.parts.iter().flatten();
     (bytes().count(), bytes().map(|byte| usize::from(*byte)).sum())

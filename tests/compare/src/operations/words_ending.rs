@@ -6,7 +6,7 @@ use crate::operation::prelude::*;
 
 pub struct WordsEnding;
 
-/// The length as eight bytes, high first, so that every `size_t` can be written.
+/// The length as eight bytes, high byte first, so that it can be any `size_t`.
 const LENGTH: Part = Part { name: "length", form: Form::Fixed(8) };
 
 const ENDED: Part = Part { name: "list", form: Form::Bytes };
@@ -17,7 +17,7 @@ impl Operation for WordsEnding {
         Facts { numbers: &["words"], ..facts }
     }
 
-    /// For 35 a length over 12, a label over 3, one twice, one too few or one too many.
+    /// Fault 35 is a length above 12, a label above 3, a label twice, too few labels or too many.
     fn make(&self, maker: &mut Maker, _: Field, faults: &[u8], _: Size) -> Option<Parts> {
         let random = &mut maker.random;
         let (mut length, mut labels) = (random.within(0, 12), lists()[random.below(24)].to_vec());
@@ -49,8 +49,8 @@ impl Operation for WordsEnding {
         by_hand().into_iter().chain(refusals()).collect()
     }
 
-    /// Each length up to 20 with each list of four labels up to 4, and each of up to two; so all 24 lists with all 13
-    /// lengths are among them.
+    /// Each length up to 20 with each list of four labels from 0 to 4, and with each list of at most two. So all 24
+    /// lists with all 13 lengths are among them.
     fn small(&self, run: &mut Run) -> Checked {
         let four = (0..625).map(|n| vec![n / 125, n / 25 % 5, n / 5 % 5, n % 5]);
         let fewer = (0..25).flat_map(|n| [vec![], vec![n / 5], vec![n / 5, n % 5]]);
@@ -71,7 +71,7 @@ fn case(length: usize, labels: &[u8]) -> Fixed {
     Fixed::of(&WordsEnding, &format!("length {length}, list {labels:?}"), &[&length.to_be_bytes(), labels])
 }
 
-/// Document 02's 12 and the other words of two letters, the six words of one letter, and the word without letters.
+/// Words of two letters (document 02 gives the number 12), words of one letter, and the word without letters.
 fn by_hand() -> Vec<Fixed> {
     let two = [
         ([0, 1, 2, 3], 12),

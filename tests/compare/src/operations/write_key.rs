@@ -56,9 +56,9 @@ impl Operation for WriteKey {
         accepted.chain(without_room()).chain(refusals()).chain(without_inverse()).collect()
     }
 
-    /// Each number as an entry and as a T-value: no element from 32 on in the smaller field, and always one in the
-    /// larger. A T-value is not 0. The matrices are the identity with the number at a place above the diagonal, so that
-    /// they have an inverse. Then matrices with an inverse and without one.
+    /// Each number as an entry and as a T-value. Numbers from 32 on are elements only of the larger field. A T-value is
+    /// not 0. The matrices are the identity with the number above the diagonal, so they have an inverse. Then matrices
+    /// with and without an inverse.
     fn small(&self, run: &mut Run) -> Checked {
         for field in Field::BOTH {
             for number in 0..=255 {
@@ -111,7 +111,7 @@ fn without_room() -> Vec<Fixed> {
     ]
 }
 
-/// The questions in their order: matrices of zeros, or entries over 31, with another fault.
+/// The questions in their order. Matrices of zeros, which have no inverse, come with an earlier fault.
 fn refusals() -> Vec<Fixed> {
     let (t_values, zeros) = (T_VALUES, [0; 57]);
     let (good, high) =
@@ -129,9 +129,9 @@ fn refusals() -> Vec<Fixed> {
     ]
 }
 
-/// Matrices without an inverse, first, second and in both places: all zeros; row 8 has no entry; two rows are equal; a
-/// row is the sum of two others; row 2 is 16 times row 1, since 16 × 2 = 5; row 1 is 3 times row 2, since 3 × 28 = 1.
-/// Over the larger field rows 1 2 and 128 29 have the determinant 29 + 2 × 128 = 0.
+/// Matrices without an inverse, as the first, as the second, and as both: all zeros; row 8 zero; two equal rows; a row
+/// that is the sum of two others; row 2 = 16 times row 1, since 16 × 2 = 5; row 1 = 3 times row 2, since 3 × 28 = 1.
+/// Over the larger field the rows 1 2 and 128 29 have the determinant 29 + 2 × 128 = 0.
 fn without_inverse() -> Vec<Fixed> {
     let good = entries(&identity());
     let mut cases = Vec::new();

@@ -56,7 +56,7 @@ impl Operation for WriteWord {
         cases
     }
 
-    /// Each byte as a code.
+    /// Every byte as a code.
     fn small(&self, run: &mut Run) -> Checked {
         for byte in 0..=255 {
             let expected = if is_letter(byte) { 0 } else { 12 };
