@@ -109,7 +109,7 @@ shorten_all() {
         say "'$key' is not a readable file: correct the name, or fetch the key again"
         exit 1
     fi
-    need programs
+    need new_word
     local names=() each
     while IFS= read -r -d '' each; do
         names+=("$each")

@@ -1,8 +1,6 @@
-// Reads the desk's input and writes its lines. `desk_line`, `desk_crossings` and `desk_spread` decide what is written,
-// also if an input could not be read.
+// Reads a slip and writes its line. `desk_line` decides what is written, also if an input could not be read.
 use desk_line::Got;
 use desk_line::Line;
-use desk_text::Text;
 use libc::STDERR_FILENO;
 use libc::STDIN_FILENO;
 use libc::STDOUT_FILENO;
@@ -14,7 +12,7 @@ ghost use Rattle.io.specs.Counts.{Counts};
 ghost use Rattle.desk_line.specs.Desk.{GotOf};
 
 // Writes bytes to standard output, or says that it cannot.
-fn say(bytes: &[u8]) {
+pub fn say(bytes: &[u8]) {
     if !io::write_all(STDOUT_FILENO, bytes) {
         os::fail(b"standard output");
     }
@@ -38,7 +36,7 @@ fn unread(path: &[u8]) -> Got
 }
 
 // Reads an open file into `buf`, until the buffer is full or the file ends.
-fn fill(fd: i32, path: &[u8], buf: &mut [u8]) -> Got
+pub fn fill(fd: i32, path: &[u8], buf: &mut [u8]) -> Got
     ensures { λ r. ⌜ GotOf (length (now (buf .exit))) r ⌝ }
 {
     let mut n = 0;
@@ -139,65 +137,5 @@ pub fn desk() {
         desk_copies(n);
     } else {
         misused(b"desk takes names of files, key, digest and one or more signatures, or none\n");
-    }
-}
-
-// Writes a text of several lines.
-fn tell_text(t: Text)
-    requires { ⌜ Counts (t .bytes) (t .text) ⌝ }
-{
-    let text = t.text;
-    let n = t.bytes;
-    say(&text[..n]);
-}
-
-// Lists the crossings of the word on standard input.
-fn crossings_input() {
-    let mut input = [0u8; desk_crossings::WORD_ROOM];
-    let got = fill(STDIN_FILENO, b"standard input", &mut input);
-    tell_text(desk_crossings::word_text(&input, got));
-}
-
-// Lists the crossings of the word in the file that the argument names.
-fn crossings_file() {
-    let mut input = [0u8; desk_crossings::WORD_ROOM];
-    let got = file(1, &mut input);
-    tell_text(desk_crossings::word_text(&input, got));
-}
-
-// The program that lists crossings. Without arguments it takes the word on standard input, and with a name the word in
-// that file.
-pub fn crossings() {
-    let n = os::arg_count();
-    if n < 2 {
-        crossings_input();
-    } else if n == 2 {
-        crossings_file();
-    } else {
-        misused(b"crossings takes the name of a file, the word, or none\n");
-    }
-}
-
-// How words of the usual length spread.
-fn spread_usual() {
-    tell_text(desk_spread::usual_text());
-}
-
-// How words of the length that the argument writes spread. An argument that is longer than the buffer counts as empty.
-fn spread_length() {
-    let mut argument = io::buffer();
-    let n = os::arg(1, &mut argument);
-    tell_text(desk_spread::argument_text(&argument[..n]));
-}
-
-// The program that prints how words spread: without arguments of the usual length, and with a length of that one.
-pub fn spread() {
-    let n = os::arg_count();
-    if n < 2 {
-        spread_usual();
-    } else if n == 2 {
-        spread_length();
-    } else {
-        misused(b"spread takes a length, 0 to 12, or none\n");
     }
 }
