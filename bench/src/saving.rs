@@ -1,8 +1,10 @@
-//! How much shortening saves, and how long it takes: for each class of words the library at several efforts beside
-//! plain C of the same search, and beside other ways to shorten a word.
+//! How many letters shortening saves, and how long it takes. For each class of words the program measures the library
+//! at several efforts, the same search in plain C, and other ways to shorten a word.
 //!
-//! `bench saving` prints a line for each class and way: class, way, effort, letters before and after, microseconds a
-//! word of the library, and of plain C where there is one (0 where there is none). `bench/picture` draws these lines.
+//! `bench saving` prints a line for each class and way. A line has the class, the way, the effort, the mean number of
+//! letters before and after, and the mean microseconds for a word of the library and of plain C. The last number is 0
+//! if plain C does not have the way. Lines of random turns have the time of the turns in place of the library's.
+//! `bench/picture` draws these lines.
 
 use std::hint::black_box;
 use std::time::{Duration, Instant};
@@ -14,21 +16,22 @@ use walnut::WORD_BYTES;
 use crate::plain_c;
 use crate::turns::turned;
 
-/// The efforts that are measured.
+/// The efforts of arcs.
 const EFFORTS: [u16; 7] = [0, 1, 2, 5, 10, 20, 50];
 
-/// How often random turns are tried for each letter.
+/// The tries of random turns for each letter.
 const TURNS: [usize; 4] = [10, 100, 1_000, 10_000];
 
-/// The rounds for a word: the least and the most, and how long they may take between.
+/// Each word gets at least `LEAST` and at most `MOST` rounds. After the first `LEAST` rounds, another round begins only
+/// if the rounds have taken less than `LONG` together.
 const LEAST: usize = 5;
 const MOST: usize = 50;
 const LONG: Duration = Duration::from_millis(100);
 
-/// The letters of the random word.
+/// The number of letters of the random word.
 const LONGEST: usize = 10_000;
 
-/// The largest limit of handle reduction.
+/// The most steps of handle reduction: the largest limit that it takes.
 const LIMIT: u16 = u16::MAX;
 
 /// Words of one kind.
@@ -37,10 +40,10 @@ struct Class {
     words: Vec<Vec<u8>>,
 }
 
-/// A way to shorten a word file: the bytes written, 0 on a refusal.
+/// A way to shorten a word file. It returns the number of bytes written, or 0 on a refusal.
 type Way<'a> = &'a dyn Fn(&[u8], &mut [u8]) -> usize;
 
-/// What a way makes of a word; the word itself on a refusal.
+/// The word file that a way makes from a word file. On a refusal it is the old word file.
 fn made(word: &[u8], way: impl Fn(&[u8], &mut [u8]) -> usize) -> Vec<u8> {
     let mut out = vec![0; WORD_BYTES];
     match way(word, &mut out) {
@@ -49,12 +52,12 @@ fn made(word: &[u8], way: impl Fn(&[u8], &mut [u8]) -> usize) -> Vec<u8> {
     }
 }
 
-/// Handle reduction; 0 on a refusal.
+/// Handle reduction by the library, as a [`Way`].
 fn handles(word: &[u8], out: &mut [u8]) -> usize {
     walnut::handle_reduce(word, LIMIT, out).map_or(0, |(reduced, _)| reduced.len())
 }
 
-/// So many random letters, none of which cancels the one before it.
+/// A word of `count` random letters. No letter cancels the letter before it.
 fn random_word(count: usize) -> Vec<u8> {
     let (random, mut codes) = (&mut Random::seeded(1), Vec::new());
     while codes.len() < count {
@@ -79,8 +82,8 @@ fn classes() -> [Class; 5] {
     ]
 }
 
-/// The microseconds that each way takes for a word. The ways are measured in turn, and of each word the least time
-/// counts; the mean is over the words.
+/// The mean time of each way for a word, in microseconds. The ways run in turn, round after round. For each word and
+/// way the least time of all rounds counts.
 fn times<const WAYS: usize>(words: &[Vec<u8>], ways: [Way; WAYS]) -> [f64; WAYS] {
     let (mut out, mut sums) = (vec![0; WORD_BYTES], [0.0; WAYS]);
     for word in words {
@@ -98,19 +101,19 @@ fn times<const WAYS: usize>(words: &[Vec<u8>], ways: [Way; WAYS]) -> [f64; WAYS]
     sums.map(|sum| sum * 1e6 / words.len() as f64)
 }
 
-/// The letters of all words.
+/// The number of letters of all words together.
 fn sum(words: &[Vec<u8>]) -> usize {
     words.iter().map(|word| letters(word).len()).sum()
 }
 
-/// Prints the line of a way over a class.
+/// Prints the line of a way and a class. `after` is the number of letters of all words after shortening.
 fn line(class: &Class, way: &str, effort: usize, after: usize, micros: [f64; 2]) {
     let (name, count) = (class.name, class.words.len());
     let (before, after) = (sum(&class.words) as f64 / count as f64, after as f64 / count as f64);
     println!("{name}\t{way}\t{effort}\t{before:.1}\t{after:.1}\t{:.1}\t{:.1}", micros[0], micros[1]);
 }
 
-/// A way of the library's that no C is held beside. There is no line if it refuses a word.
+/// Measures a way that only the library has, and prints its line. It prints no line if the way refuses a word.
 fn alone(class: &Class, name: &str, way: Way) {
     if class.words.iter().any(|word| way(word, &mut [0; WORD_BYTES]) == 0) {
         return;
@@ -120,7 +123,7 @@ fn alone(class: &Class, name: &str, way: Way) {
     line(class, name, 0, sum(&after), [micros, 0.0]);
 }
 
-/// Arcs at an effort; false if the library and plain C differ.
+/// Measures arcs at an effort, and prints the line. Returns false if the words of the library and of plain C differ.
 fn arcs(class: &Class, effort: u16) -> bool {
     let library =
         |word: &[u8], out: &mut [u8]| walnut::shorten(word, effort, out).map_or(0, |written| written.len());
@@ -131,7 +134,7 @@ fn arcs(class: &Class, effort: u16) -> bool {
     same
 }
 
-/// Random turns, so many for each letter, once over the words.
+/// Measures random turns with `tries` tries for each letter, and prints the line. Each word is shortened once.
 fn turns(class: &Class, tries: usize) {
     let start = Instant::now();
     let after = class.words.iter().map(|word| turned(&letters(word), tries).len()).sum();
@@ -139,7 +142,7 @@ fn turns(class: &Class, tries: usize) {
     line(class, "turns", tries, after, [micros, 0.0]);
 }
 
-/// Prints all lines; false if the library and plain C differ.
+/// Prints all lines. Returns false if the words of the library and of plain C differ.
 pub fn saving() -> bool {
     let mut same = true;
     for class in classes() {

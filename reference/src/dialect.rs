@@ -1,20 +1,20 @@
 //! The Y dialect (document 02, section 11; source 000, section 5.3.2 and Appendix A).
 //!
-//! Parts of 7 are held as the generators at which a part ends. A letter becomes the letters from its generator on, and a
-//! word is the letters of its letters. Pair replacement goes over Appendix A's relations, written as signed numbers.
+//! The code stores parts of 7 as the generators at which a part ends. It converts a word letter by letter. Pair
+//! replacement searches the relations of Appendix A, which are written as signed numbers.
 
 use crate::letter::{codes_of, letters_of, Letter};
 use crate::questions::{first_no, first_refusal, Question};
 use crate::word::{letters, room_answer, word_answer, write_file, Written, MOST_LETTERS};
 
-/// The two directions.
+/// The direction of a conversion: from Artin letters to Y letters, or back.
 #[derive(Clone, Copy, Debug, PartialEq, Eq)]
 pub enum Way {
     ToY,
     FromY,
 }
 
-/// The questions of parts of 7.
+/// The questions about parts of 7: there is a part, no part is 0, and the sum is 7.
 const PARTS: [Question<[u8]>; 3] = [
     (33, |parts| !parts.is_empty()),
     (33, |parts| !parts.contains(&0)),
@@ -35,7 +35,7 @@ pub fn inverse(word: &[Letter]) -> Vec<Letter> {
     word.iter().rev().map(|letter| letter.inverted()).collect()
 }
 
-/// What a generator becomes, by the ends of parts of 7.
+/// The word in the other dialect for a generator. `ends` has the generators at which a part ends.
 fn generator_word(way: Way, generator: usize, ends: &[usize]) -> Vec<Letter> {
     let letter = |generator| Letter { generator, inverse: false };
     let end = *ends.iter().find(|end| generator <= **end).expect("parts of 7 hold every generator");
@@ -46,7 +46,7 @@ fn generator_word(way: Way, generator: usize, ends: &[usize]) -> Vec<Letter> {
     }
 }
 
-/// A word of letters, turned into the other dialect.
+/// The word in the other dialect, not freely reduced.
 pub fn converted(way: Way, word: &[Letter], parts: &[u8]) -> Vec<Letter> {
     let ends = ends(parts);
     let mut new = Vec::new();
@@ -57,7 +57,7 @@ pub fn converted(way: Way, word: &[Letter], parts: &[u8]) -> Vec<Letter> {
     new
 }
 
-/// The answer to the question that a new word puts: 34, or 0.
+/// The answer for a new word: 34 if it has more than 10,000 letters, otherwise 0.
 fn new_answer(new: &[Letter]) -> u8 {
     first_no(&[(34, |letters: &usize| *letters <= MOST_LETTERS)], &new.len())
 }
@@ -70,7 +70,7 @@ fn write_new(new: &[Letter], out: &mut [u8]) -> Written {
     }
 }
 
-/// Turns a word into the other dialect. Answers: 15, the word's 9 to 13, 33, 34.
+/// Converts a word file to the other dialect. Answers: 15, the word's 9 to 13, 33, 34.
 pub fn convert(way: Way, word: &[u8], parts: &[u8], out: &mut [u8]) -> Written {
     match first_refusal(&[room_answer(out), word_answer(word), first_no(&PARTS, parts)]) {
         0 => write_new(&converted(way, &letters_of(&letters(word)), parts), out),
@@ -78,17 +78,17 @@ pub fn convert(way: Way, word: &[u8], parts: &[u8], out: &mut [u8]) -> Written {
     }
 }
 
-/// Artin to Y.
+/// Converts a word file from Artin letters to Y letters.
 pub fn to_y(word: &[u8], parts: &[u8], out: &mut [u8]) -> Written {
     convert(Way::ToY, word, parts, out)
 }
 
-/// Y to Artin.
+/// Converts a word file from Y letters to Artin letters.
 pub fn from_y(word: &[u8], parts: &[u8], out: &mut [u8]) -> Written {
     convert(Way::FromY, word, parts, out)
 }
 
-/// Appendix A, row by row: the numbers of the Y generators, below zero for an inverse.
+/// Appendix A, row by row: the numbers of the Y generators. A negative number is an inverse.
 pub const RELATIONS: [&str; 79] = [
     "4 7 -4 -7",
     "-7 4 7 -4",
@@ -171,7 +171,7 @@ pub const RELATIONS: [&str; 79] = [
     "5 -6 4 5 -6 -4 6 -5 -4",
 ];
 
-/// The letters of a row.
+/// The letters of a row of [`RELATIONS`].
 pub fn relation(row: &str) -> Vec<Letter> {
     let letter = |text: &str| {
         let number: isize = text.parse().expect("a signed number");
@@ -180,8 +180,9 @@ pub fn relation(row: &str) -> Vec<Letter> {
     row.split(' ').map(letter).collect()
 }
 
-/// What two letters become: the inverse of what stands before them in the first row that holds them, at the first
-/// place, and then the inverse of what stands after. None if no row holds them.
+/// The letters that replace a pair. The first row that contains the pair decides, at the first place of the pair in
+/// that row. The replacement is the inverse of the letters before the pair, then the inverse of the letters after it.
+/// The result is `None` if no row contains the pair.
 pub fn replacement(pair: &[Letter]) -> Option<Vec<Letter>> {
     RELATIONS.iter().map(|row| relation(row)).find_map(|row| {
         let place = row.windows(2).position(|two| two == pair)?;
@@ -190,7 +191,8 @@ pub fn replacement(pair: &[Letter]) -> Option<Vec<Letter>> {
     })
 }
 
-/// Replaces the pair at a place of a Y word, for parts 4 and 3. Answers: 15, the word's 9 to 13, 22, 34.
+/// Replaces the pair at a place of a Y word, for parts 4 and 3. The word stays as it is if no row of Appendix A
+/// contains the pair. Answers: 15, the word's 9 to 13, 22, 34.
 pub fn replace_pair(word: &[u8], place: usize, out: &mut [u8]) -> Written {
     let asked = first_refusal(&[room_answer(out), word_answer(word)]);
     if asked != 0 {

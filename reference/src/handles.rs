@@ -1,13 +1,13 @@
-//! Taking handles out, and the shorter of two words (document 02, section 9).
+//! Handle reduction, and the shorter of two words (document 02, section 9).
 //!
-//! Each step looks for all handles of the whole word and takes the one that ends earliest. Nothing is kept from one
-//! step to the next but the word.
+//! Each step looks for all handles of the whole word and removes the handle that ends earliest. A step keeps only the
+//! word for the next step.
 
 use crate::letter::{codes_of, letters_of, Letter};
 use crate::questions::first_refusal;
 use crate::word::{letters, room_answer, word_answer, write_file, Written, MOST_LETTERS};
 
-/// What taking handles out gives: the answer, the bytes written, and whether the new word has a handle.
+/// The result of handle reduction: the answer, the number of bytes written, and whether the new word has a handle.
 #[derive(Clone, Copy, Debug, PartialEq, Eq)]
 pub struct Handles {
     pub answer: u8,
@@ -22,8 +22,8 @@ pub struct Handle {
     pub last: usize,
 }
 
-/// The handle that begins at a place, if there is one. Between its ends stands neither b_i nor b_(i-1), so only the next
-/// letter of these two generators can end it.
+/// The handle that begins at a place, if there is one. No letter between its ends may be of the generators b_i and
+/// b_(i-1), where b_i is the generator of its ends. So only the next letter of these two generators can end it.
 fn handle_from(word: &[Letter], first: usize) -> Option<Handle> {
     let end = word[first];
     let stops = |letter: &Letter| [letter.generator, letter.generator + 1].contains(&end.generator);
@@ -36,8 +36,9 @@ pub fn all_handles(word: &[Letter]) -> impl Iterator<Item = Handle> + '_ {
     (0..word.len()).filter_map(|first| handle_from(word, first))
 }
 
-/// What stands for a letter between the ends of a handle that begins with `end`: for b_(i+1) of sign d, if `end` is b_i
-/// of sign e, it is b_(i+1) of sign -e, b_i of sign d, b_(i+1) of sign e.
+/// The letters that replace a letter between the ends of a handle. Let the handle begin with `end`, which is b_i of
+/// sign e. Three letters replace b_(i+1) of sign d: b_(i+1) of sign -e, b_i of sign d, b_(i+1) of sign e. Every other
+/// letter stays.
 fn replaced(end: Letter, letter: Letter) -> Vec<Letter> {
     let above = Letter { generator: end.generator + 1, ..end };
     if letter.generator == above.generator {
@@ -47,7 +48,7 @@ fn replaced(end: Letter, letter: Letter) -> Vec<Letter> {
     }
 }
 
-/// The word without one of its handles.
+/// The word after one step, which removes this handle.
 fn without(word: &[Letter], handle: Handle) -> Vec<Letter> {
     let between = &word[handle.first + 1..handle.last];
     let middle: Vec<Letter> =
@@ -55,7 +56,7 @@ fn without(word: &[Letter], handle: Handle) -> Vec<Letter> {
     [&word[..handle.first], &middle, &word[handle.last + 1..]].concat()
 }
 
-/// The word after at most so many steps. Nothing if a step would leave over 10,000 letters.
+/// The word after at most `limit` steps. The result is `None` if a step would leave more than 10,000 letters.
 pub fn after_steps(codes: &[u8], limit: u16) -> Option<Vec<u8>> {
     let mut word = letters_of(codes);
     for _ in 0..limit {
@@ -68,7 +69,7 @@ pub fn after_steps(codes: &[u8], limit: u16) -> Option<Vec<u8>> {
     Some(codes_of(&word))
 }
 
-/// Takes handles out of a word file, in at most so many steps. Answers: 15, the word's 9 to 13, then 32.
+/// Removes handles from a word file, in at most `limit` steps. Answers: 15, the word's 9 to 13, then 32.
 pub fn handle_reduce(word: &[u8], limit: u16, out: &mut [u8]) -> Handles {
     let refused = |answer| Handles { answer, bytes: 0, left: false };
     match first_refusal(&[room_answer(out), word_answer(word)]) {
@@ -80,14 +81,15 @@ pub fn handle_reduce(word: &[u8], limit: u16, out: &mut [u8]) -> Handles {
     }
 }
 
-/// Which of two files is the shorter: 1 for the first, 2 for the second, 0 on a refusal.
+/// The answer, and which of two files is the shorter: 1 for the first, 2 for the second, 0 on a refusal.
 #[derive(Clone, Copy, Debug, PartialEq, Eq)]
 pub struct Choice {
     pub answer: u8,
     pub which: u8,
 }
 
-/// The shorter of two word files, the first on a tie. Answers: 9 to 13 of the first, then 9 to 13 of the second.
+/// Says which of two word files has fewer bytes. On a tie it is the first. Answers: 9 to 13 of the first, then 9 to 13
+/// of the second.
 pub fn shorter(first: &[u8], second: &[u8]) -> Choice {
     match first_refusal(&[word_answer(first), word_answer(second)]) {
         0 if second.len() < first.len() => Choice { answer: 0, which: 2 },

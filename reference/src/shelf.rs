@@ -1,6 +1,6 @@
 //! The key shelf of two publishers (document 02, section 8).
 //!
-//! A shelf is a map. Publisher and key number lead to a slot, and what the map does not have is no key number. The bytes
+//! A shelf is a map from publisher and key number to a slot. Answer 30 means that the map has no such slot. The bytes
 //! of a shelf are its slots in order.
 
 use std::collections::BTreeMap;
@@ -8,13 +8,13 @@ use std::collections::BTreeMap;
 use crate::key::key_answer;
 use crate::verdict::verify;
 
-/// The bytes of a slot: the length of a key file, and room for the longest.
+/// The bytes of a slot: one for the length of a key file, and 128 for the longest key file.
 const SLOT: usize = 1 + 128;
 
-/// The bytes of a shelf.
+/// The bytes of a shelf: two publishers with four slots each.
 pub const SHELF_BYTES: usize = 8 * SLOT;
 
-/// A slot of a shelf: the length of the file, and the bytes after it.
+/// A slot of a shelf: the byte with the key file's length, and the 128 bytes after it.
 #[derive(Clone, Debug, PartialEq, Eq)]
 struct Slot {
     length: u8,
@@ -22,14 +22,15 @@ struct Slot {
 }
 
 impl Slot {
-    /// The slot of a file; without one zeros.
+    /// The slot that holds a key file, with zeros after the file. An empty file gives a slot of zeros, which holds no
+    /// key.
     fn of(file: &[u8]) -> Slot {
         let mut rest = file.to_vec();
         rest.resize(SLOT - 1, 0);
         Slot { length: file.len() as u8, rest }
     }
 
-    /// The file in it: as many bytes as it says, or all that there are.
+    /// The key file in the slot: its first `length` bytes. A length over 128 counts as 128.
     fn file(&self) -> Vec<u8> {
         self.rest.iter().copied().take(self.length.into()).collect()
     }
@@ -47,7 +48,7 @@ impl Shelf {
         Shelf(places.zip(slots).collect())
     }
 
-    /// The shelf without a key.
+    /// The shelf that holds no key.
     pub fn empty() -> Shelf {
         Shelf::of(&[0; SHELF_BYTES])
     }
@@ -56,13 +57,14 @@ impl Shelf {
         self.0.values().flat_map(|slot| [&[slot.length][..], &slot.rest].concat()).collect()
     }
 
-    /// The file under a publisher's key number, if one is held.
+    /// The key file under a publisher's key number, if there is one.
     pub fn held(&self, publisher: usize, number: usize) -> Option<Vec<u8>> {
         let file = self.0.get(&(publisher, number))?.file();
         Some(file).filter(|file| !file.is_empty())
     }
 
-    /// Loads a key under a number, in place of the one there. Answers: 30, then the key's 1 to 7 and 26.
+    /// Loads a key under a key number, and replaces the key that was there. On a refusal the shelf stays as it is.
+    /// Answers: 30, then the key's 1 to 7 and 26.
     pub fn load(&mut self, publisher: usize, number: usize, key: &[u8]) -> u8 {
         let Some(slot) = self.0.get_mut(&(publisher, number)) else { return 30 };
         let answer = key_answer(key);
@@ -72,14 +74,14 @@ impl Shelf {
         answer
     }
 
-    /// Clears a number. Answers: 30.
+    /// Removes the key under a key number. Answers: 30.
     pub fn clear(&mut self, publisher: usize, number: usize) -> u8 {
         let Some(slot) = self.0.get_mut(&(publisher, number)) else { return 30 };
         *slot = Slot::of(&[]);
         0
     }
 
-    /// Judges a slip by the key under a number. Answers: 30, 31, then those of the verdict.
+    /// Judges a slip by the key under a key number. Answers: 30, 31 if there is no key, then those of the verdict.
     pub fn judge(&self, publisher: usize, number: usize, digest: &[u8], word: &[u8]) -> u8 {
         if !self.0.contains_key(&(publisher, number)) {
             return 30;

@@ -1,20 +1,20 @@
-//! Shortening by arcs: a strand that goes over, or under, at each of its crossings along a part of the word is lifted
-//! off and laid anew by a shortest way.
+//! Shortening by arcs. An arc is a strand along a part of the word, where the strand goes over at each of its
+//! crossings, or under at each. The shortener lifts the strand off and lays it again by a shortest way.
 //!
-//! The papers do not ask for this operation. Which word it gives is left free by the proved code's contract, and this is
-//! the same search, written from its rules, so that both can be held to each other byte for byte. Here a part of the
-//! word is first split into the strand's places and the other letters' gaps, and a plan is made of these alone; words
-//! are lists that are spliced.
+//! The papers do not ask for this operation. The contract of the proved code does not say which word it returns. This
+//! module is written from the rules of the proved code's search, so that tests can compare the two words byte for byte.
+//! It first splits a part of the word into the strand's two ends and the gaps of the other letters. It makes the plan
+//! from the ends and the gaps alone. Words are lists, and the new part is spliced in.
 
 use crate::questions::first_refusal;
 use crate::reduce::cancels;
 use crate::word::{letters, room_answer, word_answer, write_file, Written, MOST_LETTERS};
 use crate::STRANDS;
 
-/// How far an arc may reach to each side of the letter that it was found at.
+/// The most letters that an arc may have on each side of the place where it was found.
 const REACH: usize = 256;
 
-/// The numbers that are drawn: the seed times this factor modulo this prime, again and again.
+/// The random numbers. Each is the number before it times `FACTOR`, modulo `PRIME`. The first comes from `SEED`.
 const SEED: usize = 1;
 const FACTOR: usize = 48_271;
 const PRIME: usize = (1 << 31) - 1;
@@ -22,7 +22,7 @@ const PRIME: usize = (1 << 31) - 1;
 /// The most steps of handle reduction.
 const HANDLE_STEPS: usize = 65_535;
 
-/// A generator's number less one.
+/// The number of a letter's generator, minus 1.
 fn generator(code: u8) -> usize {
     (code % 8).into()
 }
@@ -32,15 +32,15 @@ fn sign(code: u8) -> usize {
     (code / 8).into()
 }
 
-/// The code of a generator's letter.
+/// The code of the letter with this generator and sign.
 fn code(generator: usize, sign: usize) -> u8 {
     (generator + 8 * sign) as u8
 }
 
 // ---- Swapping and cancelling ----
 
-/// A letter goes with the letter kept before it that is its inverse, if all letters kept between the two commute with
-/// both. The latest kept letter that does not commute with it decides.
+/// The word after swaps and cancellations. A letter cancels an earlier letter that is its inverse if all letters kept
+/// between the two commute with both. The latest kept letter with the same or a neighbouring generator decides.
 pub fn swap_cancelled(codes: &[u8]) -> Vec<u8> {
     let mut kept: Vec<u8> = Vec::new();
     for &letter in codes {
@@ -57,14 +57,15 @@ pub fn swap_cancelled(codes: &[u8]) -> Vec<u8> {
 
 // ---- Arcs ----
 
-/// What is drawn for one step.
+/// The random choices for one step.
 struct Draw {
     place: usize,
-    /// The strand's sign: with 0 it goes right by positive letters and left by inverse ones, with 1 the other way round.
+    /// The strand's sign. With 0, positive letters move the strand right and inverse letters move it left. With 1,
+    /// inverse letters move it right and positive letters move it left.
     sign: usize,
-    /// Is the plan made from the strand's end, and not from its start?
+    /// Does the plan begin at the strand's end? Otherwise it begins at the strand's start.
     from_end: bool,
-    /// Does the strand give way to the left where both sides cost the same?
+    /// Does the strand go left if both sides cost the same?
     left: bool,
 }
 
@@ -75,7 +76,8 @@ impl Draw {
     }
 }
 
-/// Where a strand of a sign goes from a place by a letter; none if the strand crosses there with the other sign.
+/// The place of a strand after a letter. `strand` is the strand's sign. The result is `None` if the letter moves the
+/// strand by a crossing of the other sign.
 fn moved(place: usize, letter: u8, strand: usize) -> Option<usize> {
     if generator(letter) == place {
         (sign(letter) == strand).then_some(place + 1)
@@ -86,7 +88,8 @@ fn moved(place: usize, letter: u8, strand: usize) -> Option<usize> {
     }
 }
 
-/// How many of these letters a strand goes by from a place without a crossing of the other sign, and where it then is.
+/// Follows a strand of sign `strand` from a place along the letters, up to the first crossing of the other sign or for
+/// [`REACH`] letters. Returns the number of letters and the strand's place after them.
 fn reach<'a>(letters: impl Iterator<Item = &'a u8>, place: usize, strand: usize) -> (usize, usize) {
     let (mut count, mut place) = (0, place);
     for letter in letters.take(REACH) {
@@ -96,7 +99,8 @@ fn reach<'a>(letters: impl Iterator<Item = &'a u8>, place: usize, strand: usize)
     (count, place)
 }
 
-/// An arc: a part of the word, its strand's sign, and where the strand is before and after it.
+/// An arc: the part of the word from `from` up to `to`, the strand's sign, and the strand's places before and after the
+/// part.
 struct Arc {
     from: usize,
     to: usize,
@@ -106,7 +110,7 @@ struct Arc {
 }
 
 impl Arc {
-    /// The longest arc through the letter at the place. Backwards a strand crosses with the other sign.
+    /// The longest arc through the letter at the drawn place. Read backwards, the strand crosses with the other sign.
     fn through(word: &[u8], draw: &Draw) -> Arc {
         let (before, after) = word.split_at(draw.place);
         let letter = after[0];
@@ -117,15 +121,15 @@ impl Arc {
     }
 }
 
-/// A letter of an arc that is not the strand's own: the gap, which is the place between its two strands where the arc's
-/// strand cannot be, and its sign.
+/// A letter of an arc that does not cross the arc's strand. Its gap is the place between its own two strands. The arc's
+/// strand cannot be at the gap.
 #[derive(Clone, Copy)]
 struct Other {
     gap: usize,
     sign: usize,
 }
 
-/// The letters of a part that are not the strand's own, where the strand begins at a place.
+/// The letters of a part that do not cross the strand. The strand begins at the place `start`.
 fn others(part: &[u8], start: usize) -> Vec<Other> {
     let mut place = start;
     let mut others = Vec::new();
@@ -143,8 +147,9 @@ fn others(part: &[u8], start: usize) -> Vec<Other> {
     others
 }
 
-/// Where the new strand is at each of the other letters: a cheapest way from `near` to `far`, which gives way only at a
-/// gap, to the side from which less is still to come. The letters are in the order from near to far.
+/// The new strand's place at each of the other letters, along a cheapest way from `near` to `far`. The strand moves
+/// only if it stands at a letter's gap. It then goes to the side from which the rest of the way costs less. The letters
+/// are in the order from `near` to `far`.
 fn plan(others: &[Other], near: usize, far: usize, left_on_tie: bool) -> Vec<usize> {
     let mut costs: Vec<usize> = (0..STRANDS).map(|place| place.abs_diff(far)).collect();
     let mut sides = Vec::new();
@@ -165,7 +170,7 @@ fn plan(others: &[Other], near: usize, far: usize, left_on_tie: bool) -> Vec<usi
     places
 }
 
-/// The letters of a strand of a sign that goes from one place to another.
+/// The letters that move a strand from one place to another. `strand` is the strand's sign.
 fn run(from: usize, to: usize, strand: usize) -> Vec<u8> {
     if from <= to {
         (from..to).map(|place| code(place, strand)).collect()
@@ -174,7 +179,7 @@ fn run(from: usize, to: usize, strand: usize) -> Vec<u8> {
     }
 }
 
-/// The part laid anew along a plan.
+/// The new part, in which the strand follows a plan. `places` is the plan: the strand's place at each other letter.
 fn laid(arc: &Arc, others: &[Other], places: &[usize]) -> Vec<u8> {
     let (mut part, mut strand) = (Vec::new(), arc.start);
     for (other, &place) in others.iter().zip(places) {
@@ -187,7 +192,7 @@ fn laid(arc: &Arc, others: &[Other], places: &[usize]) -> Vec<u8> {
     part
 }
 
-/// One step: an arc is found and laid anew. A longer part is not taken.
+/// One step: finds an arc and lays its strand again. The word stays as it is if the new part would be longer.
 fn step(word: &mut Vec<u8>, draw: &Draw) {
     let arc = Arc::through(word, draw);
     let mut others = others(&word[arc.from..arc.to], arc.start);
@@ -206,7 +211,7 @@ fn step(word: &mut Vec<u8>, draw: &Draw) {
     }
 }
 
-/// So many steps for each letter.
+/// The word after `effort` steps for each letter of `codes`.
 pub fn with_arcs(codes: &[u8], effort: u16) -> Vec<u8> {
     let (mut word, mut number) = (codes.to_vec(), SEED);
     for _ in 0..usize::from(effort) * codes.len() {
@@ -222,14 +227,15 @@ pub fn with_arcs(codes: &[u8], effort: u16) -> Vec<u8> {
 
 // ---- The operation ----
 
-/// Arcs on a word in which letters have swapped and cancelled, and swapping and cancelling again.
+/// Applies arcs to a word that [`swap_cancelled`] returned, and then swaps and cancels again.
 fn route(cancelled: &[u8], effort: u16) -> Vec<u8> {
     swap_cancelled(&with_arcs(cancelled, effort))
 }
 
-/// Two words may be given, and the shorter one is: the word's own route, and the route of the word without handles. The
-/// second is tried where there is an effort, handle reduction does not refuse the word, and fewer letters are left of it
-/// before arcs. The first is given on a tie.
+/// The shorter of two words. The first is the route of the word itself. The second is the route of the word after
+/// handle reduction. On a tie the result is the first. The second is tried only if the effort is not 0, handle
+/// reduction does not refuse the word, and its word has fewer letters than the word itself, both after swaps and
+/// cancellations.
 pub fn shortened(codes: &[u8], effort: u16) -> Vec<u8> {
     let own = swap_cancelled(codes);
     let first = route(&own, effort);
@@ -249,8 +255,9 @@ pub fn shorten(word: &[u8], effort: u16, out: &mut [u8]) -> Written {
     }
 }
 
-/// The word after at most 65,535 steps of handle reduction; none if a step leaves over 10,000 letters. The front has no
-/// handle. The rest is read from its last letter, which is the next one.
+/// The word after at most 65,535 steps of handle reduction. The result is `None` if a step leaves more than 10,000
+/// letters. `front` has the letters already read, and has no handle while steps are left. `rest` has the letters still
+/// to read in reverse order: its last letter is the next one.
 pub fn without_handles(codes: &[u8]) -> Option<Vec<u8>> {
     let (mut front, mut rest): (Vec<u8>, Vec<u8>) = (Vec::new(), codes.iter().rev().copied().collect());
     let mut steps = 0;
@@ -274,8 +281,8 @@ pub fn without_handles(codes: &[u8]) -> Option<Vec<u8>> {
     Some(front)
 }
 
-/// What a handle becomes, of its first letter and the letters between: each letter of the next generator is turned, and
-/// the others stay.
+/// The letters that replace a handle. `handle` has its first letter and the letters between its ends. Three letters
+/// replace each letter of the next generator. Every other letter between the ends stays.
 fn conjugated(handle: &[u8]) -> Vec<u8> {
     let (first, between) = (handle[0], &handle[1..]);
     let next = first + 1;

@@ -1,6 +1,6 @@
-//! What tests need: a small generator of numbers and of what they are made of ([`Random`]), matrices with an inverse
-//! and without one ([`matrices`]), slips that the verdict accepts ([`slips`]), move lists that the rewriter accepts
-//! ([`walks`]), words that cloak ([`cloaks`]), words to shorten ([`braids`]), and parts of a number ([`parts`]).
+//! Inputs for tests: random numbers, words and pairs ([`Random`]), matrices with an inverse and without one
+//! ([`matrices`]), slips that the verdict accepts ([`slips`]), move lists that the rewriter accepts ([`walks`]), words
+//! that cloak ([`cloaks`]), words to shorten ([`braids`]), and parts of a number ([`parts`]).
 
 pub mod braids;
 pub mod cloaks;

@@ -1,5 +1,5 @@
-//! The Y dialect (document 02, section 11). What is expected is worked out by hand from the request's text and from
-//! source 000, with the reasoning written beside it; none of it was computed by the code under test.
+//! The Y dialect (document 02, section 11). The expected values are worked out by hand from the request's text and from
+//! source 000, with the reasoning beside them. The code under test computed none of them.
 
 mod common;
 
@@ -24,7 +24,7 @@ const PAIRS: [(&str, &str); 6] = [
     ("00 01 E0", "00 01 E0"),
     // b2⁻¹ is the inverse of y2 y3⁻¹: y3 y2⁻¹
     ("00 01 90", "00 02 29"),
-    // b1 b2 is y1 y2⁻¹ y2 y3⁻¹, not reduced
+    // b1 b2 is y1 y2⁻¹ y2 y3⁻¹, which is not freely reduced
     ("00 02 01", "00 04 09 1A"),
 ];
 
@@ -48,9 +48,9 @@ fn y_to_artin() {
     for (y, artin) in pairs {
         assert_eq!(output(|out| from_y(&hex(y), &[4, 3], out)), hex(artin), "{y}");
     }
-    // seven parts of one: every generator ends its part
+    // seven parts of 1: every generator ends its part
     assert_eq!(output(|out| from_y(&hex("00 03 0A 60"), &[1; 7], out)), hex("00 03 0A 60"));
-    // one part of seven: y7⁻¹ is b7⁻¹, and y6 is b6 b7
+    // one part of 7: y7⁻¹ is b7⁻¹, and y6 is b6 b7
     assert_eq!(output(|out| from_y(&hex("00 02 E5"), &[7], out)), hex("00 03 E5 60"));
 }
 
@@ -62,7 +62,7 @@ fn refusals() {
         refuses(33, 5_002, |out| from_y(&[0, 0], parts, out));
     }
     refuses(15, 5_001, |out| to_y(&[], &[], out));
-    // the word is asked before the parts, and the parts before the letters
+    // the word is checked before the parts, and the parts before the number of new letters
     refuses(9, 5_002, |out| to_y(&[], &[], out));
     refuses(33, 5_002, |out| to_y(&file(&[0; 10_000]), &[], out));
     refuses(34, 5_002, |out| to_y(&file(&[0; 5_001]), &[4, 3], out));
@@ -70,7 +70,8 @@ fn refusals() {
     refuses(34, 5_002, |out| from_y(&file(&[0; 2_501]), &[4, 3], out));
 }
 
-/// There and back, freely reduced, over every composition of 7, both ways.
+/// A word converted to the other dialect and back is the same word after free reduction. The test starts from both
+/// dialects and uses every composition of 7.
 #[test]
 fn there_and_back() {
     let mut random = Random::seeded(11);
@@ -108,7 +109,7 @@ fn printed(line: &str) -> Vec<Letter> {
         .collect()
 }
 
-/// The source's own lines.
+/// The rows of the source's Appendix A.
 fn source() -> Vec<Vec<Letter>> {
     let text = repository("reference/tests/appendix-a.txt");
     text.lines().filter(|line| !line.starts_with('#')).map(printed).collect()
@@ -122,7 +123,7 @@ fn this_table_is_the_sources() {
     assert_eq!(counts, [3, 22, 21, 30, 3]);
 }
 
-/// The library's table, and the list of its definitions, row by row.
+/// The library's table and the list in the library's definitions have the rows of the source.
 #[test]
 fn the_librarys_tables_are_the_sources() {
     let code = repository("crates/word_replacement/src/lib.rt");
@@ -152,7 +153,7 @@ fn the_librarys_tables_are_the_sources() {
     assert_eq!(rows, source());
 }
 
-/// Every row, turned into Artin letters, carries pairs to themselves in both fields.
+/// Every row, converted to Artin letters, carries every pair to itself over both fields.
 #[test]
 fn every_row_is_kept() {
     let mut random = Random::seeded(3);
@@ -169,13 +170,14 @@ fn every_row_is_kept() {
 
 #[test]
 fn pairs() {
-    // y7 y4⁻¹ stands in row 1 between y4 and y7⁻¹: y4⁻¹ y7
+    // y7 y4⁻¹ stands in row 1 between y4 and y7⁻¹, so y4⁻¹ y7 replaces it
     assert_eq!(output(|out| replace_pair(&hex("00 02 6B"), 0, out)), hex("00 02 B6"));
-    // y4 y7 stands at the front of row 1: y7 y4
+    // y4 y7 stands at the start of row 1, before y4⁻¹ y7⁻¹, so y7 y4 replaces it
     assert_eq!(output(|out| replace_pair(&hex("00 02 36"), 0, out)), hex("00 02 63"));
-    // y1 y2⁻¹ stands first in row 26, with y4 y2 y1⁻¹ y4⁻¹ after it: y4 y1 y2⁻¹ y4⁻¹, inside another word
+    // row 26 is the first with y1 y2⁻¹, and y4 y2 y1⁻¹ y4⁻¹ follows there. So y4 y1 y2⁻¹ y4⁻¹ replaces y1 y2⁻¹ inside
+    // this word
     assert_eq!(output(|out| replace_pair(&hex("00 04 50 9D"), 1, out)), hex("00 06 53 09 BD"));
-    // no row holds y1 y2
+    // no row contains y1 y2
     assert_eq!(output(|out| replace_pair(&hex("00 03 01 10"), 0, out)), hex("00 03 01 10"));
     for place in [1, 2, 9_999, usize::MAX] {
         refuses(22, 5_002, |out| replace_pair(&hex("00 02 6B"), place, out));
@@ -183,12 +185,12 @@ fn pairs() {
     refuses(22, 5_002, |out| replace_pair(&hex("00 00"), 0, out));
     refuses(22, 5_002, |out| replace_pair(&hex("00 01 00"), 0, out));
     refuses(9, 5_002, |out| replace_pair(&[], 0, out));
-    // y1 y2⁻¹ becomes four letters
+    // four letters replace y1 y2⁻¹, so the word grows by two letters
     refuses(34, 5_002, |out| replace_pair(&file(&[[0, 9]; 5_000].concat()), 0, out));
     assert_eq!(output(|out| replace_pair(&file(&[[0, 9]; 4_999].concat()), 0, out)).len(), 5_002);
 }
 
-/// A replaced pair carries pairs where the old one did.
+/// The word after a pair replacement carries a pair to the same pair as the word before it.
 #[test]
 fn replacement_keeps_what_a_word_carries() {
     let mut random = Random::seeded(5);

@@ -1,5 +1,5 @@
-//! Taking handles out and the shorter of two words (document 02, section 9). What is expected is worked out by hand from
-//! the request's text, with the reasoning written beside it; none of it was computed by the code under test.
+//! Handle reduction and the shorter of two words (document 02, section 9). The expected values are worked out by hand
+//! from the request's text, with the reasoning beside them. The code under test computed none of them.
 
 mod common;
 
@@ -10,17 +10,18 @@ use reference::reduce::freely_reduced;
 use reference::testkit::exponent_sum;
 use reference::{handle_reduce, multiply, shorter, start, Choice, Field, Handles};
 
-/// The word that is left, and whether it has a handle.
+/// The new word file, and whether the new word has a handle.
 fn run(word: &[u8], limit: u16) -> (Vec<u8>, bool) {
     let mut out = vec![0xAA; 5_010];
     let Handles { answer, bytes, left } = handle_reduce(word, limit, &mut out);
     assert_eq!(answer, 0);
-    assert!(out[bytes..].iter().all(|byte| *byte == 0xAA), "bytes past the word changed");
+    assert!(out[bytes..].iter().all(|byte| *byte == 0xAA), "bytes after the word changed");
     out.truncate(bytes);
     (out, left)
 }
 
-/// A refusal has its number, no bytes, nothing left, and leaves the output alone.
+/// Checks that handle reduction refuses with this answer: it reports 0 bytes and no handle, and leaves the output as it
+/// was.
 fn refuses(expected: u8, room: usize, word: &[u8], limit: u16) {
     let mut out = vec![0xAA; room];
     let refused = Handles { answer: expected, bytes: 0, left: false };
@@ -28,12 +29,12 @@ fn refuses(expected: u8, room: usize, word: &[u8], limit: u16) {
     assert!(out.iter().all(|byte| *byte == 0xAA), "a refusal changed the output");
 }
 
-/// Words, a limit, the word that is left, and whether a handle is left in it.
+/// A word, a limit, the new word, and whether the new word has a handle.
 const RUNS: [(&str, u16, &str, bool); 17] = [
-    // no letters, and a letter alone
+    // no letters, and one letter
     ("00 00", 65_535, "00 00", false),
     ("00 01 60", 65_535, "00 01 60", false),
-    // b1 b1⁻¹ and b7⁻¹ b7 have nothing between their ends; with no step the word stays
+    // b1 b1⁻¹ and b7⁻¹ b7 are handles with no letter between their ends. With 0 steps the word stays
     ("00 02 08", 1, "00 00", false),
     ("00 02 E6", 1, "00 00", false),
     ("00 02 08", 0, "00 02 08", true),
@@ -45,19 +46,19 @@ const RUNS: [(&str, u16, &str, bool); 17] = [
     ("00 03 81 00", 1, "00 03 10 90", false),
     // b1⁻¹ b2⁻¹ b1 is b2 b1⁻¹ b2⁻¹
     ("00 03 89 00", 1, "00 03 18 90", false),
-    // b1 b3 b1⁻¹ is b3: far letters stay
+    // b1 b3 b1⁻¹ is b3: letters of far generators stay
     ("00 03 02 80", 1, "00 01 20", false),
-    // b2 b1 b2⁻¹: b_(i-1) may not stand between
+    // b2 b1 b2⁻¹ is no handle, because b_(i-1) stands between the ends
     ("00 03 10 90", 65_535, "00 03 10 90", false),
-    // b1 b1 b1⁻¹: b_i may not stand between, so the later b1 is the end. Then b1
+    // b1 b1 b1⁻¹: b_i may not stand between the ends, so the handle begins at the second b1. Its removal leaves b1
     ("00 03 00 80", 65_535, "00 01 00", false),
     // b1 b3 b3⁻¹ b1⁻¹: the inner handle ends earliest. One step leaves b1 b1⁻¹
     ("00 04 02 A8", 1, "00 02 08", true),
-    // b1 b2 b3 b2⁻¹ b1⁻¹: b2 b3 b2⁻¹ ends earliest and is b3⁻¹ b2 b3. One step leaves b1 b3⁻¹ b2 b3 b1⁻¹, and the
-    // next b3⁻¹ b2⁻¹ b1 b2 b3
+    // b1 b2 b3 b2⁻¹ b1⁻¹: b2 b3 b2⁻¹ ends earliest and is b3⁻¹ b2 b3. The first step leaves b1 b3⁻¹ b2 b3 b1⁻¹. The
+    // second step leaves b3⁻¹ b2⁻¹ b1 b2 b3
     ("00 05 01 29 80", 1, "00 05 0A 12 80", true),
     ("00 05 01 29 80", 65_535, "00 05 A9 01 20", false),
-    // b7 b7⁻¹ b1 b1⁻¹: the one that ends first goes first
+    // b7 b7⁻¹ b1 b1⁻¹: the first step removes the handle that ends earliest
     ("00 04 6E 08", 1, "00 02 08", true),
     // b1 b2 b2 b1⁻¹ is b2⁻¹ b1 b2 b2⁻¹ b1 b2, which has the handle b2 b2⁻¹
     ("00 04 01 18", 1, "00 06 90 19 01", true),
@@ -70,7 +71,7 @@ fn by_hand() {
     }
 }
 
-/// Handles by the request's words: every two places, with every letter between held to the two generators.
+/// All handles by the definition in the request: tests every two places, and every letter between them.
 fn by_definition(codes: &[u8]) -> Vec<Handle> {
     let word = letters_of(codes);
     let places = |first: usize| (first + 1..word.len()).map(move |last| Handle { first, last });
@@ -93,7 +94,7 @@ fn handles_are_those_of_the_definition() {
     }
 }
 
-/// The letter that ends a handle settles where it begins.
+/// Two handles never end at the same place.
 #[test]
 fn one_start_for_an_end() {
     let mut random = Random::seeded(10);
@@ -106,8 +107,8 @@ fn one_start_for_an_end() {
     }
 }
 
-/// The new word carries the starting pair where the old one did, over both fields, with the same exponent sum; and a
-/// word with no handle left is freely reduced.
+/// The new word and the old word have the same exponent sum and carry the starting pair to the same pair, over both
+/// fields. A new word without handles is freely reduced.
 #[test]
 fn the_same_braid() {
     let mut random = Random::seeded(11);
@@ -135,17 +136,17 @@ fn carried(field: Field, codes: &[u8]) -> reference::Pair {
     pair
 }
 
-/// b1, then b2 n times, then b1⁻¹, has 3 n letters after its first step.
+/// The word b1, n times b2, b1⁻¹ has 3 × n letters after its first step.
 #[test]
 fn a_step_over_10_000_letters() {
     let word = |n: usize| file(&[&[0][..], &vec![1; n], &[8]].concat());
     // 3 × 3,333 is 9,999
     assert_eq!(reference::letters(&run(&word(3_333), 1).0).len(), 9_999);
-    // 3 × 3,334 is 10,002, though the next steps would shorten it
+    // 3 × 3,334 is 10,002. Later steps would shorten the word, but the first step is refused
     refuses(32, 5_002, &word(3_334), 1);
     refuses(32, 5_002, &word(3_334), 65_535);
     assert_eq!(run(&word(3_334), 0), (word(3_334), true));
-    // b7 with it: 1 + 3 × 3,333 is 10,000
+    // with b7 before the word: 1 + 3 × 3,333 is 10,000
     let exact = file(&[&[6, 0][..], &[1; 3_333], &[8]].concat());
     assert_eq!(reference::letters(&run(&exact, 1).0).len(), 10_000);
 }
@@ -166,10 +167,10 @@ fn shorter_of_two() {
     let chosen = |which| Choice { answer: 0, which };
     assert_eq!(shorter(&one, &none), chosen(2));
     assert_eq!(shorter(&none, &one), chosen(1));
-    // b1 and b1 b2 both have 3 bytes: the first on a tie, though the second has a letter less
+    // the files of b1 b2 and of b1 both have 3 bytes. On a tie the first is chosen, although b1 has one letter less
     assert_eq!(shorter(&two, &one), chosen(1));
     assert_eq!(shorter(&one, &one), chosen(1));
-    // the first file's questions come first
+    // the first file is checked before the second
     let refused = |answer| Choice { answer, which: 0 };
     assert_eq!(shorter(&[], &hex("27 11")), refused(9));
     assert_eq!(shorter(&hex("27 11"), &[]), refused(10));

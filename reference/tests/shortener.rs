@@ -1,5 +1,6 @@
-//! Shortening: small words by hand, and on seeded words and on signatures that the shorter word is the same braid as
-//! far as pairs, exponent sums and crossings tell. None of these checks knows how the search goes.
+//! Shortening. Small words have results worked out by hand. For seeded words and signatures, the tests check that the
+//! shorter word is the same braid: they compare pairs, exponent sums and crossings. No check depends on how the search
+//! works.
 
 mod common;
 
@@ -14,7 +15,7 @@ use reference::{letters, shorten, Written};
 
 const ROUNDS: usize = 300;
 
-/// The half twist of all eight strands, which crosses each two of them once.
+/// The half twist of all eight strands: every two strands cross once.
 fn half_twist() -> Vec<u8> {
     (1..8).rev().flat_map(|strands| 0..strands).collect()
 }
@@ -26,7 +27,8 @@ fn assert_shortens(random: &mut Random, codes: &[u8], effort: u16) -> usize {
     new.len()
 }
 
-/// b1 b3 b1⁻¹ is b3 by a swap. b1 b2 b1 b2⁻¹ b1⁻¹ is b2 by a turn, and so are its inverse and its mirror images.
+/// b1 b3 b1⁻¹ is b3 by a swap. b1 b2 b1 b2⁻¹ b1⁻¹ is b2 by a turn. Its inverse and its mirror images also become one
+/// letter by a turn.
 #[test]
 fn words_by_hand() {
     assert_eq!(swap_cancelled(&[0, 2, 8]), [2]);
@@ -45,25 +47,26 @@ fn words_by_hand() {
     }
 }
 
-/// Words on which arcs alone stop early: a word and its inverse, far letters between, and many half twists.
+/// Words that arcs alone do not shorten enough: a word and its inverse, far letters between a word and its inverse, and
+/// many half twists.
 #[test]
 fn words_that_need_more_than_arcs() {
     let mut random = Random::seeded(81);
     let word = random.word(5_000);
     assert_eq!(shortened(&[&word[..], &inverse_word(&word)].concat(), 0), []);
-    // b1 and b2 on one side, letters from b4 on between
+    // a word of b1 and b2 and its inverse, with letters b4 to b7 between them
     let side: Vec<u8> = (0..2_000).map(|_| random.pick(&[0, 1, 8, 9])).collect();
     let far: Vec<u8> = (0..1_000).map(|_| random.pick(&[3, 4, 5, 6, 11, 12, 13, 14])).collect();
     let there_and_back = [&side[..], &far, &inverse_word(&side)].concat();
     assert_eq!(shortened(&there_and_back, 0), swap_cancelled(&far));
-    // a full twist commutes with every letter
+    // 20 half twists are 10 full twists, and a full twist commutes with every letter
     let twists = half_twist().repeat(20);
     let around = [&twists[..], &[3], &inverse_word(&twists)].concat();
     assert_eq!(shortened(&around, 1), [3]);
     assert!(with_arcs(&around, 1).len() > 100);
 }
 
-/// A positive word cannot become shorter, and a word of one generator neither.
+/// A positive word and a power of one letter cannot become shorter.
 #[test]
 fn words_that_stay() {
     let mut random = Random::seeded(82);
@@ -72,7 +75,7 @@ fn words_that_stay() {
     assert_eq!(shortened(&[9; 1_000], 5), [9; 1_000]);
 }
 
-/// Handles are taken out here with a stack, and by the definition in `handles`.
+/// `shortener` removes handles with a stack, and `handles` removes them by the definition. Both leave the same word.
 #[test]
 fn handles_by_a_stack() {
     let mut random = Random::seeded(85);
@@ -85,7 +88,7 @@ fn handles_by_a_stack() {
         taken += usize::from(reduced != Some(word));
     }
     assert!(taken > ROUNDS / 2);
-    // the first step leaves more than 10,000 letters: b1, many b2, b1⁻¹
+    // for b1, 9,000 times b2, b1⁻¹ the first step leaves more than 10,000 letters
     let full = [&[0][..], &[1; 9_000], &[8]].concat();
     assert_eq!((without_handles(&full), after_steps(&full, 1)), (None, None));
 }
@@ -120,7 +123,7 @@ fn signatures_are_the_same_braid() {
     }
 }
 
-/// The answers, and the file that is written.
+/// The answers of `shorten`, and the file that it writes.
 #[test]
 fn files() {
     let file = word_file(&[0, 1, 0, 9, 8]);

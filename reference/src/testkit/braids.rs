@@ -1,5 +1,5 @@
-//! Words to shorten, and whether a shorter word is the same braid as far as pairs, lists, exponent sums and crossings
-//! tell.
+//! Words to shorten, and a check that a shorter word is the same braid. The check compares exponent sums, crossings,
+//! and the pairs that both words carry a pair to.
 
 use super::random::Random;
 use super::walks::exponent_sum;
@@ -8,7 +8,7 @@ use crate::field::Field;
 use crate::pair::carried;
 use crate::reduce::cancels;
 
-/// The word files of a class of tests/signatures.txt; none of a class that is not there.
+/// The word files of a class in tests/signatures.txt. The result is empty if the file does not have the class.
 pub fn signatures(class: &str) -> Vec<Vec<u8>> {
     let byte = |two: &[u8]| {
         let text = std::str::from_utf8(two).expect("hexadecimal is ascii");
@@ -22,8 +22,9 @@ pub fn signatures(class: &str) -> Vec<Vec<u8>> {
 }
 
 impl Random {
-    /// What is wrong with a word that was made shorter; nothing if it is freely reduced, not longer, has the old one's
-    /// exponent sum and crossings, and carries a pair drawn at random, over each field, where the old one does.
+    /// The first fault of `new`, a word that shortening made from `old`. There is no fault if `new` is not longer than
+    /// `old`, is freely reduced, has the exponent sum and the crossings of `old`, and carries a random pair over each
+    /// field to the same pair as `old` does.
     pub fn fault_of_shorter(&mut self, old: &[u8], new: &[u8]) -> Option<&'static str> {
         if new.len() > old.len() {
             return Some("the new word is longer");
@@ -41,6 +42,6 @@ impl Random {
             let (pair, t_values) = (self.pair(*field), self.t_values(*field));
             carried(*field, &pair, &t_values, old) != carried(*field, &pair, &t_values, new)
         };
-        Field::BOTH.iter().any(apart).then_some("a pair is carried to another one")
+        Field::BOTH.iter().any(apart).then_some("the two words carry a pair to different pairs")
     }
 }

@@ -1,11 +1,11 @@
 //! Words that cloak, made without search, and their insertion into other words (document 02, section 12).
 //!
-//! A cloaking word is a power of a generator between a word and its inverse. Let a and b be the T-values of the labels
-//! at positions i and i + 1, and p their product. The letters b_i b_i bring the list back. Their matrix is the identity
-//! but for row i, which holds a + p, p, 1 + a in columns i - 1, i, i + 1. So the power 2 × k of b_i has in that row
-//! (a + p) × s, p^k, (1 + a) × s, where s = 1 + p + .. + p^(k-1). There are three cases:
+//! A cloaking word of this module is a power of a generator between a word and its inverse. Let a and b be the T-values
+//! of the labels at positions i and i + 1, and p their product. The letters b_i b_i leave the list as it was. Their
+//! matrix is the identity except in row i, which has a + p, p, 1 + a in columns i - 1, i, i + 1. So row i of the power
+//! 2 × k of b_i has (a + p) × s, p^k, (1 + a) × s, where s = 1 + p + .. + p^(k-1). There are three cases:
 //!
-//! - p is not 1: s is 0 where p^k = 1, since (1 + p) × s = 1 + p^k;
+//! - p is not 1: s is 0 if p^k = 1, because (1 + p) × s = 1 + p^k;
 //! - p = 1: s is 0 for each even k;
 //! - a = b = 1: the factors of s are 0, so k = 1 is enough.
 //!
@@ -19,7 +19,7 @@ use crate::pair::{list_reached, Labels, TValues};
 use crate::testkit::Random;
 use crate::STRANDS;
 
-/// The powers of an element from the first on.
+/// The powers of an element, starting with the element itself.
 fn powers(field: Field, element: u8) -> impl Iterator<Item = u8> {
     successors(Some(element), move |power| Some(field.times(*power, element)))
 }
@@ -39,33 +39,34 @@ pub fn half_power(field: Field, a: u8, b: u8) -> usize {
     }
 }
 
-/// The inverse word: the inverse letters in the other order.
+/// The inverse word: the inverse letters in reverse order.
 pub fn inverse_word(codes: &[u8]) -> Vec<u8> {
     let inverses: Vec<Letter> = letters_of(codes).into_iter().rev().map(Letter::inverted).collect();
     codes_of(&inverses)
 }
 
-/// A word with another one inserted before the letter at a place, counted from 0, or at its end.
+/// The word `codes` with `word` inserted before the letter at `place`, counted from 0. If `place` is the number of
+/// letters, `word` stands at the end.
 pub fn inserted(codes: &[u8], place: usize, word: &[u8]) -> Vec<u8> {
     [&codes[..place], word, &codes[place..]].concat()
 }
 
 impl Random {
-    /// The T-values of a key under which cloaking words of all lengths exist. They are powers with one exponent, so
-    /// that over 256 elements the orders of all products divide 255, 17, 15, 5 or 3.
+    /// T-values of a key under which [`Random::power_cloak`] makes short and long words. All T-values are powers with
+    /// one random exponent. So over 256 elements the orders of their products all divide 255, 17, 15, 5 or 3.
     pub fn cloaking_t_values(&mut self, field: Field) -> TValues {
         let exponent = self.pick(&[1, 15, 17, 51, 85]);
         let raised = |t_value| powers(field, t_value).nth(exponent - 1).expect("powers do not end");
         self.key_t_values(field).map(raised)
     }
 
-    /// w, then b_i or its inverse so many times, then w⁻¹.
+    /// The word w, then `power` letters b_i or `power` letters b_i⁻¹, then w⁻¹. Here i is `generator`.
     fn conjugated(&mut self, w: &[u8], generator: usize, power: usize) -> Vec<u8> {
         let letter = Letter { generator, inverse: self.one_in(2) };
         [w, &vec![letter.code(); power], &inverse_word(w)].concat()
     }
 
-    /// A word that cloaks for the list under these T-values, where w has so many letters.
+    /// A word that cloaks for the list under these T-values. Its word w has `letters` random letters.
     pub fn power_cloak(
         &mut self,
         field: Field,
@@ -79,8 +80,8 @@ impl Random {
         self.conjugated(&w, i, 2 * half_power(field, a, b))
     }
 
-    /// A word that cloaks for the list under every key, since each has 1 as its first two T-values. Here w has so many
-    /// letters and at most six more, which bring labels 0 and 1 next to each other.
+    /// A word that cloaks for the list under every key, because the first two T-values of every key are 1. Its word w
+    /// has `letters` random letters and at most six more, which bring labels 0 and 1 next to each other.
     pub fn unit_cloak(&mut self, labels: &Labels, letters: usize) -> Vec<u8> {
         let mut w = self.word(letters);
         let reached = list_reached(labels, &w);

@@ -1,6 +1,7 @@
-//! Matrices with an inverse and without one, of a chosen rank, and in the shape that a key's have.
+//! Matrices with an inverse, without one, of a chosen rank, and in the shape of a key's matrices.
 //!
-//! Inverses and ranks are found by elimination, which is not the road by which [`crate::matrix`] decides.
+//! This module finds inverses and ranks by elimination. [`crate::matrix`] uses determinants, so the two methods check
+//! each other.
 
 use crate::field::Field;
 use crate::key::key_matrix;
@@ -9,12 +10,12 @@ use crate::pair::Pair;
 use crate::testkit::Random;
 use crate::STRANDS;
 
-/// Has the matrix the shape of a key's: is row 8 zero but for its last entry?
+/// Does the matrix have the shape of a key's matrix: are the first seven entries of row 8 zero?
 pub fn has_key_shape(matrix: &Matrix) -> bool {
     (1..STRANDS).all(|column| matrix[at(STRANDS, column)] == 0)
 }
 
-/// The matrix with two rows changed for each other.
+/// The matrix with rows `a` and `b` swapped.
 fn rows_swapped(mut matrix: Matrix, a: usize, b: usize) -> Matrix {
     for column in 1..=STRANDS {
         matrix.swap(at(a, column), at(b, column));
@@ -22,7 +23,7 @@ fn rows_swapped(mut matrix: Matrix, a: usize, b: usize) -> Matrix {
     matrix
 }
 
-/// The matrix with a row multiplied by an element.
+/// The matrix with a row multiplied by the element `by`.
 fn row_scaled(field: Field, mut matrix: Matrix, row: usize, by: u8) -> Matrix {
     for column in 1..=STRANDS {
         matrix[at(row, column)] = field.times(by, matrix[at(row, column)]);
@@ -30,7 +31,7 @@ fn row_scaled(field: Field, mut matrix: Matrix, row: usize, by: u8) -> Matrix {
     matrix
 }
 
-/// The matrix with a multiple of one row added to another.
+/// The matrix with `by` times the row `row` added to the row `to`.
 fn row_added(field: Field, mut matrix: Matrix, row: usize, by: u8, to: usize) -> Matrix {
     for column in 1..=STRANDS {
         matrix[at(to, column)] ^= field.times(by, matrix[at(row, column)]);
@@ -38,8 +39,8 @@ fn row_added(field: Field, mut matrix: Matrix, row: usize, by: u8, to: usize) ->
     matrix
 }
 
-/// The inverse of a matrix, if it has one, by elimination: what turns the matrix into the identity, row by
-/// row, turns the identity into the inverse.
+/// The inverse of a matrix, if it has one, by elimination. The row operations that turn the matrix into the identity
+/// turn the identity into the inverse.
 pub fn inverse_matrix(field: Field, matrix: &Matrix) -> Option<Matrix> {
     let (mut left, mut right) = (*matrix, identity());
     for i in 1..=STRANDS {
@@ -55,7 +56,7 @@ pub fn inverse_matrix(field: Field, matrix: &Matrix) -> Option<Matrix> {
     Some(right)
 }
 
-/// The rank of a matrix, by elimination: how many of its columns have a pivot.
+/// The rank of a matrix, by elimination: the number of columns that have a pivot.
 pub fn rank(field: Field, matrix: &Matrix) -> usize {
     let (mut left, mut pivots) = (*matrix, 0);
     for column in 1..=STRANDS {
@@ -71,19 +72,19 @@ pub fn rank(field: Field, matrix: &Matrix) -> usize {
 }
 
 impl Random {
-    /// Any matrix in the shape of a key's.
+    /// A random matrix in the shape of a key's matrix.
     pub fn key_matrix(&mut self, field: Field) -> Matrix {
         key_matrix(&self.elements::<57>(field))
     }
 
-    /// A matrix in the shape of a key's of which about half the entries are zero, so that pivots are often missing.
+    /// A matrix in the shape of a key's matrix with zeros for about half of its entries, so that pivots are often
+    /// missing.
     pub fn sparse_key_matrix(&mut self, field: Field) -> Matrix {
         let entries = self.elements::<57>(field);
         key_matrix(&entries.map(|entry| if self.one_in(2) { entry } else { 0 }))
     }
 
-    /// A matrix in the shape of a key's that is a permutation's: the identity with its first seven rows in any
-    /// order.
+    /// A permutation matrix in the shape of a key's matrix: the identity with its first seven rows in any order.
     pub fn permutation_matrix(&mut self) -> Matrix {
         let order = self.shuffled([1, 2, 3, 4, 5, 6, 7]);
         let mut matrix = [0; 64];
@@ -93,7 +94,8 @@ impl Random {
         matrix
     }
 
-    /// A matrix in the shape of a key's with an inverse: mostly any, now and then sparse or a permutation's.
+    /// A matrix in the shape of a key's matrix that has an inverse. Most are random; some are sparse or permutation
+    /// matrices.
     pub fn invertible_key_matrix(&mut self, field: Field) -> Matrix {
         loop {
             let matrix = match self.below(8) {
@@ -107,9 +109,9 @@ impl Random {
         }
     }
 
-    /// A matrix in the shape of a key's with this rank: the product of a matrix with so many columns and one with so
-    /// many rows, the others being zero. Row 8 is zero, or it is the last of those rows, which then has its last entry
-    /// alone.
+    /// A matrix of rank `wanted` in the shape of a key's matrix. It is the product of a left matrix that is zero after
+    /// column `wanted` and a right matrix that is zero after row `wanted`. Row 8 of the product is zero, or it is row
+    /// `wanted` of the right matrix. In the second case the first seven entries of that row are set to zero.
     pub fn key_matrix_of_rank(&mut self, field: Field, wanted: usize) -> Matrix {
         loop {
             let (mut left, mut right): (Matrix, Matrix) = (self.elements(field), self.elements(field));
@@ -129,8 +131,8 @@ impl Random {
         }
     }
 
-    /// A matrix in the shape of a key's without an inverse: of any rank below 8; or a permutation's with some of its
-    /// ones made zeros, one of them at least.
+    /// A matrix in the shape of a key's matrix that has no inverse. It is a matrix of any rank below 8, or a
+    /// permutation matrix in which at least one of the ones is replaced by zero.
     pub fn singular_key_matrix(&mut self, field: Field) -> Matrix {
         let wanted = self.below(STRANDS as u64);
         if self.one_in(2) {
@@ -152,13 +154,14 @@ impl Random {
         }
     }
 
-    /// A matrix of any shape without an inverse: one in the shape of a key's, times one with an inverse.
+    /// A matrix of any shape without an inverse: a matrix without an inverse in the shape of a key's matrix, times a
+    /// matrix with an inverse.
     pub fn singular_matrix(&mut self, field: Field) -> Matrix {
         let (singular, other) = (self.singular_key_matrix(field), self.invertible_matrix(field));
         matrix_product(field, &singular, &other)
     }
 
-    /// Any pair whose matrix has the shape of a key's and an inverse.
+    /// A random pair. Its matrix has the shape of a key's matrix, and has an inverse.
     pub fn invertible_key_pair(&mut self, field: Field) -> Pair {
         Pair::of(self.invertible_key_matrix(field), self.labels())
     }

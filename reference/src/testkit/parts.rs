@@ -1,6 +1,6 @@
 //! Parts of a number.
 
-/// All lists of numbers above zero with this sum: 64 of 7.
+/// All lists of positive numbers with this sum. For the sum 7 there are 64 lists.
 pub fn compositions(sum: u8) -> Vec<Vec<u8>> {
     if sum == 0 {
         return vec![Vec::new()];

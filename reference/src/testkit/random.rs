@@ -1,4 +1,4 @@
-//! Numbers drawn from a seed, and inputs made of them.
+//! Pseudorandom numbers from a seed, and test inputs made from these numbers.
 
 use crate::field::Field;
 use crate::pair::{Labels, Pair, TValues};
@@ -9,7 +9,7 @@ use crate::STRANDS;
 pub struct Random(pub u64);
 
 impl Random {
-    /// A generator for any seed, 0 too: the seed is spread over the state first.
+    /// A generator for any seed, including 0. The first state mixes the bits of the seed and is not 0.
     pub fn seeded(seed: u64) -> Random {
         let mixed = (seed ^ 0x9E37_79B9_7F4A_7C15).wrapping_mul(0xBF58_476D_1CE4_E5B9);
         let mut random = Random((mixed ^ mixed >> 31) | 1);
@@ -17,7 +17,7 @@ impl Random {
         random
     }
 
-    /// The next state.
+    /// Goes to the next state and returns it.
     fn step(&mut self) -> u64 {
         self.0 ^= self.0 << 13;
         self.0 ^= self.0 >> 7;
@@ -30,22 +30,22 @@ impl Random {
         ((self.step() >> 16) % bound) as usize
     }
 
-    /// A number from one to another, both among them.
+    /// A number from `least` to `most`, both included.
     pub fn within(&mut self, least: usize, most: usize) -> usize {
         least + self.below((most - least) as u64 + 1)
     }
 
-    /// Yes once in so many times.
+    /// True with probability 1 in `times`.
     pub fn one_in(&mut self, times: u64) -> bool {
         self.below(times) == 0
     }
 
-    /// One of the things given.
+    /// A random entry of `among`.
     pub fn pick<T: Copy>(&mut self, among: &[T]) -> T {
         among[self.below(among.len() as u64)]
     }
 
-    /// The things given, in any order.
+    /// The entries of `things` in a random order.
     pub fn shuffled<T, const COUNT: usize>(&mut self, mut things: [T; COUNT]) -> [T; COUNT] {
         for i in (1..COUNT).rev() {
             things.swap(i, self.within(0, i));
@@ -53,29 +53,29 @@ impl Random {
         things
     }
 
-    /// Any byte.
+    /// A random byte.
     pub fn byte(&mut self) -> u8 {
         self.below(256) as u8
     }
 
-    /// So many bytes.
+    /// A list of `count` random bytes.
     pub fn bytes(&mut self, count: usize) -> Vec<u8> {
         (0..count).map(|_| self.byte()).collect()
     }
 
-    /// A code that is a letter.
+    /// The code of a random letter.
     pub fn letter(&mut self) -> u8 {
         let generator = self.below(7) as u8;
         generator + 8 * self.below(2) as u8
     }
 
-    /// So many letters.
+    /// The codes of `letters` random letters.
     pub fn word(&mut self, letters: usize) -> Vec<u8> {
         (0..letters).map(|_| self.letter()).collect()
     }
 
-    /// A piece of a word that some kind of move fits: a letter and its inverse, letters that swap, or
-    /// letters that turn; or one letter alone.
+    /// A piece of a word. Either a move fits it: it is a letter and its inverse, letters that swap, or letters that
+    /// turn. Or it is one letter alone.
     fn piece(&mut self) -> Vec<u8> {
         let (low, sign) = (self.below(6) as u8, 8 * self.below(2) as u8);
         let letter = self.letter();
@@ -96,7 +96,7 @@ impl Random {
         self.shuffled(letters).to_vec()
     }
 
-    /// A word of so many letters in which each kind of move has many places.
+    /// A word of `letters` letters in which each kind of move is possible at many places.
     pub fn tangled_word(&mut self, letters: usize) -> Vec<u8> {
         let mut word = Vec::new();
         while word.len() < letters {
@@ -111,44 +111,44 @@ impl Random {
         self.pick(&Field::BOTH)
     }
 
-    /// An element.
+    /// A random field element.
     pub fn element(&mut self, field: Field) -> u8 {
         self.below(field.size().into()) as u8
     }
 
-    /// An element from this one on.
+    /// A random field element that is at least `least`.
     pub fn element_from(&mut self, field: Field, least: u8) -> u8 {
         self.within(least.into(), usize::from(field.size()) - 1) as u8
     }
 
-    /// Any elements.
+    /// `COUNT` random field elements.
     pub fn elements<const COUNT: usize>(&mut self, field: Field) -> [u8; COUNT] {
         [0; COUNT].map(|_| self.element(field))
     }
 
-    /// Eight elements other than zero.
+    /// Eight random field elements other than zero.
     pub fn t_values(&mut self, field: Field) -> TValues {
         [0; STRANDS].map(|_| self.element_from(field, 1))
     }
 
-    /// The T-values of a key: elements other than zero, of which the first two are 1.
+    /// The T-values of a key: eight elements other than zero. The first two are 1.
     pub fn key_t_values(&mut self, field: Field) -> TValues {
         let mut t_values = self.t_values(field);
         t_values[..2].fill(1);
         t_values
     }
 
-    /// The list 0 to 7 in any order.
+    /// The list 0 to 7 in a random order.
     pub fn labels(&mut self) -> Labels {
         self.shuffled([0, 1, 2, 3, 4, 5, 6, 7])
     }
 
-    /// Any pair.
+    /// A random pair. Its matrix need not have an inverse.
     pub fn pair(&mut self, field: Field) -> Pair {
         Pair::of(self.elements(field), self.labels())
     }
 
-    /// Any digest that goes with keys over the field.
+    /// A random digest of the length that keys over the field need.
     pub fn digest(&mut self, field: Field) -> Vec<u8> {
         self.bytes(field.digest_bytes())
     }

@@ -1,5 +1,5 @@
-//! Files and fixed arrays with chosen faults, as far as several operations take them. Faults of other parts are passed
-//! over, so that one list of faults serves all parts of an input.
+//! Makes the files and fixed arrays that several operations take, with chosen faults. Each function ignores the faults
+//! of other parts, so that one list of faults serves all parts of an input.
 
 use reference::bits;
 use reference::key::layout;
@@ -7,11 +7,11 @@ use reference::testkit::Random;
 use reference::word::{word_file, MOST_LETTERS};
 use reference::{file_entries, Field, Matrix, Pair};
 
-/// Where N and q stand in a key file, in bits.
+/// The first bit of N and the first bit of q in a key file.
 const N: usize = 0;
 const Q: usize = 8;
 
-/// Which of two matrices have no inverse, where one has none.
+/// The places of the matrices without an inverse: the first matrix, the second, or both.
 pub const SINGULAR: [&[usize]; 3] = [&[0], &[1], &[0, 1]];
 
 /// A number that is no element of the smaller field.
@@ -26,20 +26,20 @@ pub fn bad_code(random: &mut Random) -> u8 {
     random.pick(&[7, 15, 16, any])
 }
 
-/// A place and another one among the eight.
+/// Two different places from 0 to 7.
 pub fn two_places(random: &mut Random) -> (usize, usize) {
     let places = random.shuffled([0, 1, 2, 3, 4, 5, 6, 7]);
     (places[0], places[1])
 }
 
-/// Puts a number into a string of bits.
+/// Writes a number of `width` bits into a string of bits.
 fn put(bits: &mut [bool], at: usize, width: u32, number: u16) {
     let mut digits = Vec::new();
     bits::push(&mut digits, number, width);
     bits[at..at + digits.len()].copy_from_slice(&digits);
 }
 
-/// Puts bytes at the end, or takes some from it, but keeps the first few.
+/// Adds 1 to 3 random bytes at the end, or removes 1 to 3 bytes there. The first `keep` bytes always stay.
 pub fn change_length(random: &mut Random, file: &mut Vec<u8>, keep: usize) {
     let by = random.within(1, 3);
     if file.len() >= keep + by && random.one_in(2) {
@@ -49,7 +49,7 @@ pub fn change_length(random: &mut Random, file: &mut Vec<u8>, keep: usize) {
     }
 }
 
-/// Makes a list one that is not 0 to 7, each once.
+/// Changes a list so that it does not hold each of 0 to 7 once.
 pub fn spoil_labels(random: &mut Random, labels: &mut [u8; 8]) {
     let (from, to) = two_places(random);
     labels[to] = if random.one_in(3) { random.within(8, 255) as u8 } else { labels[from] };
@@ -64,8 +64,9 @@ pub fn list(random: &mut Random, faults: &[u8]) -> Vec<u8> {
     labels.to_vec()
 }
 
-/// Makes the positions others than those of the list: two exchanged, one or all counted from 0, or those of a list
-/// before its last letter.
+/// Changes the positions so that they are not those of the list. Either two positions are exchanged, or one is
+/// replaced, or all are counted from 0, or they become the positions before a last letter b_i: positions i and i + 1
+/// are exchanged.
 pub fn spoil_positions(random: &mut Random, positions: &mut [u8; 8]) {
     let (one, other) = two_places(random);
     match random.below(4) {
@@ -87,7 +88,8 @@ pub fn spoil_positions(random: &mut Random, positions: &mut [u8; 8]) {
     }
 }
 
-/// Makes a list one that is not 0 to 7, each once, or its positions others than its own.
+/// Changes a pair so that its list does not hold each of 0 to 7 once, or so that its positions are not those of its
+/// list.
 pub fn spoil_lists(random: &mut Random, pair: &mut Pair) {
     match random.below(3) {
         0 => spoil_labels(random, &mut pair.labels),
@@ -99,7 +101,8 @@ pub fn spoil_lists(random: &mut Random, pair: &mut Pair) {
     }
 }
 
-/// Puts a zero at place 2 or 3 of the T-values, a number too high at one of the last four.
+/// Puts a zero at place 2 or 3 of the T-values, and a number that is too high at one of the places 4 to 7. Places count
+/// from 0.
 pub fn spoil_t_values(random: &mut Random, t_values: &mut [u8; 8], zero: bool, high: bool) {
     if zero {
         t_values[random.within(2, 3)] = 0;
@@ -109,7 +112,7 @@ pub fn spoil_t_values(random: &mut Random, t_values: &mut [u8; 8], zero: bool, h
     }
 }
 
-/// The matrices of a key, of which both have an inverse. Fault: 26.
+/// The two matrices of a key. Both have an inverse. Fault: 26.
 pub fn matrices(random: &mut Random, field: Field, faults: &[u8]) -> [Matrix; 2] {
     let mut matrices = [0; 2].map(|_| random.invertible_key_matrix(field));
     if faults.contains(&26) {
@@ -120,7 +123,8 @@ pub fn matrices(random: &mut Random, field: Field, faults: &[u8]) -> [Matrix; 2]
     matrices
 }
 
-/// A key file with another matrix, with an inverse or without one, in its first place or its second, counted from 0.
+/// The key file with one matrix replaced. Place 0 is the first matrix, place 1 the second. The new matrix need not have
+/// an inverse.
 pub fn with_matrix(field: Field, file: &[u8], place: usize, matrix: &Matrix) -> Vec<u8> {
     let mut bits = bits::of_bytes(file);
     put_matrix(&mut bits, field, place, matrix);
@@ -144,8 +148,8 @@ fn other(field: Field) -> Field {
     }
 }
 
-/// A key file, from one without faults. Faults: 1 to 7, 26. For 3 its q changes, or its length becomes that of the
-/// other field's keys.
+/// A key file with faults, made from a key file without faults. Faults: 1 to 7, 26. For fault 3 the q changes, or the
+/// length becomes that of the other field's keys.
 pub fn key(random: &mut Random, field: Field, file: &[u8], faults: &[u8]) -> Vec<u8> {
     let mut bits = bits::of_bytes(file);
     let by_length = random.one_in(3);
@@ -162,7 +166,7 @@ pub fn key(random: &mut Random, field: Field, file: &[u8], faults: &[u8]) -> Vec
     file
 }
 
-/// The bytes cut to a length, or random ones put at their end.
+/// Gives a file this length: cuts its end, or adds random bytes there.
 fn with_length(random: &mut Random, file: &mut Vec<u8>, length: usize) {
     let more = random.bytes(length.saturating_sub(file.len()));
     file.truncate(length);
@@ -213,7 +217,8 @@ fn spoil_key(random: &mut Random, bits: &mut [bool], field: Field, fault: u8) {
     }
 }
 
-/// A digest that goes with a key. Fault: 8, by few bytes or by the length of the other field's digests.
+/// A digest with the right length for a key over the field. Fault: 8. The fault changes the length by 1 to 3 bytes, or
+/// to the length of the other field's digests.
 pub fn digest(random: &mut Random, field: Field, digest: &[u8], faults: &[u8]) -> Vec<u8> {
     let mut file = digest.to_vec();
     match faults.contains(&8) {
@@ -224,8 +229,8 @@ pub fn digest(random: &mut Random, field: Field, digest: &[u8], faults: &[u8]) -
     file
 }
 
-/// The letters of a word that is to have these faults: one that is no letter for 12, an odd number for 13, too
-/// many for 10 now and then.
+/// The letters of a word with these faults. For 12 one code is no letter. For 13 the number of letters is odd. For 10
+/// there are too many letters in one of eight cases.
 fn spoiled_letters(random: &mut Random, codes: &[u8], faults: &[u8]) -> Vec<u8> {
     let mut codes = codes.to_vec();
     if faults.contains(&10) && random.one_in(8) {
@@ -266,7 +271,8 @@ pub fn word(random: &mut Random, codes: &[u8], faults: &[u8]) -> Vec<u8> {
     file
 }
 
-/// Changes, cuts out or puts in one byte; only changes one if the length is fixed.
+/// Changes, removes or inserts one byte. If the length is fixed, only changes a byte. Exception: some calls change
+/// nothing.
 pub fn damage(random: &mut Random, bytes: &mut Vec<u8>, fixed: bool) {
     let place = random.below(bytes.len() as u64 + 1);
     match random.below(4) {

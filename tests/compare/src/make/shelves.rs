@@ -1,4 +1,4 @@
-//! Key shelves, and places in them, right and wrong.
+//! Makes key shelves, and valid and invalid places in them.
 
 use reference::shelf::SHELF_BYTES;
 use reference::testkit::Random;
@@ -29,7 +29,8 @@ pub fn bad_place(random: &mut Random) -> Parts {
     }
 }
 
-/// Puts a file of at most 128 bytes into the slot of a place. Without its length the slot holds none.
+/// Puts a file of at most 128 bytes into the slot of a place. If `with_length` is false, the slot's length is 0, which
+/// means that the slot holds no file.
 pub fn put(shelf: &mut [u8], at: &Parts, file: &[u8], with_length: bool) {
     let (publisher, number) = (usize::from(at[0][7]), usize::from(at[1][7]));
     let slot = &mut shelf[129 * (4 * (publisher - 1) + number)..][..129];
@@ -38,7 +39,7 @@ pub fn put(shelf: &mut [u8], at: &Parts, file: &[u8], with_length: bool) {
     slot[1..1 + file.len()].copy_from_slice(file);
 }
 
-/// Lends the shelf of an input to a call of the library; the outcome's bytes are what it then is.
+/// Lends the input's shelf to a call of the library. The bytes of the outcome are the shelf after the call.
 pub fn lent(input: &Input, call: impl FnOnce(&mut Shelf) -> u8) -> Outcome {
     let mut shelf = Shelf { bytes: input.array(0) };
     let answer = call(&mut shelf);
@@ -46,7 +47,7 @@ pub fn lent(input: &Input, call: impl FnOnce(&mut Shelf) -> u8) -> Outcome {
 }
 
 impl Maker {
-    /// A shelf: empty, with some keys of either field, or with any bytes.
+    /// A shelf: empty, with some keys of either field, or with random bytes.
     pub fn shelf(&mut self) -> Vec<u8> {
         let mut shelf = vec![0; SHELF_BYTES];
         match self.random.below(4) {

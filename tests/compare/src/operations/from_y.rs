@@ -32,16 +32,16 @@ impl Operation for FromY {
     fn fixed(&self) -> Vec<Fixed> {
         let case = |name: &str, word: &str, parts: &[u8]| Fixed::of(&FromY, name, &[&hex(word), parts]);
         let mut cases = vec![
-            // y1 is b1 b2 b3 b4, and y5 is b5 b6 b7
+            // y1 becomes b1 b2 b3 b4, and y5 becomes b5 b6 b7.
             case("y1 y5", "00 02 04", &[4, 3]).writes(&hex("00 07 01 23 45 60")),
-            // y3⁻¹ is b4⁻¹ b3⁻¹
+            // y3⁻¹ becomes b4⁻¹ b3⁻¹.
             case("y3⁻¹", "00 01 A0", &[4, 3]).writes(&hex("00 02 BA")),
             case("y4 at the part's end", "00 01 30", &[4, 3]).writes(&hex("00 01 30")),
             case("y4 inside one part", "00 01 30", &[7]).writes(&hex("00 04 34 56")),
             case("seven parts", SEVEN, &[1; 7]).writes(&hex(SEVEN)),
             case("a word before parts", "00", &[]).refused(9),
         ];
-        // y1 four times 2,500 is 10,000 letters
+        // Each y1 becomes four letters, so 2,500 letters y1 become 10,000 letters.
         let word = [hex("09 C4"), vec![0; 1_250]].concat();
         let full = [hex("27 10"), [0x01, 0x23].repeat(2_500)].concat();
         cases.push(Fixed::of(&FromY, "2,500 letters y1", &[&word, &[4, 3]]).writes(&full));

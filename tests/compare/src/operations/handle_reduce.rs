@@ -18,8 +18,8 @@ impl Operation for HandleReduce {
         Facts { output: WORDS, numbers: &["bytes", "left"], slow: &[32], share: 7, ..facts }
     }
 
-    /// A limit that the word allows: the reference halves it as long as some step would leave too many letters. For 32
-    /// a word whose first step does, with any limit but 0.
+    /// Halves the limit until no step leaves more than 10,000 letters. For 32, the first step of the word leaves more,
+    /// and the limit is not 0.
     fn make(&self, maker: &mut Maker, _: Field, faults: &[u8], size: Size) -> Option<Parts> {
         let mut codes = maker.codes(size);
         let random = &mut maker.random;
@@ -57,14 +57,14 @@ impl Operation for HandleReduce {
             .into_iter()
             .map(|(word, limit, new, left)| case(&hex(word), limit).writes(&hex(new)).second(left))
             .collect();
-        // b1, then b2 n times, then b1⁻¹: the first step leaves 3 n letters
+        // b1, then b2 n times, then b1⁻¹: the first step leaves 3 n letters.
         let powers = |n: usize| word_file(&[&[0][..], &vec![1; n], &[8]].concat());
         let step = |n: usize| word_file(&[9, 0, 1].repeat(n));
         cases.push(case(&powers(3_333), 1).writes(&step(3_333)).second(1));
         cases.push(case(&powers(3_334), 1).refused(32));
         cases.push(case(&powers(3_334), 65_535).refused(32));
         cases.push(case(&powers(3_334), 0).writes(&powers(3_334)).second(1));
-        // with a b7 before it, 3,333 leave 10,000 letters, and with two 10,001
+        // With one b7 before them, 3,333 letters b2 become 10,000 letters. With two b7 before them, they become 10,001.
         let before = |n: usize| word_file(&[&vec![6; n][..], &[0], &[1; 3_333], &[8]].concat());
         let after = word_file(&[&[6][..], &[9, 0, 1].repeat(3_333)].concat());
         cases.push(case(&before(1), 1).writes(&after).second(1));
@@ -82,8 +82,8 @@ impl Operation for HandleReduce {
 }
 
 impl HandleReduce {
-    /// Every word of up to three letters, and of four letters over three generators in the middle, in up to two steps
-    /// and in as many as it takes.
+    /// Every word of up to three letters, and every word of four letters over b3, b4 and b5. Each word is tested with
+    /// the limits 0, 1 and 2, and with 65,535, which leaves no handle.
     fn every_short_word(&self, run: &mut Run) -> Checked {
         let all: Vec<u8> = (0..16).filter(|code| Letter::from_code(*code).is_some()).collect();
         let some: Vec<u8> = all.iter().copied().filter(|code| (2..5).contains(&(code % 8))).collect();
@@ -96,7 +96,7 @@ impl HandleReduce {
         Ok(())
     }
 
-    /// Handles whose ends stand far apart, and many letters before them.
+    /// Handles whose ends are far apart, and words with many letters before a handle.
     fn far_ends(&self, run: &mut Run) -> Checked {
         let words = [
             [vec![0; 5_000], [6, 14].repeat(2_500)].concat(),
@@ -110,7 +110,7 @@ impl HandleReduce {
         Ok(())
     }
 
-    /// Long words with as many steps as may be: some grow past 10,000 letters on the way, some meet the limit.
+    /// Long words with the highest limit. Some grow past 10,000 letters on the way, and some reach the limit.
     fn long_words(&self, run: &mut Run) -> Checked {
         for letters in [1_283, 2_000, 4_000, 9_900] {
             let random = &mut run.maker.random;
@@ -131,7 +131,7 @@ fn case(word: &[u8], limit: u16) -> Fixed {
     Fixed::of(&HandleReduce, &name, &[word, &limit.to_be_bytes()])
 }
 
-/// Every word of so many letters over these codes.
+/// Every word of this number of letters over these codes.
 fn words_over(codes: &[u8], letters: usize) -> Vec<Vec<u8>> {
     match letters {
         0 => vec![vec![]],
@@ -142,8 +142,8 @@ fn words_over(codes: &[u8], letters: usize) -> Vec<Vec<u8>> {
     }
 }
 
-/// A word of at most 10,000 letters whose first step leaves so many. Before the handle, and in it, all signs agree, so
-/// that no other handle ends before it.
+/// A word of at most 10,000 letters that has `after` letters after its first step. All letters before the second end of
+/// its handle have the same sign, so that no handle ends earlier.
 fn growing(random: &mut Random, after: usize) -> Vec<u8> {
     let (i, sign) = (random.within(0, 5) as u8, random.pick(&[0, 8]));
     let before = random.within(0, 20);
@@ -157,29 +157,30 @@ fn growing(random: &mut Random, after: usize) -> Vec<u8> {
     codes
 }
 
-/// Words, a limit, the word that is left and whether a handle is left in it, worked out by hand from request §9.
+/// Each entry has a word, a limit, the new word, and whether the new word has a handle. The entries are worked out by
+/// hand from request §9.
 fn typed() -> [(&'static str, u16, &'static str, i64); 14] {
     [
-        // b1 b2 b1⁻¹ is b2⁻¹ b1 b2, and the other signs
+        // b1 b2 b1⁻¹ becomes b2⁻¹ b1 b2. The next three words are b1 b2 b1⁻¹ with other signs.
         ("00 03 01 80", 1, "00 03 90 10", 0),
         ("00 03 09 80", 1, "00 03 98 10", 0),
         ("00 03 81 00", 1, "00 03 10 90", 0),
         ("00 03 89 00", 1, "00 03 18 90", 0),
-        // b7⁻¹ b7 has nothing between its ends; with no step it stays
+        // b7⁻¹ b7 has nothing between its ends. With the limit 0 it stays.
         ("00 02 E6", 1, "00 00", 0),
         ("00 02 E6", 0, "00 02 E6", 1),
         ("00 00", 65_535, "00 00", 0),
-        // b2 b1 b2⁻¹ has b_(i-1) between
+        // b2 b1 b2⁻¹ is no handle, because b1 stands between b2 and b2⁻¹.
         ("00 03 10 90", 65_535, "00 03 10 90", 0),
-        // b1 b3 b1⁻¹ is b3, and b1 b1 b1⁻¹ is b1
+        // b1 b3 b1⁻¹ becomes b3, and b1 b1 b1⁻¹ becomes b1.
         ("00 03 02 80", 65_535, "00 01 20", 0),
         ("00 03 00 80", 65_535, "00 01 00", 0),
-        // b1 b3 b3⁻¹ b1⁻¹: the handle that ends earliest leaves b1 b1⁻¹
+        // b1 b3 b3⁻¹ b1⁻¹: the first step takes out b3 b3⁻¹, which ends earliest, and leaves b1 b1⁻¹.
         ("00 04 02 A8", 1, "00 02 08", 1),
-        // b1 b2 b3 b2⁻¹ b1⁻¹ is b1 b3⁻¹ b2 b3 b1⁻¹, and then b3⁻¹ b2⁻¹ b1 b2 b3
+        // b1 b2 b3 b2⁻¹ b1⁻¹ becomes b1 b3⁻¹ b2 b3 b1⁻¹, and then b3⁻¹ b2⁻¹ b1 b2 b3.
         ("00 05 01 29 80", 1, "00 05 0A 12 80", 1),
         ("00 05 01 29 80", 2, "00 05 A9 01 20", 0),
-        // b1 b2 b2 b1⁻¹ is b2⁻¹ b1 b2 b2⁻¹ b1 b2, and then b2⁻¹ b1 b1 b2
+        // b1 b2 b2 b1⁻¹ becomes b2⁻¹ b1 b2 b2⁻¹ b1 b2, and then b2⁻¹ b1 b1 b2.
         ("00 04 01 18", 2, "00 04 90 01", 0),
     ]
 }

@@ -18,7 +18,8 @@ impl Operation for ReplacePair {
         Facts { output: WORDS, numbers: &["bytes"], slow: &[34], share: 8, ..facts }
     }
 
-    /// For 22 a place at the last letter or after it. For 34 y1 y2⁻¹, which becomes four letters, in a full word.
+    /// For 22, the place is that of the last letter or after it. For 34, the word has 9,999 or 10,000 letters, and the
+    /// pair is y1 y2⁻¹, which becomes four letters.
     fn make(&self, maker: &mut Maker, _: Field, faults: &[u8], size: Size) -> Option<Parts> {
         let mut codes = maker.codes(if faults.contains(&34) { Size::Long } else { size });
         let random = &mut maker.random;
@@ -57,11 +58,11 @@ impl Operation for ReplacePair {
 
     fn fixed(&self) -> Vec<Fixed> {
         let mut cases = vec![
-            // row 1 is y4 y7 y4⁻¹ y7⁻¹: around y7 y4⁻¹ stand y4 and y7⁻¹
+            // Row 1 is y4 y7 y4⁻¹ y7⁻¹. In this row y4 comes before the pair y7 y4⁻¹, and y7⁻¹ comes after it.
             case("y7 y4⁻¹", "00 02 6B", 0).writes(&hex("00 02 B6")),
-            // row 26 is y1 y2⁻¹ y4 y2 y1⁻¹ y4⁻¹, and row 74 holds the pair too
+            // Row 26 is y1 y2⁻¹ y4 y2 y1⁻¹ y4⁻¹. It is used because it comes before row 74, which also has the pair.
             case("y1 y2⁻¹ inside a word", "00 04 50 9D", 1).writes(&hex("00 06 53 09 BD")),
-            // row 77, the first that holds y4 y5: y5⁻¹ and so on after it
+            // Row 77 is the first row with the pair y4 y5.
             case("y4 y5", "00 02 34", 0).writes(&hex("00 07 4D 34 DB 50")),
             case("no row holds y1 y2", "00 03 01 10", 0).writes(&hex("00 03 01 10")),
             case("a word before a place", "00", 9).refused(9),
@@ -92,7 +93,7 @@ impl Operation for ReplacePair {
     }
 }
 
-/// The letters of a word with the pair at a place replaced.
+/// The number of letters that the word has when the pair at this place is replaced.
 fn new_length(codes: &[u8], place: usize) -> usize {
     let other = replacement(&letters_of(&codes[place..place + 2])).map_or(2, |other| other.len());
     codes.len() - 2 + other

@@ -1,4 +1,4 @@
-//! A key number of a shelf cleared.
+//! Clearing a key number of a shelf.
 
 use reference::shelf::SHELF_BYTES;
 
@@ -32,12 +32,12 @@ impl Operation for ShelfClear {
         }
     }
 
-    /// The shelf stays.
+    /// The shelf stays unchanged on a refusal.
     fn refused(&self, input: &Input) -> Vec<u8> {
         input.parts[0].clone()
     }
 
-    /// Slot 4 (publisher - 1) + number, of 129 bytes, becomes zeros, and nothing else changes.
+    /// The 129 bytes of slot 4 (publisher - 1) + number become zeros. All other bytes stay.
     fn fixed(&self) -> Vec<Fixed> {
         let mut cases = vec![clear("the empty shelf", &[0; SHELF_BYTES], 1, 0).bytes(vec![0; SHELF_BYTES])];
         for (publisher, number, at) in [(1, 0, 0), (1, 3, 387), (2, 0, 516), (2, 3, 903)] {

@@ -1,4 +1,4 @@
-//! A slip judged by a key of a shelf.
+//! Judging a slip with a key of a shelf.
 
 use reference::shelf::SHELF_BYTES;
 use reference::testkit::Slip;
@@ -16,8 +16,8 @@ impl Operation for ShelfJudge {
         Facts { over: Over::Held, share: 3, ..Facts::of("shelf_judge", questions, parts) }
     }
 
-    /// The key of an accepted slip stands in its slot, with its faults, which no load would take. For 31 the slot's length
-    /// is 0.
+    /// Puts the key of an accepted slip, with its faults, into a slot. A key with faults can only be put there
+    /// directly, because a load would refuse it. For 31 the slot's length is 0.
     fn make(&self, maker: &mut Maker, field: Field, faults: &[u8], size: Size) -> Option<Parts> {
         let (codes, mut shelf) = (maker.codes(size), maker.shelf());
         let mut slip = maker.slip(field, &codes);
@@ -58,7 +58,7 @@ impl Operation for ShelfJudge {
         }
     }
 
-    /// The shelf stays.
+    /// The shelf stays unchanged on a refusal.
     fn refused(&self, input: &Input) -> Vec<u8> {
         input.parts[0].clone()
     }
@@ -75,7 +75,8 @@ impl Operation for ShelfJudge {
         cases
     }
 
-    /// The slip of each field by each slot that holds its key and by each that holds none.
+    /// Puts the key of a slip into each slot in turn, and judges the slip at each place. Only the place of the key
+    /// gives 0. Every other slot gives 31, and a place that no shelf has gives 30. The slips are over both fields.
     fn small(&self, run: &mut Run) -> Checked {
         for field in Field::BOTH {
             let codes = run.maker.random.tangled_word(5);
@@ -113,7 +114,7 @@ fn judge(name: &str, shelf: &[u8], publisher: usize, number: usize, digest: &[u8
     Fixed::of(&ShelfJudge, &name, &[shelf, &publisher, &number, digest, word]).bytes(shelf.to_vec())
 }
 
-/// As the verdict has them. A first byte over 128 counts as 128.
+/// Slips with known answers. A slot's first byte is the length of its file. A length over 128 counts as 128.
 fn by_hand() -> Vec<Fixed> {
     let [small, large] = Field::BOTH.map(keys::plain);
     let (first, second) = (shelf_with(1, 0, &small), shelf_with(2, 3, &large));

@@ -1,4 +1,4 @@
-//! A key loaded into a shelf.
+//! Loading a key into a shelf.
 
 use reference::shelf::SHELF_BYTES;
 
@@ -35,7 +35,7 @@ impl Operation for ShelfLoad {
         }
     }
 
-    /// The shelf stays.
+    /// The shelf stays unchanged on a refusal.
     fn refused(&self, input: &Input) -> Vec<u8> {
         input.parts[0].clone()
     }
@@ -56,8 +56,8 @@ fn load(name: &str, shelf: &[u8], publisher: usize, number: usize, key: &[u8]) -
     Fixed::of(&ShelfLoad, &name, &[shelf, &publisher, &number, key])
 }
 
-/// The eight slots begin at 0, 129, 258, 387, then at 516, 645, 774, 903. A slot has the length, the file, and zeros to
-/// 129 bytes. The bytes of the other slots stay.
+/// Loads a key into each slot. The slots of publisher 1 begin at 0, 129, 258 and 387, those of publisher 2 at 516, 645,
+/// 774 and 903. A slot has 129 bytes: the length of the file, the file, and zeros. The bytes of all other slots stay.
 fn places() -> Vec<Fixed> {
     let slots = [
         (1, 0, 0),
@@ -83,7 +83,7 @@ fn places() -> Vec<Fixed> {
     cases
 }
 
-/// A key of 83 bytes in place of one of 128 leaves none of its bytes.
+/// A key of 83 bytes that replaces a key of 128 bytes leaves none of the old bytes.
 fn replaced() -> Vec<Fixed> {
     let [small, large] = Field::BOTH.map(keys::plain);
     let slot = |key: &[u8]| {
@@ -94,7 +94,8 @@ fn replaced() -> Vec<Fixed> {
     vec![load("83 bytes over 128", &slot(&large), 1, 1, &small).bytes(slot(&small))]
 }
 
-/// There is no publisher but 1 and 2, and no number over 3: none leads to another's slot.
+/// The only publishers are 1 and 2, and the key numbers are 0 to 3. Any other number must be refused, and must not
+/// reach a slot.
 fn nobody() -> Vec<Fixed> {
     let key = keys::plain(Field::Gf32);
     let places =

@@ -1,5 +1,5 @@
-//! Shortening. The contract leaves free which word is written. Library and reference do the same search, so they are held
-//! to each other byte for byte, and the new word to what must hold of it whatever the search is.
+//! Shortening. The contract does not say which word is written. The library and the reference do the same search, so
+//! their new words must have the same bytes. The new word must also have the properties that hold for every search.
 
 use reference::reduce::freely_reduced;
 use reference::testkit::signatures;
@@ -12,7 +12,8 @@ use crate::plan::Failure;
 
 pub struct Shorten;
 
-/// The effort as a byte: damage cannot make it so large that the reference takes long. Byte 255 stands for 65,535.
+/// The effort as one byte, so that damage cannot make it so large that the reference takes long. Exception: byte 255
+/// stands for the effort 65,535.
 const EFFORT: Part = Part { name: "effort", form: Form::Fixed(1) };
 
 fn effort_of(byte: u8) -> u16 {
@@ -23,15 +24,15 @@ fn effort_of(byte: u8) -> u16 {
     }
 }
 
-/// The letters of the words of each class of tests/signatures.txt: before, and at efforts 0, 1 and 5. The reference has
-/// made these numbers.
+/// For each class of tests/signatures.txt: the number of letters of all its words, and the numbers after shortening
+/// with efforts 0, 1 and 5. The numbers come from the reference.
 const SAVED: [(&str, usize, [usize; 3]); 3] = [
     ("sig32", 11_516, [10_504, 8_062, 7_660]),
     ("sig256", 21_854, [19_658, 15_508, 14_874]),
     ("stoch32", 10_798, [8_562, 3_328, 3_034]),
 ];
 
-/// How many random words of some hundred letters are shortened.
+/// The number of random words of middle size that are shortened.
 const MIDDLING: usize = 40;
 
 impl Operation for Shorten {
@@ -40,7 +41,7 @@ impl Operation for Shorten {
         Facts { output: WORDS, numbers: &["bytes"], share: 7, ..facts }
     }
 
-    /// The longest words get little effort, since the reference is slow.
+    /// Long words get little effort, because the reference is slow.
     fn make(&self, maker: &mut Maker, _: Field, faults: &[u8], size: Size) -> Option<Parts> {
         let word = maker.word(faults, size);
         let effort = match size {
@@ -65,7 +66,8 @@ impl Operation for Shorten {
         })
     }
 
-    /// Words whose shortest form is known: b1 b2 b1 b2⁻¹ b1⁻¹ is b2, b1 b3 b1⁻¹ is b3, and positive words stay.
+    /// Words whose shortest form is known. b1 b2 b1 b2⁻¹ b1⁻¹ becomes b2, b1 b3 b1⁻¹ becomes b3, and positive words
+    /// stay.
     fn fixed(&self) -> Vec<Fixed> {
         let shorten = |name: &str, word: &[u8], effort: u8| Fixed::of(&Shorten, name, &[word, &[effort]]);
         let turned = hex("00 05 01 09 80");
@@ -85,7 +87,8 @@ impl Operation for Shorten {
         cases
     }
 
-    /// The signatures, whose letters are counted, and words of some hundred letters, before and after free reduction.
+    /// Shortens the signatures and counts their letters. Then shortens random words of middle size, before and after
+    /// free reduction.
     fn small(&self, run: &mut Run) -> Checked {
         for (class, before, after) in SAVED {
             let words = signatures(class);
@@ -95,7 +98,7 @@ impl Operation for Shorten {
                 for word in &words {
                     sum += shortened(run, word, effort)?;
                 }
-                assert_eq!(sum, saved, "{class}: letters at effort {effort}");
+                assert_eq!(sum, saved, "{class}: letters after effort {effort}");
             }
         }
         for _ in 0..MIDDLING {
@@ -108,7 +111,8 @@ impl Operation for Shorten {
     }
 }
 
-/// Compares on one word, and holds the new one to what holds of it whatever the search is: the new one's letters.
+/// Compares the shortening of one word, and checks the properties that the new word has with every search. Returns the
+/// number of letters of the new word.
 fn shortened(run: &mut Run, word: &[u8], effort: u8) -> Checked<usize> {
     let input = run.maker.input(&Shorten, Field::Gf32, vec![word.to_vec(), vec![effort]]);
     let outcome = run.input(input.clone(), Some(0))?;

@@ -9,14 +9,14 @@ const FIRST: Part = Part { name: "first word", form: Form::Word };
 const SECOND: Part = Part { name: "second word", form: Form::Word };
 
 impl Operation for Shorter {
-    /// The word's questions are put twice: a fault stands in the first word or in the second.
+    /// The questions about a word are asked of the first word and then of the second, so a fault can be in either word.
     fn facts(&self) -> Facts {
         let facts = Facts::of("shorter", &[9, 10, 11, 12, 13], &[FIRST, SECOND]);
         Facts { numbers: &["which"], reached: &[1, 2], ..facts }
     }
 
-    /// A single fault stands in either word or in both, several faults all in the first. Two words without faults often
-    /// have lengths that differ little.
+    /// A single fault is in the first word, in the second, or in both. If there are several faults, both words have all
+    /// of them. Words without faults often have almost the same length.
     fn make(&self, maker: &mut Maker, _: Field, faults: &[u8], size: Size) -> Option<Parts> {
         let mut codes = [maker.codes(size), maker.codes(size)];
         let random = &mut maker.random;
@@ -48,7 +48,7 @@ impl Operation for Shorter {
             shorter("00 01 00", "00 00").number(2),
             shorter("00 00", "00 01 00").number(1),
             shorter("00 01 00", "00 01 10").number(1),
-            // both have 3 bytes, though the second has a letter less
+            // Both files have 3 bytes, although the second word has one letter less.
             shorter("00 02 01", "00 01 00").number(1),
             Fixed::of(&Shorter, "10,000 letters and none", &[&longest, &hex("00 00")]).number(2),
             Fixed::of(&Shorter, "10,000 letters twice", &[&longest, &longest]).number(1),
@@ -60,7 +60,7 @@ impl Operation for Shorter {
         ]
     }
 
-    /// The first word has one fault and the second another, each with each.
+    /// Words in which the first has one fault or none, and the second has one fault or none, in every combination.
     fn small(&self, run: &mut Run) -> Checked {
         let faults = || (9..=13).map(|fault| vec![fault]).chain([vec![]]);
         for (first, second) in faults().flat_map(|first| faults().map(move |second| (first.clone(), second)))

@@ -1,4 +1,4 @@
-//! Artin to Y. The file also has what the other direction shares.
+//! Artin to Y. Also the functions that `from_y` shares.
 
 use reference::dialect::{converted, Way};
 use reference::letter::{letters_of, Letter};
@@ -12,7 +12,7 @@ pub struct ToY;
 /// The questions of both conversions.
 pub const QUESTIONS: &[u8] = &[15, 9, 10, 11, 12, 13, 33, 34];
 
-/// The parts of 7.
+/// Numbers over 0 whose sum is 7.
 pub const PARTS: Part = Part { name: "parts", form: Form::Bytes };
 
 /// The facts of a conversion.
@@ -46,7 +46,7 @@ impl Operation for ToY {
     fn fixed(&self) -> Vec<Fixed> {
         let case = |name: &str, word: &str, parts: &[u8]| Fixed::of(&ToY, name, &[&hex(word), parts]);
         let mut cases = vec![
-            // b1 b2 is y1 y2⁻¹ y2 y3⁻¹, and nothing is cancelled
+            // b1 b2 becomes y1 y2⁻¹ y2 y3⁻¹. The conversion does not cancel y2⁻¹ y2.
             case("b1 b2", "00 02 01", &[4, 3]).writes(&hex("00 04 09 1A")),
             // b2⁻¹ is the inverse of y2 y3⁻¹
             case("b2⁻¹", "00 01 90", &[4, 3]).writes(&hex("00 02 29")),
@@ -56,7 +56,7 @@ impl Operation for ToY {
             case("a word before parts", "00", &[]).refused(9),
         ];
         let doubled = [hex("13 88"), vec![0; 2_500]].concat();
-        // b1 b1 is y1 y2⁻¹ y1 y2⁻¹
+        // b1 b1 becomes y1 y2⁻¹ y1 y2⁻¹.
         let full = [hex("27 10"), vec![0x09; 5_000]].concat();
         cases.push(Fixed::of(&ToY, "5,000 letters b1", &[&doubled, &[4, 3]]).writes(&full));
         let more = [hex("13 89"), vec![0; 2_501]].concat();
@@ -71,7 +71,7 @@ impl Operation for ToY {
     }
 }
 
-/// A word and parts for a conversion.
+/// A word and parts of 7 for a conversion. For 34 a long word with the single part 7.
 pub fn make(way: Way, maker: &mut Maker, faults: &[u8], size: Size) -> Option<Parts> {
     let long = faults.contains(&34);
     let mut codes = maker.codes(if long { Size::Long } else { size });
@@ -91,7 +91,7 @@ pub fn make(way: Way, maker: &mut Maker, faults: &[u8], size: Size) -> Option<Pa
     Some(vec![files::word(random, &codes, faults), parts])
 }
 
-/// Parts with a zero, or with another sum.
+/// Parts changed so that they have a zero or another sum.
 fn spoiled(random: &mut reference::testkit::Random, mut parts: Vec<u8>) -> Vec<u8> {
     let place = random.below(parts.len() as u64);
     match random.below(4) {
@@ -100,13 +100,13 @@ fn spoiled(random: &mut reference::testkit::Random, mut parts: Vec<u8>) -> Vec<u
         2 => {
             parts.remove(place);
         }
-        // the sum is 7 modulo 256
+        // The sum is 263, which is 7 modulo 256.
         _ => parts.extend([128, 128]),
     }
     parts
 }
 
-/// Lists that are no parts of 7.
+/// Lists that are no parts of 7: the sum is not 7, or a number is 0.
 pub fn no_parts() -> Vec<Vec<u8>> {
     let long = [vec![1; 263], vec![7; 40], vec![1; 8]];
     let short: [&[u8]; 10] =
@@ -114,7 +114,8 @@ pub fn no_parts() -> Vec<Vec<u8>> {
     short.map(<[u8]>::to_vec).into_iter().chain(long).collect()
 }
 
-/// Every word of two letters with each composition of 7, and every list of up to three bytes below 9 as parts.
+/// Every word of two letters with each list of parts of 7. Then one word with every list of up to three numbers below 9
+/// as parts.
 pub fn small(operation: &'static dyn Operation, run: &mut Run) -> Checked {
     let codes = || (0..16).filter(|code| Letter::from_code(*code).is_some());
     for parts in compositions(7) {

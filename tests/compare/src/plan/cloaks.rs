@@ -1,6 +1,6 @@
-//! Cloaks anywhere (document 02, section 12). Words that cloak for the list reached at a place are inserted there, one
-//! after another and between accepted moves, into the words of accepted and of refused slips. Each verdict must stay.
-//! Words that cloak for another list are inserted too, and change verdicts.
+//! Cloaks anywhere (document 02, section 12). At a place in a slip's word, inserts a word that cloaks for the list
+//! reached there. Repeats the insertion in the new word, with accepted moves between insertions. The slips are accepted
+//! or refused, and each verdict must stay. Also inserts words that cloak for another list, which change verdicts.
 
 use std::collections::BTreeMap;
 
@@ -17,26 +17,28 @@ use crate::operations::verify::{flip_second_matrix, Verify};
 use crate::operations::write_word::WriteWord;
 use crate::plan::{Checked, Failure, Run};
 
-/// How many slips there are over each field, accepted ones and refused ones in turn.
+/// The number of slips over each field. Every second slip is refused.
 const SLIPS: usize = 1_200;
 
-/// The most insertions and move lists that one slip goes through.
+/// The most steps for one slip. A step is an insertion or a move list.
 const STEPS: usize = 4;
 
-/// How many slips over each field have a word inserted that leaves 10,000 letters, and how many one that leaves 10,001.
+/// The number of slips over each field that an insertion fills to 10,000 letters. As many other slips get 10,001
+/// letters.
 const LIMITS: usize = 6;
 
-/// The most letters before the power in a cloaking word, and in one that fills up a word.
+/// The most letters before the power in a short cloaking word, and in a cloaking word that fills a word to the limit.
+/// `unit_cloak` can add up to six letters.
 const SIDE: usize = 12;
 const LONG_SIDE: usize = 2_000;
 
-/// Why an answer must be as it is.
+/// The accounts of failures: what must hold.
 const CLOAKS: &str = "the word was made to cloak for the list";
 const STAYS: &str =
     "the verdict must stay after insertions of words that cloak for the list reached, and after accepted moves";
 const EXACTLY: &str = "the verdict must stay exactly if the inserted word cloaks for the list reached";
 
-/// What was done over a field.
+/// The numbers of tests over one field.
 #[derive(Default)]
 struct Counts {
     slips: usize,
@@ -44,9 +46,9 @@ struct Counts {
     refused: usize,
     insertions: usize,
     move_lists: usize,
-    /// Insertions that leave 10,000 letters or 10,001.
+    /// Insertions after which the word has 10,000 or 10,001 letters.
     limits: usize,
-    /// Words that cloak for another list than the one reached, and how many verdicts they changed.
+    /// Words that cloak for another list than the one reached, and the number of verdicts that they changed.
     elsewhere: usize,
     changed: usize,
 }
@@ -62,7 +64,7 @@ impl Counts {
     }
 }
 
-/// What was done over each field.
+/// The numbers of tests over each field.
 #[derive(Default)]
 pub struct Insertions(BTreeMap<Field, Counts>);
 
@@ -87,7 +89,7 @@ impl Insertions {
     }
 }
 
-/// What a key has besides the matrix of Pub(S').
+/// The parts of a key, except the matrix of Pub(S').
 #[derive(Clone, Copy)]
 struct Public {
     field: Field,
@@ -95,7 +97,7 @@ struct Public {
     pair: Pair,
 }
 
-/// A slip, what its key has, and its verdict: 0 or 14.
+/// A slip, the parts of its key, and its verdict: 0 or 14.
 struct Judged {
     public: Public,
     slip: Slip,
@@ -103,24 +105,24 @@ struct Judged {
 }
 
 impl Judged {
-    /// The list that letters reach from Pub(S).
+    /// The list that these letters reach from the list of Pub(S).
     fn reached(&self, codes: &[u8]) -> Labels {
         list_reached(&self.public.pair.labels, codes)
     }
 
-    /// The slip with another word.
+    /// The slip with its word replaced by this word file.
     fn with_word(&self, word: Vec<u8>) -> Parts {
         vec![self.slip.key.clone(), self.slip.digest.clone(), word]
     }
 
-    /// The question whether a word cloaks for a list under the slip's key.
+    /// The parts that ask whether a word cloaks for a list under the slip's key.
     fn asks(&self, list: &Labels, word: &[u8]) -> Parts {
         vec![self.slip.key.clone(), list.to_vec(), word_file(word)]
     }
 }
 
 impl Run {
-    /// All of it over one field.
+    /// Runs all tests of cloaks over one field.
     pub fn cloaks_anywhere(&mut self, field: Field) -> Checked {
         for place in 0..SLIPS {
             let letters = if place % 50 < 2 { 500 } else { self.maker.random.within(0, 40) };
@@ -143,8 +145,8 @@ impl Run {
         Public { field, t_values: random.cloaking_t_values(field), pair: random.invertible_key_pair(field) }
     }
 
-    /// A slip of this word with this verdict, for the digest whose braid is shortest. For 14 a bit in the matrix of
-    /// Pub(S') is wrong.
+    /// A slip with this word and this verdict. The digest has zero bytes only, because its braid is the shortest. For
+    /// the verdict 14, one bit in the matrix of Pub(S') is wrong.
     fn judged_slip(&mut self, public: Public, codes: &[u8], verdict: u8) -> Checked<Judged> {
         let Public { field, t_values, pair } = public;
         let mut slip = accepted_slip(field, &t_values, &pair, &vec![0; field.digest_bytes()], codes);
@@ -159,7 +161,7 @@ impl Run {
         Ok(judged)
     }
 
-    /// Compares an input whose answer and numbers must be these. The account says why.
+    /// Compares an input whose answer and numbers must be the expected ones. The account says why.
     fn held(&mut self, operation: Op, parts: Parts, expected: (u8, &[i64]), account: &str) -> Checked {
         let input = self.maker.input(operation, Field::Gf32, parts);
         let outcome = self.input(input.clone(), None)?;
@@ -169,12 +171,12 @@ impl Run {
         Ok(())
     }
 
-    /// The operation itself says that the word cloaks for the list.
+    /// Checks by the operation `cloaks` that the word cloaks for the list.
     fn cloaks_for(&mut self, judged: &Judged, list: &Labels, word: &[u8]) -> Checked {
         self.held(&Cloaks, judged.asks(list, word), (0, &[1]), CLOAKS)
     }
 
-    /// A word that cloaks for the list under the slip's key. Every sixth has another one inserted.
+    /// A word that cloaks for the list under the slip's key. One in six has a second cloaking word inserted.
     fn cloak(&mut self, judged: &Judged, list: &Labels) -> Checked<Vec<u8>> {
         let (random, Public { field, t_values, .. }) = (&mut self.maker.random, judged.public);
         let side = random.within(0, SIDE);
@@ -191,7 +193,8 @@ impl Run {
         Ok(word)
     }
 
-    /// Insertions, and move lists between them: each changes the word that the last one left. The verdict stays.
+    /// Changes the word by insertions, with move lists between them. Each step changes the word that the step before it
+    /// left. The verdict must stay after each step.
     fn steps(&mut self, judged: &Judged, mut codes: Vec<u8>) -> Checked {
         for step in 0..self.maker.random.within(1, STEPS) {
             let word = if step > 0 && self.maker.random.one_in(3) {
@@ -205,7 +208,8 @@ impl Run {
         Ok(())
     }
 
-    /// The word with another one inserted at any place that cloaks for the list reached there.
+    /// The word with a cloaking word inserted at a random place. The inserted word cloaks for the list reached at this
+    /// place.
     fn with_cloak(&mut self, judged: &Judged, codes: &[u8]) -> Checked<Vec<u8>> {
         let place = self.maker.random.within(0, codes.len());
         let word = self.cloak(judged, &judged.reached(&codes[..place]))?;
@@ -221,9 +225,9 @@ impl Run {
         self.word_from(&Rewrite, vec![word_file(codes), list])
     }
 
-    /// A word that cloaks for another list than the one reached, inserted into an accepted slip's word. The inserted
-    /// word brings every list back, and all matrices have inverses. So the slip stays accepted exactly if that word
-    /// cloaks for the list reached too.
+    /// Inserts a word that cloaks for another list than the one reached into an accepted slip's word. The inserted word
+    /// brings every list back, and all matrices have inverses. So the slip stays accepted exactly if the inserted word
+    /// also cloaks for the list reached.
     fn elsewhere(&mut self, judged: &Judged, codes: &[u8]) -> Checked {
         let random = &mut self.maker.random;
         let (place, side, any) = (random.within(0, codes.len()), random.within(0, SIDE), random.labels());
@@ -243,8 +247,8 @@ impl Run {
         Ok(())
     }
 
-    /// A long cloaking word that leaves 10,000 letters: the verdict stays. Another that leaves 10,001: the writer of
-    /// words and the verdict answer 10.
+    /// Inserts a long cloaking word. If the new word has 10,000 letters, the verdict must stay. If it has 10,001
+    /// letters, the writer of words and the verdict must answer 10.
     fn limits(&mut self, field: Field, verdict: u8) -> Checked {
         for total in [MOST_LETTERS, MOST_LETTERS + 1] {
             let (public, random) = (self.public(field), &mut self.maker.random);
@@ -273,7 +277,7 @@ impl Run {
 mod tests {
     use super::*;
 
-    /// Each field needs a verdict that changed.
+    /// Each field must have a changed verdict.
     #[test]
     fn unchanged_verdicts_are_a_gap() {
         let mut insertions = Insertions::default();

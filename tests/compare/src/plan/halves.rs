@@ -1,4 +1,4 @@
-//! The verdict whole and by halves.
+//! Compares the whole verdict with its two halves.
 
 use reference::Field;
 
@@ -11,7 +11,7 @@ use crate::operations::verify::Verify;
 use crate::plan::{in_pairs, Checked, Failure, Run};
 
 impl Run {
-    /// Slips with each question of the verdict answered no, alone and with each other one, and accepted ones.
+    /// Slips without faults, with each fault of the verdict, and with each two faults.
     pub fn halves(&mut self, field: Field) -> Checked {
         for faults in in_pairs(&Verify.facts().questions_over(field)) {
             let case = self.maker.with_faults(&Verify, field, &faults, Size::Short);
@@ -21,8 +21,9 @@ impl Run {
         Ok(())
     }
 
-    /// Key, digest and word: the verdict answers what the first half refuses with, or what the second answers on the
-    /// half that the first gave.
+    /// Judges a slip, which is a key, a digest and a word, whole and by halves. If the first half refuses, the verdict
+    /// must have the first half's answer. Otherwise the verdict must have the answer of the second half, which gets the
+    /// first half's result and the word.
     pub fn whole_and_halves(&mut self, slip: Parts, expected: Option<u8>) -> Checked {
         let input = self.maker.input(&Verify, Field::Gf32, slip.clone());
         let whole = self.input(input.clone(), expected)?.answer;
@@ -35,7 +36,7 @@ impl Run {
             first.answer
         };
         if by_halves != whole {
-            let account = format!("its halves give answer {by_halves}");
+            let account = format!("the verdict differs from its halves, which answer {by_halves}");
             return Err(Box::new(Failure::Unexpected(input, account)));
         }
         Ok(())

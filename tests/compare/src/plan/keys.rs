@@ -1,4 +1,5 @@
-//! Keys of every length, q and rank, put to each operation that takes a key, and keys there and back.
+//! Tests keys of every length, q and rank in each operation that takes a key. Also tests that a key that is read and
+//! written again has the same bytes.
 
 use reference::matrix::{at, identity};
 use reference::testkit::{inverse_matrix, Random};
@@ -13,15 +14,16 @@ use crate::operations::write_key::WriteKey;
 use crate::operations::ALL;
 use crate::plan::{Checked, Failure, Run, MATRICES, VARIANTS};
 
-/// The two matrices of a key, and the answer that they get beside parts without faults: 0, or 26.
+/// The two matrices of a key, and the answer that a key with them gets if its other parts have no faults: 0 or 26.
 pub type Matrices = ([Matrix; 2], u8);
 
-/// Key files, each with the answer that it gets.
+/// Key files, each with its answer.
 type Keys = Vec<(Vec<u8>, u8)>;
 
-/// Matrices in the first place, in the second and in both: of every rank; the identity with each of its entries, as far
-/// as a key file has them, changed to zero, to one and to another element; as they are drawn, with few zeros and with
-/// many, and those of permutations. Elimination says which have an inverse.
+/// Pairs of matrices for a key. Some have a given rank from 0 to 8, in the first place, in the second, or in both. Some
+/// are the identity matrix with one of the entries that a key file holds changed to zero, to one, or to another
+/// element. Some are random, with few zeros or with many, and some are permutation matrices. Elimination decides which
+/// matrices have an inverse.
 pub fn matrices(random: &mut Random, field: Field) -> Vec<Matrices> {
     let mut all = Vec::new();
     for rank in (0..=8).flat_map(|rank| [rank; VARIANTS]) {
@@ -49,7 +51,7 @@ pub fn matrices(random: &mut Random, field: Field) -> Vec<Matrices> {
 }
 
 impl Run {
-    /// All of it over one field.
+    /// Runs all tests of keys over one field.
     pub fn keys(&mut self, field: Field) -> Checked {
         self.each_key(field, &|_, key| every_length(field, key))?;
         self.each_key(field, &|_, key| every_q(field, key))?;
@@ -60,8 +62,9 @@ impl Run {
         Ok(())
     }
 
-    /// For each operation that takes a key, an accepted input with each of these keys in the place of its own, and the
-    /// answer that the key gets. A key that is accepted in another's place may lead to 14.
+    /// For each operation that takes a key, replaces the key of an accepted input by each of these keys, and expects
+    /// the key's answer. Exception: if the new key is accepted and the operation asks question 14, the answer may be 0
+    /// or 14.
     fn each_key(&mut self, field: Field, keys: &dyn Fn(&mut Random, &[u8]) -> Keys) -> Checked {
         for operation in ALL {
             let facts = operation.facts();
@@ -77,7 +80,8 @@ impl Run {
         Ok(())
     }
 
-    /// A key file read, and written again from what was read, its matrices by their entries: the same bytes.
+    /// Reads a key file, and writes a key from the result. The matrices are written by the entries that a key file
+    /// holds. The written file must have the same bytes.
     fn key_back(&mut self, field: Field) -> Checked {
         let file = self.maker.random.invertible_key(field);
         let outcome = self.parts(&ReadKey, vec![file.clone()], Some(0))?;
@@ -88,14 +92,14 @@ impl Run {
         let input = self.maker.input(&WriteKey, named, parts);
         let written = self.input(input.clone(), Some(0))?.bytes;
         if written[GUARD..GUARD + file.len()] != file {
-            let account = "a key that was read is not written back as its own bytes".to_string();
+            let account = "the key was read and written again, and its bytes changed".to_string();
             return Err(Box::new(Failure::Unexpected(input, account)));
         }
         Ok(())
     }
 }
 
-/// The key cut or lengthened by zeros to each length: keys of 83 and 128 bytes are no others.
+/// The key cut, or lengthened by zeros, to each length up to 300. Only 83 and 128 are lengths of keys.
 fn every_length(field: Field, key: &[u8]) -> Keys {
     let with_length = |length: usize| {
         let mut file = key.to_vec();
@@ -110,7 +114,7 @@ fn every_length(field: Field, key: &[u8]) -> Keys {
     (0..=300).map(with_length).collect()
 }
 
-/// The key with each number up to 511 for q, and with each high byte over 0 and over the small q.
+/// The key with q replaced: by each number up to 511, and by each number up to 65,535 whose low byte is 0 or 32.
 fn every_q(field: Field, key: &[u8]) -> Keys {
     let with_q = |q: u16| {
         let answer = if q == field.size() { 0 } else { 3 };
@@ -119,7 +123,7 @@ fn every_q(field: Field, key: &[u8]) -> Keys {
     (0..512).chain((2..256).flat_map(|high| [256 * high, 256 * high + 32])).map(with_q).collect()
 }
 
-/// The key with matrices that have an inverse, and with others.
+/// The key with other matrices. Some of the matrices have no inverse.
 fn every_matrix(random: &mut Random, field: Field, key: &[u8]) -> Keys {
     let with_matrices = |([first, second], answer): Matrices| {
         let file = files::with_matrix(field, key, 0, &first);

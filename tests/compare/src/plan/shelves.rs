@@ -1,4 +1,5 @@
-//! Histories of a key shelf: random calls by both publishers and by nobody, each on the shelf that the last one left.
+//! Histories of a key shelf: random calls by both publishers, and by publisher numbers that nobody has. Each call gets
+//! the shelf that the call before it left.
 
 use reference::shelf::SHELF_BYTES;
 use reference::testkit::Slip;
@@ -13,11 +14,11 @@ use crate::operations::shelf_judge::ShelfJudge;
 use crate::operations::shelf_load::ShelfLoad;
 use crate::plan::{Checked, Failure, Run};
 
-/// How many histories there are, and how many calls each of them has.
+/// The number of histories, and the number of calls in each history.
 const HISTORIES: usize = 120;
 const CALLS: usize = 40;
 
-/// A call with what it took beside the shelf, and the answer that it got.
+/// A call with its input, and its answer.
 struct Call {
     input: Input,
     answer: u8,
@@ -38,7 +39,7 @@ impl Call {
 }
 
 impl Run {
-    /// Two of three histories begin at the empty shelf, the others at any bytes.
+    /// Runs the histories. Two of three begin with the empty shelf, the third with any shelf.
     pub fn histories(&mut self) -> Checked {
         for place in 0..HISTORIES {
             let slips: Vec<Slip> = (0..4).map(|_| self.some_slip()).collect();
@@ -62,7 +63,7 @@ impl Run {
         self.maker.slip(field, &codes)
     }
 
-    /// A call on a shelf with the files of a slip, right ones for the most part.
+    /// A random call on a shelf, with the files of a slip. Most files have no faults.
     fn call_on(&mut self, shelf: Vec<u8>, slips: &[Slip]) -> Input {
         let random = &mut self.maker.random;
         let Slip { key, digest, word } = slips[random.below(slips.len() as u64)].clone();
@@ -81,8 +82,9 @@ impl Run {
     }
 }
 
-/// The publisher's calls by themselves, from the empty shelf: the library gives the same answers, and each of its
-/// numbers holds the file of the last accepted load, if it was not cleared since.
+/// Repeats the calls of one publisher alone, from the empty shelf. The library must give the same answers. At the end,
+/// in both shelves, each key number of the publisher must hold the file of its last accepted load, or no file if an
+/// accepted clear came later.
 fn alone(calls: &[Call], end: &[u8], publisher: usize) -> Checked {
     let mut shelf = vec![0; SHELF_BYTES];
     let unexpected =
@@ -92,7 +94,7 @@ fn alone(calls: &[Call], end: &[u8], publisher: usize) -> Checked {
         input.parts[0] = shelf;
         let outcome = input.outcome(By::Library);
         if outcome.answer != call.answer {
-            return unexpected(input, "beside another publisher it had another answer");
+            return unexpected(input, "the publisher's calls alone give another answer than the history");
         }
         shelf = outcome.bytes;
     }
@@ -102,7 +104,7 @@ fn alone(calls: &[Call], end: &[u8], publisher: usize) -> Checked {
         let last = own.rfind(|call| call.answer == 0 && !call.is(&ShelfJudge));
         let file = last.filter(|call| call.is(&ShelfLoad)).map(|call| call.input.parts[3].clone());
         if [held(end, number), held(&shelf, number)] != [file.clone(), file] {
-            return unexpected(calls[calls.len() - 1].input.clone(), "a number does not hold its last load");
+            return unexpected(calls[calls.len() - 1].input.clone(), "a key number holds the wrong file");
         }
     }
     Ok(())

@@ -1,4 +1,4 @@
-//! Slips that the verdict accepts, through several operations.
+//! Takes accepted slips through several operations.
 
 use reference::testkit::{move_list, Slip};
 use reference::Field;
@@ -11,8 +11,8 @@ use crate::operations::verify::Verify;
 use crate::plan::{Checked, Run};
 
 impl Run {
-    /// Words of each number of letters up to 66, four times eight bytes and two letters more: accepted slips, judged
-    /// over either field, freely reduced, and rewritten by no moves.
+    /// Accepted slips with words of each number of letters up to 66, which are four times eight bytes and one byte
+    /// more. Each slip is judged over each field, and its word is freely reduced, and rewritten by no moves.
     pub fn every_number_of_letters(&mut self) -> Checked {
         for letters in 0..=66 {
             let codes = self.maker.random.tangled_word(letters);
@@ -26,9 +26,9 @@ impl Run {
         Ok(())
     }
 
-    /// An accepted slip, judged as it is, rewritten by accepted moves, freely reduced, with the digest cut or
-    /// lengthened to the other field's size, and damaged. Every tenth has some hundred letters, every eightieth as many
-    /// as a word can have.
+    /// Judges an accepted slip as it is, then with its word rewritten by accepted moves, and with each of these two
+    /// words freely reduced. Then judges it with the digest cut or lengthened to the other field's size, and with one
+    /// part damaged. Every tenth slip has 500 letters, every eightieth 9,990.
     pub fn slip(&mut self, field: Field, place: usize) -> Checked {
         let (letters, moves) = match place {
             _ if place % 80 == 79 => (9_990, 2_000),
@@ -53,12 +53,12 @@ impl Run {
         self.whole_and_halves(damaged.parts, None)
     }
 
-    /// The slip is accepted with this word in the place of its own, whole and by halves.
+    /// Checks that the slip is accepted with this word in place of its own, whole and by halves.
     fn judged(&mut self, slip: &Slip, word: Vec<u8>) -> Checked {
         self.whole_and_halves(vec![slip.key.clone(), slip.digest.clone(), word], Some(0))
     }
 
-    /// The word that an accepted writing leaves.
+    /// The word file that an operation writes. The operation must accept the parts.
     pub fn word_from(&mut self, operation: Op, parts: Parts) -> Checked<Vec<u8>> {
         let outcome = self.parts(operation, parts, Some(0))?;
         Ok(outcome.bytes[GUARD..GUARD + outcome.numbers[0] as usize].to_vec())

@@ -1,5 +1,6 @@
-//! The program `crossings`, of a word on standard input and of a word in a file: what it writes is the line of each two
-//! labels with the number that the reference finds, or the line of the reference's answer.
+//! The program `crossings`, with a word on standard input or in a file. It must write a line for each two labels, with
+//! the number that the reference finds. If the reference refuses the word, it must write the line of the reference's
+//! answer.
 
 use std::ffi::OsStr;
 use std::path::Path;
@@ -11,7 +12,7 @@ use crate::make::Maker;
 use crate::programs::{odd_words, ran, Checked, Counts};
 use crate::show;
 
-/// The most that the program reads: the longest word file and one.
+/// The most bytes that the program reads: one more than the longest word file.
 const INPUT: usize = 5_003;
 
 /// What the program must write.
@@ -25,8 +26,8 @@ fn expected(input: &[u8]) -> String {
     }
 }
 
-/// Runs the program on a word file, which comes in pieces: without arguments, and then with its standard input as a
-/// file by name.
+/// Runs the program on a word file, which arrives in pieces. The first run has no argument. The second run names
+/// standard input as a file.
 fn compare(program: &Path, counts: &mut Counts, pieces: &[&[u8]]) -> Checked {
     let file = pieces.concat();
     let expected = expected(&file);
@@ -39,7 +40,7 @@ fn compare(program: &Path, counts: &mut Counts, pieces: &[&[u8]]) -> Checked {
             let line = lines.into_iter().find(|(found, expected)| found != expected);
             let (name, hex) = (program.display(), show::hex(&file));
             return Err(format!(
-                "{name} {arguments:?}, on {hex}: line written and line expected: {line:?}\n"
+                "{name} {arguments:?}, on {hex}: written line and expected line: {line:?}\n"
             ));
         }
     }
@@ -47,7 +48,7 @@ fn compare(program: &Path, counts: &mut Counts, pieces: &[&[u8]]) -> Checked {
     Ok(())
 }
 
-/// Words of one letter repeated, so that a number has each number of digits, with either sign.
+/// Words of one repeated letter, so that numbers of one to five digits occur, with either sign.
 fn repeated(program: &Path, counts: &mut Counts) -> Checked {
     for code in [0, 6, 8, 14] {
         for letters in [9, 10, 99, 100, 999, 1_000, 9_999, 10_000] {
@@ -57,8 +58,8 @@ fn repeated(program: &Path, counts: &mut Counts) -> Checked {
     Ok(())
 }
 
-/// Words of each length up to 40, of some hundred letters and as long as can be, longer inputs, refused ones, with
-/// faults in pairs, and damaged ones.
+/// Words of each length up to 40, words of 255, 256, 9,999 and 10,000 letters, and each of these words with more bytes
+/// after it. Then refused words with each fault and each two faults, and damaged words.
 pub fn check(folder: &Path, maker: &mut Maker) -> Checked<String> {
     let program = &folder.join("crossings");
     let counts = &mut Counts::default();

@@ -1,5 +1,5 @@
-//! The program `desk`, on standard input, on three files, and on the files of several copies of a slip: each line that
-//! it writes has the reference's answer.
+//! The program `desk`, in its three forms: a slip on standard input, a slip in three files, and several copies of a
+//! slip in files. Each line that it writes must have the reference's answer.
 
 use std::ffi::OsStr;
 use std::fs;
@@ -20,19 +20,19 @@ use crate::operations::verify::Verify;
 use crate::programs::{ran, Checked, Counts};
 use crate::show;
 
-/// How often each pair of faults, and each length, is drawn anew.
+/// The number of slips for each fault, for each two faults, and for each fault of key or digest with several copies.
 const VARIANTS: usize = 5;
 
-/// The slips over each field of which several copies are judged, beside those with a fault of key or digest.
+/// The number of accepted slips over each field of which several copies are judged.
 const COPIED: usize = 60;
 
-/// The line of an answer, or of a file that cannot be read.
+/// The line for an answer, or for a file that cannot be read.
 fn line(answer: Option<u8>) -> String {
     answer.map_or("no answer\n".to_string(), |answer| format!("answer {answer}\n"))
 }
 
-/// What is wrong with what a program wrote, if it is not the lines of these answers. It writes to standard error only
-/// where a file cannot be read.
+/// Checks that the output has exactly the lines of these answers. Standard error must be empty if all files can be
+/// read, and not empty otherwise.
 fn held(name: &str, input: &[&[u8]], output: &Output, answers: &[Option<u8>]) -> Checked {
     let lines: String = answers.iter().copied().map(line).collect();
     if output.stdout == lines.as_bytes() && output.stderr.is_empty() != answers.contains(&None) {
@@ -40,10 +40,11 @@ fn held(name: &str, input: &[&[u8]], output: &Output, answers: &[Option<u8>]) ->
     }
     let parts = input.iter().map(|part| format!("  [{}]: {}\n", part.len(), show::hex(part)));
     let found = String::from_utf8_lossy(&output.stdout);
-    Err(format!("{name}: wrote {found:?} and not {lines:?} on\n{}", parts.collect::<String>()))
+    Err(format!("{name}: wrote {found:?}, expected {lines:?}, on\n{}", parts.collect::<String>()))
 }
 
-/// The file of a copy of a word: the word as it is, rewritten, damaged, with a fault, or too long; or another word.
+/// The word file of a copy: the word unchanged, rewritten, damaged, with a fault, or too long. It can also have another
+/// word.
 fn copy(random: &mut Random, codes: &[u8]) -> Vec<u8> {
     let mut file = word_file(codes);
     match random.below(7) {
@@ -64,7 +65,7 @@ fn copy(random: &mut Random, codes: &[u8]) -> Vec<u8> {
     file
 }
 
-/// The programs, the folder of the files that they are given, and what was compared.
+/// The folder of the programs, the folder of their input files, and the numbers of compared cases.
 struct Desk<'a> {
     programs: &'a Path,
     folder: PathBuf,
@@ -75,7 +76,7 @@ struct Desk<'a> {
     without_answer: usize,
 }
 
-/// Cases counted by the field that a key tells, and by answer.
+/// The numbers of cases, by the field that the key tells and by answer.
 #[derive(Default)]
 struct BySize([Counts; 2]);
 
@@ -84,7 +85,7 @@ impl BySize {
         self.0[usize::from(field == Field::Gf256)].count(answer);
     }
 
-    /// A line for each field; an account if one of the answers that a verdict can have there was not reached.
+    /// A line for each field. It is a failure if one of the verdict's possible answers did not occur over a field.
     fn summaries(&self, name: &str) -> Checked<Vec<String>> {
         let summary = |(field, counts): (Field, &Counts)| {
             let answers = [vec![0], Verify.facts().questions_over(field)].concat();
@@ -96,25 +97,25 @@ impl BySize {
 
 impl Drop for Desk<'_> {
     fn drop(&mut self) {
-        // A folder that stays in the place for temporary ones does no harm.
+        // If the temporary folder cannot be removed, it does no harm.
         let _ = fs::remove_dir_all(&self.folder);
     }
 }
 
 impl Desk<'_> {
-    /// The file of a part.
+    /// The path of a part's file.
     fn file(&self, name: &str) -> PathBuf {
         self.folder.join(name)
     }
 
-    /// The file of a part, with these bytes.
+    /// Writes a part's file with these bytes, and returns its path.
     fn written(&self, name: &str, part: &[u8]) -> Checked<PathBuf> {
         let path = self.file(name);
         fs::write(&path, part).map_err(|error| format!("{}: {error}\n", path.display()))?;
         Ok(path)
     }
 
-    /// The slip on standard input, in these pieces.
+    /// Compares the slip on standard input, which arrives in these pieces.
     fn on_input(&mut self, pieces: &[&[u8]]) -> Checked {
         let input = pieces.concat();
         let answer = desk::answer(&input);
@@ -124,7 +125,7 @@ impl Desk<'_> {
         Ok(())
     }
 
-    /// The slip in three files.
+    /// Compares the slip in three files.
     fn on_files(&mut self, slip: &Slip) -> Checked {
         let parts = [&slip.key, &slip.digest, &slip.word].map(Vec::as_slice);
         let named = ["the key", "the digest", "the signature"].into_iter().zip(parts);
@@ -136,8 +137,8 @@ impl Desk<'_> {
         Ok(())
     }
 
-    /// A key, a digest and the words of several copies in files, some of which are left out: a line for each copy, in
-    /// order.
+    /// Compares several copies of a slip in files. `None` stands for a copy whose file does not exist. The program must
+    /// write a line for each copy, in order.
     fn on_copies(&mut self, key: &[u8], digest: &[u8], words: &[Option<Vec<u8>>]) -> Checked {
         let mut paths = vec![self.written("the key", key)?, self.written("the digest", digest)?];
         for (place, word) in words.iter().enumerate() {
@@ -166,27 +167,28 @@ impl Desk<'_> {
         ran(&self.programs.join("desk"), &arguments, &[])
     }
 
-    /// The slip in both forms.
+    /// Compares the slip on standard input and in three files.
     fn both(&mut self, slip: &Slip) -> Checked {
         self.on_input(&[&[slip.key.as_slice(), &slip.digest, &slip.word].concat()])?;
         self.on_files(slip)
     }
 
-    /// These files are not all there, or cannot be read: there is no line on standard output, and one on standard
-    /// error.
+    /// Checks the program on files that cannot all be read, or on fewer than three files. It must write nothing to
+    /// standard output, and an account to standard error.
     fn unanswered(&mut self, paths: &[PathBuf]) -> Checked {
         let output = self.on_paths(paths)?;
         if !output.stdout.is_empty() || output.stderr.is_empty() {
             let found = String::from_utf8_lossy(&output.stdout);
             return Err(format!(
-                "desk on three files: wrote {found:?} although a file of {paths:?} cannot be read\n"
+                "desk on {paths:?}, where a file is missing or unreadable: wrote {found:?}, or no account\n"
             ));
         }
         self.without_answer += 1;
         Ok(())
     }
 
-    /// Each of the three files left out, or a folder; and fewer names.
+    /// Replaces one or more of the three files by a file that does not exist, or by a folder. Then gives the program
+    /// fewer than three names.
     fn missing(&mut self) -> Checked {
         let there = ["the key", "the digest", "the signature"].map(|name| self.file(name));
         for left_out in 1..8 {
@@ -201,7 +203,7 @@ impl Desk<'_> {
         self.without_key_or_digest(&there)
     }
 
-    /// Copies of a slip whose key or digest, or both, are not there.
+    /// Copies of a slip whose key file, digest file, or both do not exist.
     fn without_key_or_digest(&mut self, there: &[PathBuf; 3]) -> Checked {
         let [key, digest, signature] = there;
         let other = &self.file("not there");
@@ -215,7 +217,8 @@ impl Desk<'_> {
         Ok(())
     }
 
-    /// Document 01's own slips, and the same over the larger field. The reference gives the answers that are stated.
+    /// Document 01's slips, and the corresponding slips over the larger field. The reference must give the answers that
+    /// are stated here.
     fn of_the_paper(&mut self) -> Checked {
         let small = |word| Slip { key: keys::plain(Field::Gf32), digest: vec![0; 32], word };
         let large = |word| Slip { key: keys::plain(Field::Gf256), digest: vec![0; 64], word };
@@ -230,15 +233,15 @@ impl Desk<'_> {
         ] {
             let answer = verify(&slip.key, &slip.digest, &slip.word);
             if answer != stated {
-                return Err(format!("the reference answers {answer} to a slip whose answer is {stated}\n"));
+                return Err(format!("the reference gives a slip answer {answer} instead of {stated}\n"));
             }
             self.both(&slip)?;
         }
         Ok(())
     }
 
-    /// The parts of slips of both sizes put together in every way, and with the other's q: in files each is judged by
-    /// its own bytes, and end to end bytes 1 and 2 say where to cut.
+    /// Combines the keys and digests of slips over both fields, and keys with another q. In files, each part is judged
+    /// by its own bytes. On standard input, bytes 1 and 2, counted from 0, decide where the parts are cut.
     fn mixed(&mut self, maker: &mut Maker) -> Checked {
         let codes = maker.random.tangled_word(6);
         let slips = Field::BOTH.map(|field| maker.slip(field, &codes));
@@ -257,7 +260,7 @@ impl Desk<'_> {
         Ok(())
     }
 
-    /// The parts of an accepted slip cut and lengthened: end to end at every length, and each file by itself.
+    /// Cuts an accepted slip: on standard input at every length, and each file by itself at every length.
     fn cut(&mut self, slip: &Slip) -> Checked {
         let whole = [slip.key.as_slice(), &slip.digest, &slip.word].concat();
         for length in 0..whole.len() {
@@ -275,7 +278,8 @@ impl Desk<'_> {
         Ok(())
     }
 
-    /// The slip with bytes after the signature, and after each part where these are files.
+    /// Adds bytes after the signature in both forms. In the form with three files, also adds bytes after the key and
+    /// after the digest.
     fn lengthened(&mut self, slip: &Slip) -> Checked {
         for more in [1, 2, 3, 83, 5_000, 70_000] {
             let longer = |part: &[u8]| [part, &vec![0; more]].concat();
@@ -286,7 +290,7 @@ impl Desk<'_> {
         Ok(())
     }
 
-    /// The slip in pieces: the program waits for what it has not yet got.
+    /// Sends the slip in pieces. The program must wait for the bytes that have not arrived.
     fn in_pieces(&mut self, slip: &Slip) -> Checked {
         self.on_input(&[&slip.key, &slip.digest, &slip.word])?;
         self.on_input(&[&slip.key[..1], &slip.key[1..], &slip.digest, &slip.word])?;
@@ -299,7 +303,8 @@ impl Desk<'_> {
         Ok(())
     }
 
-    /// An accepted slip over a field cut, lengthened and in pieces, and the same of the longest.
+    /// Accepted slips over a field: short slips as they are, cut, lengthened and in pieces, and slips with the longest
+    /// words. The last slip has a word of 10,001 letters.
     fn accepted(&mut self, maker: &mut Maker, field: Field) -> Checked {
         for letters in [0, 1, 6, 13] {
             let codes = maker.random.tangled_word(letters);
@@ -321,7 +326,7 @@ impl Desk<'_> {
         self.both(&Slip { word: word_file(&[0; 10_001]), ..maker.slip(field, &[]) })
     }
 
-    /// Slips with faults in pairs, with none, and damaged ones.
+    /// Slips with each fault, with each two faults, without faults, and damaged.
     fn faulty(&mut self, maker: &mut Maker, field: Field) -> Checked {
         let questions = Verify.facts().questions_over(field);
         for (place, first) in questions.iter().enumerate() {
@@ -339,7 +344,7 @@ impl Desk<'_> {
         Ok(())
     }
 
-    /// Slips of which several copies are judged: accepted ones, and ones with a fault of key or digest.
+    /// Slips of which several copies are judged: slips with a fault of key or digest, and accepted slips.
     fn copied(&mut self, maker: &mut Maker, field: Field) -> Checked {
         let of_the_slip = |fault: &u8| matches!(fault, 1..=8 | 26);
         let questions = Verify.facts().questions_over(field);
@@ -354,7 +359,8 @@ impl Desk<'_> {
         Ok(())
     }
 
-    /// From 2 to 20 copies of a slip with these faults of key or digest; one of them is left out, or none.
+    /// Compares 2 to 20 copies of a slip with these faults of key or digest. If `left_out` is true, the file of one
+    /// copy does not exist.
     fn copies_of(&mut self, maker: &mut Maker, field: Field, faults: &[u8], left_out: bool) -> Checked {
         let codes = maker.codes(Size::Short);
         let slip = maker.slip(field, &codes);
@@ -369,7 +375,7 @@ impl Desk<'_> {
         self.on_copies(&key, &digest, &words)
     }
 
-    /// A slip with these faults, damaged besides or not.
+    /// Compares a slip with these faults. If `damaged` is true, one part is also damaged.
     fn made(&mut self, maker: &mut Maker, field: Field, faults: &[u8], damaged: bool) -> Checked {
         let case = maker.with_faults(&Verify, field, faults, Size::Short);
         let case = case.expect("these faults stand together");
@@ -383,7 +389,8 @@ impl Desk<'_> {
     }
 }
 
-/// Runs all forms over both fields: a line for each.
+/// Runs all three forms over both fields. Returns a line for each form and field, and two lines about files that cannot
+/// be read.
 pub fn check(programs: &Path, maker: &mut Maker) -> Checked<Vec<String>> {
     let folder = env::temp_dir().join(format!("walnut slips {}", process::id()));
     fs::create_dir_all(&folder).map_err(|error| format!("{}: {error}\n", folder.display()))?;

@@ -1,5 +1,5 @@
-//! The program `letters`: what it writes of a word file is what the reference reads there, each letter by its place and
-//! the second by its reader of words.
+//! The program `letters`. It must write the letters that the reference reads in a word file: each letter by its place,
+//! and the second letter by the reader of words.
 
 use std::path::Path;
 
@@ -9,7 +9,7 @@ use crate::make::Maker;
 use crate::programs::{odd_words, ran, Checked, Counts};
 use crate::show;
 
-/// A letter, or that none is left.
+/// The end of a line: a letter, or that there is no letter.
 fn letter(code: Option<u8>) -> String {
     match code {
         Some(code) => format!(" yes {code:02x}"),
@@ -17,8 +17,8 @@ fn letter(code: Option<u8>) -> String {
     }
 }
 
-/// What the program must write: every place up to the first where none is left, and the next one; and the second letter
-/// by the reader of words.
+/// The output that the program must write: each place up to the first without a letter, one place more, and the second
+/// letter by the reader of words.
 fn expected(file: &[u8]) -> String {
     let codes: String = code_part(file).iter().map(|byte| format!(" {byte:02x}")).collect();
     let by_place = letters(file);
@@ -38,14 +38,14 @@ fn compare(program: &Path, counts: &mut Counts, file: &[u8]) -> Checked {
     if found != expected || !output.stderr.is_empty() {
         let lines = found.lines().map(Some).chain([None]).zip(expected.lines().map(Some).chain([None]));
         let line = lines.into_iter().find(|(found, expected)| found != expected);
-        return Err(format!("letters, on {}: line written and line expected: {line:?}\n", show::hex(file)));
+        return Err(format!("letters, on {}: written line and expected line: {line:?}\n", show::hex(file)));
     }
     counts.count(word_answer(file));
     Ok(())
 }
 
-/// Words of each length up to 40, of some hundred letters and as long as can be; refused ones, with faults in pairs;
-/// and words drawn blindly.
+/// Words of each length up to 40, and of 255, 256, 9,999 and 10,000 letters. Then refused words with each fault and
+/// each two faults, words with letters that cancel, and damaged words.
 pub fn check(program: &Path, maker: &mut Maker) -> Checked<String> {
     let counts = &mut Counts::default();
     for letters in (0..=40).chain([255, 256, 9_999, 10_000]) {

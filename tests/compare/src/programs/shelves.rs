@@ -1,5 +1,6 @@
-//! The program `key_shelf`, on a shelf in a file: histories of its verbs, each on the file that the last one left. What it
-//! writes and leaves is what the reference answers and leaves; on a refusal the file is as it was.
+//! The program `key_shelf`, on a shelf in a file. A history is a series of calls, and each call gets the file that the
+//! call before it left. The answer that the program writes and the shelf that it leaves must be those of the reference.
+//! On a refusal the file must stay unchanged.
 
 use std::ffi::OsStr;
 use std::path::Path;
@@ -11,17 +12,18 @@ use reference::{Field, Shelf};
 use crate::make::{files, Maker, Size};
 use crate::programs::{ran, Checked, Counts};
 
-/// How many histories there are, and how many calls each of them has.
+/// The number of histories, and the number of calls in each history.
 const HISTORIES: usize = 12;
 const CALLS: usize = 30;
 
-/// A publisher and a key number as they are written.
+/// Arguments for the publisher and for the key number, each with the number that the reference gets. An argument that
+/// is not a single digit counts as 10.
 const PUBLISHERS: [(&str, usize); 8] =
     [("1", 1), ("1", 1), ("1", 1), ("2", 2), ("2", 2), ("2", 2), ("0", 0), ("31", 10)];
 const NUMBERS: [(&str, usize); 8] =
     [("0", 0), ("0", 0), ("0", 0), ("1", 1), ("1", 1), ("3", 3), ("4", 4), ("x", 10)];
 
-/// A verb, and the files that it is given.
+/// A random verb, and the files that it gets.
 fn call(maker: &mut Maker, slip: Slip) -> (&'static str, Vec<Vec<u8>>) {
     let random = &mut maker.random;
     let (verb, mut given) = match random.below(5) {
@@ -36,7 +38,7 @@ fn call(maker: &mut Maker, slip: Slip) -> (&'static str, Vec<Vec<u8>>) {
     (verb, given)
 }
 
-/// One history. The first begins at a file without bytes, the others at 1,032 zeros.
+/// Runs one history from a shelf file with these bytes.
 fn history(program: &Path, folder: &Path, maker: &mut Maker, begun: &[u8], counts: &mut Counts) -> Checked {
     let put = |name: &str, bytes: &[u8]| {
         let path = folder.join(name);
@@ -77,7 +79,7 @@ fn history(program: &Path, folder: &Path, maker: &mut Maker, begun: &[u8], count
         let left = fs::read(&file).map_err(|error| format!("{}: {error}\n", file.display()))?;
         if found != format!("answer {answer}\n") || left != bytes || beside.exists() {
             return Err(format!(
-                "key_shelf {verb} {written} {text}: wrote {found:?} and not {answer}, or another shelf\n"
+                "key_shelf {verb} {written} {text}: wrote {found:?}, expected answer {answer}, or left a wrong file\n"
             ));
         }
         counts.count(answer);
@@ -85,7 +87,8 @@ fn history(program: &Path, folder: &Path, maker: &mut Maker, begun: &[u8], count
     Ok(())
 }
 
-/// Runs the histories: how many calls there were, by answer.
+/// Runs the histories. The first begins with an empty file, the others with 1,032 zeros. Returns the number of calls,
+/// by answer.
 pub fn check(programs: &Path, maker: &mut Maker) -> Checked<String> {
     let folder = env::temp_dir().join(format!("walnut shelves {}", process::id()));
     fs::create_dir_all(&folder).map_err(|error| format!("{}: {error}\n", folder.display()))?;
@@ -95,7 +98,7 @@ pub fn check(programs: &Path, maker: &mut Maker) -> Checked<String> {
         let begun = if place == 0 { &[][..] } else { &zeros };
         history(&programs.join("key_shelf"), &folder, maker, begun, &mut counts)
     });
-    // A folder that stays in the place for temporary ones does no harm.
+    // If the temporary folder cannot be removed, it does no harm.
     let _ = fs::remove_dir_all(&folder);
     all?;
     counts.summary("key_shelf", &[0, 1, 8, 30, 31])

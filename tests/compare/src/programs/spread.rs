@@ -1,5 +1,5 @@
-//! The program `spread`, without an argument and with one: what it writes is the line of each list with the number
-//! that the reference finds, or the line of answer 35.
+//! The program `spread`, without an argument and with one. It must write a line for each list, with the number that the
+//! reference finds. If the argument is no length from 0 to 12, it must write the line of answer 35.
 
 use std::ffi::OsStr;
 use std::os::unix::ffi::OsStrExt;
@@ -10,7 +10,7 @@ use reference::words_ending;
 
 use crate::programs::{ran, Checked, Counts};
 
-/// What the program must write for a length.
+/// The output that the program must write for a length. `None` stands for an argument that is no length.
 fn expected(length: Option<usize>) -> String {
     let line = |list: &[u8; 4], length| {
         let [a, b, c, d] = list;
@@ -36,8 +36,8 @@ fn compare(program: &Path, counts: &mut Counts, argument: Option<&[u8]>, length:
     Ok(())
 }
 
-/// Each length, longer ones, and arguments that are no length: no digits, a digit or more too many, a sign, a space, a
-/// zero in front, every byte alone and before and after a digit, and arguments of any size.
+/// Each length up to 12, greater lengths, and arguments that are no length: no digits, too many digits, a sign, a
+/// space, a leading zero, each byte that is no digit alone and before and after digits, and arguments of many bytes.
 pub fn check(folder: &Path) -> Checked<String> {
     let program = &folder.join("spread");
     let counts = &mut Counts::default();

@@ -1,6 +1,6 @@
-//! The program `new_word`, on files, by its verbs: shorten, rewrite, reduce, handles, store, restore, to-y and from-y.
-//! The lines that it writes, and the new file, are those of the reference; on a refusal the file that was there is as it
-//! was.
+//! The program `new_word`, on files, with its verbs shorten, rewrite, reduce, handles, store, restore, to-y and from-y.
+//! The lines that it writes and the new file must be those of the reference. On a refusal the file at the new word's
+//! path must stay unchanged.
 
 use std::ffi::OsStr;
 use std::path::{Path, PathBuf};
@@ -27,34 +27,35 @@ use crate::operations::verify::Verify;
 use crate::programs::{ran, Checked, Counts};
 use crate::show;
 
-/// How often a slip, or a word, is drawn anew: with each fault, with none, damaged.
+/// The numbers of inputs with each fault, without faults, and damaged.
 const WITH_FAULT: usize = 4;
 const WITHOUT: usize = 30;
 const DAMAGED: usize = 40;
 
-/// What stands at the new word's place before.
+/// The content of the new word's file before a run.
 const BEFORE: &[u8] = b"what was there";
 
-/// A verb: the operation whose inputs it takes, over which fields, which of them is the word or its stored form, and
-/// what the reference makes of them.
+/// A verb of the program, and what the reference does for it.
 struct Verb {
     name: &'static str,
-    /// The numbers before the files.
+    /// The arguments before the files. They are numbers.
     numbers: &'static [&'static str],
+    /// The operation whose inputs the verb takes.
     operation: Op,
     fields: &'static [Field],
+    /// The place of the part that is the word or its stored form.
     word: usize,
-    /// How many of the parts are files. A part after these is passed as an argument, in such a text.
+    /// The number of parts that are files. A part after them is passed as text, which `argument` makes.
     files: usize,
     argument: fn(&[u8]) -> String,
-    /// How many letters the file has that is read, and how many the new one.
+    /// The number of letters in the file that is read, and in the new file.
     letters: [fn(&[u8]) -> usize; 2],
     made: fn(&[Vec<u8>], &mut [u8]) -> Written,
-    /// What stands at the end of the line of sizes.
+    /// The end of the line of sizes.
     more: fn(&[Vec<u8>]) -> &'static str,
 }
 
-/// The letters of a word's file, and of a stored form.
+/// The number of letters in a word file, and in a stored form.
 fn of_word(file: &[u8]) -> usize {
     letters(file).len()
 }
@@ -170,12 +171,12 @@ const VERBS: [Verb; 8] = [
     },
 ];
 
-/// The text of a part that no verb passes as an argument.
+/// For verbs that pass no part as text.
 fn no_argument(_: &[u8]) -> String {
     String::new()
 }
 
-/// The numbers of a part, with commas between.
+/// The bytes of a part as numbers, with commas between them.
 fn with_commas(part: &[u8]) -> String {
     part.iter().map(u8::to_string).collect::<Vec<_>>().join(",")
 }
@@ -185,12 +186,13 @@ fn number(part: &[u8]) -> u16 {
     u16::from_be_bytes(part.try_into().expect("two bytes"))
 }
 
-/// A word's handles taken out, with the limit in the second part.
+/// Takes handles out of the word in the first part. The second part is the limit of steps.
 fn handles(parts: &[Vec<u8>], out: &mut [u8]) -> Handles {
     handle_reduce(&parts[0], number(&parts[1]), out)
 }
 
-/// A slip's word, shortened with effort 5, where the slip opens with both.
+/// The word of a slip, shortened with effort 5. The slip must be accepted with the old word and with the new one.
+/// Otherwise the result is the refusal of the verdict.
 fn shortened(parts: &[Vec<u8>], out: &mut [u8]) -> Written {
     match verify(&parts[0], &parts[1], &parts[2]) {
         0 => {
@@ -204,7 +206,7 @@ fn shortened(parts: &[Vec<u8>], out: &mut [u8]) -> Written {
     }
 }
 
-/// The program, and the folder of the files that it is given.
+/// The program, and the folder of its files.
 struct Place {
     program: PathBuf,
     folder: PathBuf,
@@ -212,7 +214,7 @@ struct Place {
 
 impl Drop for Place {
     fn drop(&mut self) {
-        // A folder that stays in the place for temporary ones does no harm.
+        // If the temporary folder cannot be removed, it does no harm.
         let _ = fs::remove_dir_all(&self.folder);
     }
 }
@@ -224,7 +226,7 @@ impl Place {
         Ok(path)
     }
 
-    /// Runs the program by a verb on these parts, and counts the answer.
+    /// Runs the program with a verb on these parts, compares the result with the reference, and counts the answer.
     fn compare(&self, verb: &Verb, counts: &mut Counts, parts: &[Vec<u8>]) -> Checked {
         let beside = self.folder.join(".beside");
         let mut paths = Vec::new();
@@ -252,7 +254,7 @@ impl Place {
             let parts: String =
                 parts.iter().map(|part| format!("  [{}]: {}\n", part.len(), show::hex(part))).collect();
             return Err(format!(
-                "{name}: wrote {found:?} and not {expected:?}, or not the reference's file, on\n{parts}  {file}\n"
+                "{name}: wrote {found:?}, expected {expected:?}, or left a wrong file, on\n{parts}  {file}\n"
             ));
         }
         counts.count(written.answer);
@@ -260,13 +262,13 @@ impl Place {
     }
 }
 
-/// When a file was last changed.
+/// The time of a file's last change.
 fn changed(path: &Path) -> Checked<SystemTime> {
     let time = fs::metadata(path).and_then(|data| data.modified());
     time.map_err(|error| format!("{}: {error}\n", path.display()))
 }
 
-/// What the program must write about a word.
+/// The lines that the program must write.
 fn lines(verb: &Verb, written: &Written, parts: &[Vec<u8>], new: &[u8]) -> String {
     match written.answer {
         0 => {
@@ -278,7 +280,7 @@ fn lines(verb: &Verb, written: &Written, parts: &[Vec<u8>], new: &[u8]) -> Strin
     }
 }
 
-/// Inputs over a field without faults, with each fault, damaged, and longer than files may be.
+/// Compares a verb over a field on inputs without faults, with each fault, damaged, and longer than any valid file.
 fn all(place: &Place, verb: &Verb, field: Field, maker: &mut Maker) -> Checked<String> {
     let counts = &mut Counts::default();
     let asked = verb.operation.facts().questions_over(field);
@@ -305,7 +307,7 @@ fn all(place: &Place, verb: &Verb, field: Field, maker: &mut Maker) -> Checked<S
     counts.summary(&format!("{}{over}", verb.name), &answers)
 }
 
-/// Runs the eight verbs: a line for each, and for each field where there are two.
+/// Runs the eight verbs. Returns a line for each verb, and for `shorten` a line for each field.
 pub fn check(programs: &Path, maker: &mut Maker) -> Checked<Vec<String>> {
     let folder = env::temp_dir().join(format!("walnut words {}", process::id()));
     fs::create_dir_all(&folder).map_err(|error| format!("{}: {error}\n", folder.display()))?;

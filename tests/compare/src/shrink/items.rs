@@ -1,10 +1,10 @@
-//! What parts are made of: letters, moves, bytes.
+//! The items of parts: letters, moves and bytes.
 
 use reference::rewrite::Move;
 
-/// What can be cut and lowered one by one.
+/// An item of a part. Shrinking removes items and lowers them.
 pub trait Item: Copy + PartialEq {
-    /// The least item that may serve in the place of many.
+    /// The item that replaces whole runs of items.
     const LEAST: Self;
 
     /// Smaller items, the smallest first.
@@ -32,12 +32,13 @@ impl Item for Move {
     }
 }
 
-/// The number at the head of a file.
+/// The number in the first two bytes of a file.
 fn head(file: &[u8]) -> Option<usize> {
     Some(u16::from_be_bytes([*file.first()?, *file.get(1)?]).into())
 }
 
-/// The half bytes of a word file that stand for letters, if its length is what its number needs.
+/// The half bytes of a word file that stand for letters. `None` if the file's length does not match its number of
+/// letters.
 pub fn word_items(file: &[u8]) -> Option<Vec<u8>> {
     let number = head(file)?;
     let mut halves: Vec<u8> = file[2..].iter().flat_map(|byte| [byte / 16, byte % 16]).collect();
@@ -45,7 +46,7 @@ pub fn word_items(file: &[u8]) -> Option<Vec<u8>> {
     (file.len() == 2 + number.div_ceil(2)).then_some(halves)
 }
 
-/// The filler of an odd word.
+/// The filler of a word file with an odd number of letters, otherwise 0.
 pub fn filler(file: &[u8]) -> u8 {
     match file {
         [_, low, .., last] if low % 2 == 1 => last % 16,
@@ -53,14 +54,14 @@ pub fn filler(file: &[u8]) -> u8 {
     }
 }
 
-/// The word file of half bytes, with this filler if they are odd.
+/// The word file of these half bytes. It has this filler if their number is odd.
 pub fn word_of(items: &[u8], filler: u8) -> Vec<u8> {
     let mut file = (items.len() as u16).to_be_bytes().to_vec();
     file.extend(items.chunks(2).map(|two| 16 * two[0] + two.get(1).unwrap_or(&filler)));
     file
 }
 
-/// The moves of a list, if its length is what its number needs.
+/// The moves of a move list. `None` if the list's length does not match its number of moves.
 pub fn move_items(list: &[u8]) -> Option<Vec<Move>> {
     let number = head(list)?;
     if list.len() != 2 + 3 * number {
