@@ -1,6 +1,6 @@
 -- The contract of pair replacement shuts out wrong programs, each by an input on which it differs: what stands before
--- and after the pair exchanged or not inverted, the last row in place of the first, rows in another order, a pair
--- that no row holds changed, and 22 missed at the last letter.
+-- and after the pair exchanged or not inverted, the last row in place of the first, a pair that no row holds changed,
+-- and 22 missed at the last letter.
 use Prim.Native.Nat.{ℕ, _≤_}
 use mathlib.Core.Path.{_≡_, refl, sym, _∙_}
 use mathlib.Core.Bool.{false}
