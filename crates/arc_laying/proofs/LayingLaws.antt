@@ -3,6 +3,7 @@ use Prim.Native.Nat.{ℕ, _+_, _≤_, _<_}
 use mathlib.Core.Path.{_≡_, sym, subst}
 use mathlib.Core.Bool.{Bool, true}
 use mathlib.Core.List.{List, [], _∷_, _++_, append-nil}
+use native.Mathlib.Decide.{decLt}
 use native.Mathlib.Omega.{arith}
 use native.Mathlib.Numerals.{add-one}
 use lib.ListN.{length, take, getD, set}
@@ -11,6 +12,7 @@ use Rattle.word.specs.Letters.{isLetter, generator}
 use Rattle.braid_arcs.specs.Arcs.{beside, Arc, none, other, Relaid}
 use Rattle.braid_arcs.proofs.ArcLaws.{arc-end, arc-on}
 use Rattle.arc_strand.specs.steps.Strand.{IsOther}
+use Rattle.arc_laying.specs.Plans.{PlacedAt, Placed, own, aside}
 use Rattle.arc_laying.specs.steps.Laying.{Laid}
 
 more : (l : List ℕ) (k : ℕ) → k < length l → take (k + 1) l ≡ take k l ++ (getD l k 0 ∷ [])
@@ -20,9 +22,9 @@ stored : (l : List ℕ) (k c : ℕ) → k < length l → take (k + 1) (set l k c
 stored l k c h = rw (add-one k) (take-suc-set l k c h)
 
 -- the strand's own letter after an arc
-own : {under : Bool} {x y z c : ℕ} {l m : List ℕ} → Arc under x l y m → Arc under y (c ∷ []) z []
+own-after : {under : Bool} {x y z c : ℕ} {l m : List ℕ} → Arc under x l y m → Arc under y (c ∷ []) z []
     → Arc under x (l ++ (c ∷ [])) z m
-own {under} {x} {z = z} {c = c} {l = l} {m = m} a b =
+own-after {under} {x} {z = z} {c = c} {l = l} {m = m} a b =
     subst (λ (k : List ℕ). Arc under x (l ++ (c ∷ [])) z k) (append-nil m) (arc-on a b)
 
 -- a letter of other strands after an arc
@@ -39,7 +41,7 @@ module _ (under : Bool) (p : ℕ) (part out : List ℕ) (read written old new : 
   reads-own y h a =
       record {
         others = laid .others;
-        was = rw (more part read h) (own (laid .was) a);
+        was = rw (more part read h) (own-after (laid .was) a);
         is = laid .is;
       }
 
@@ -50,7 +52,7 @@ module _ (under : Bool) (p : ℕ) (part out : List ℕ) (read written old new : 
       record {
         others = laid .others;
         was = laid .was;
-        is = rw (stored out written c h) (own (laid .is) a);
+        is = rw (stored out written c h) (own-after (laid .is) a);
       }
 
   -- a letter of other strands is read and written
@@ -66,6 +68,28 @@ module _ (under : Bool) (p : ℕ) (part out : List ℕ) (read written old new : 
         is = rw (stored out written (beside d new) k) (another d (laid .is) (o .letter) (o .later) (λ s. n (sym s)));
       }
 
+  -- the plan has a right place for the letter that is read: a letter of the strand, or a letter of other strands
+  pub own-placed : (plan : List ℕ) (y : ℕ) → Arc under old (getD part read 0 ∷ []) y []
+      → PlacedAt under p part plan read
+  own-placed plan y a =
+      record { strand = old; others = laid .others; before = laid .was; placed = own a }
+
+  pub other-placed : (plan : List ℕ) (d : ℕ) → IsOther old (getD part read 0) d → (new ≡ generator d → ⊥)
+      → new ≡ getD plan read 0
+      → PlacedAt under p part plan read
+  other-placed plan d o n e =
+      let stands : Arc under new (beside d new ∷ []) new (d ∷ []) =
+      other d (o .letter) (o .later) (λ s. n (sym s)) (none (arc-end (laid .is))) in
+      record {
+        strand = old;
+        others = laid .others;
+        before = laid .was;
+        placed =
+            aside {d = d}
+            (rw (← (o .here)) (other d (o .letter) (o .later) (o .outside) (none (arc-end (laid .was)))))
+            (subst (λ (t : ℕ). Arc under t (beside d t ∷ []) t (d ∷ [])) e stands);
+      }
+
   -- the strand stands at both ends
   pub relaid : read ≡ length part → new ≡ old → written ≤ length part → written ≤ length out
       → Relaid under p part (take written out)
@@ -77,6 +101,15 @@ module _ (under : Bool) (p : ℕ) (part out : List ℕ) (read written old new : 
         is = subst (λ (y : ℕ). Arc under p (take written out) y (laid .others)) e (laid .is);
         not-longer = omega (arith, length-take-le written out k);
       }
+
+-- what holds of the first m places and of the places from m to n holds of the first n places
+pub both-parts : (P : ℕ → Type 0) (m n : ℕ) → ((k : ℕ) → k < m → P k) → ((k : ℕ) → m ≤ k → k < n → P k)
+    → (k : ℕ) → k < n → P k
+both-parts P m n first rest k h = go (decLt k m)
+  where
+    go : Dec (k < m) → P k
+    go (yes l) = first k l
+    go (no l) = rest k (omega arith) h
 
 -- before the first letter
 pub none-laid : (under : Bool) (p : ℕ) (part out : List ℕ) → p ≤ 7 → Laid under p part out 0 0 p p

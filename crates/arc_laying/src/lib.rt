@@ -11,7 +11,9 @@ ghost use mathlib.Core.Logic.{_⊎_};
 ghost use lib.ListN.{length, take, getD};
 ghost use Rattle.braid_arcs.specs.Arcs.{Relaid};
 ghost use Rattle.arc_strand.specs.steps.Strand.{IsOther};
-ghost use Rattle.arc_laying.specs.steps.Laying.{Ready, Turned, Unfinished, GoesOn};
+ghost use Rattle.word.specs.Letters.{generator};
+ghost use Rattle.arc_laying.specs.Plans.{Plan};
+ghost use Rattle.arc_laying.specs.steps.Laying.{Ready, Turned, Follows, Unfinished, GoesOn};
 
 // How many letters of the old part are read and of the new part written, and where the strand stands in each. After a
 // refusal `written` is one more than the old part has letters.
@@ -38,7 +40,7 @@ fn refused(n: usize, s: Laying) -> Laying
 // Writes one step of the strand towards place t.
 fn stepped(part: &[u8], p: u8, under: bool, out: &mut [u8], s: Laying, t: u8) -> Laying
     requires { ⌜ Ready under p (now part) (now out) s × (s .new ≡ t → ⊥) ⌝ }
-    ensures { λ r. ⌜ Turned under p (now (part .entry)) (now (out .exit)) s r ⌝ }
+    ensures { λ r. ⌜ Turned under p (now (part .entry)) (now (out .exit)) s r × (r .read ≡ s .read) ⌝ }
 {
     let read = s.read;
     let written = s.written;
@@ -75,7 +77,11 @@ fn crossed(part: &[u8], p: u8, under: bool, out: &mut [u8], s: Laying, d: u8) ->
         Ready under p (now part) (now out) s
         × (s .read < length (now part)) × IsOther (s .old) (getD (now part) (s .read) 0) d
         ⌝ }
-    ensures { λ r. ⌜ Turned under p (now (part .entry)) (now (out .exit)) s r ⌝ }
+    ensures { λ r.
+        ⌜
+        Turned under p (now (part .entry)) (now (out .exit)) s r × (r .read ≤ s .read + 1)
+        × (r .written ≤ length (now (part .entry)) → s .new ≡ generator d → ⊥)
+        ⌝ }
 {
     let read = s.read;
     let written = s.written;
@@ -102,7 +108,11 @@ fn turn(part: &[u8], p: u8, under: bool, plan: &[u8], out: &mut [u8], s: Laying)
         Ready under p (now part) (now out) s
         × (length (now part) ≤ length (now plan)) × Unfinished (length (now part)) s
         ⌝ }
-    ensures { λ r. ⌜ Turned under p (now (part .entry)) (now (out .exit)) s r ⌝ }
+    ensures { λ r.
+        ⌜
+        Turned under p (now (part .entry)) (now (out .exit)) s r
+        × Follows under p (now (part .entry)) (now (plan .entry)) s r
+        ⌝ }
 {
     let read = s.read;
     let old = s.old;
@@ -153,7 +163,8 @@ pub fn lay(part: &[u8], p: u8, under: bool, plan: &[u8], out: &mut [u8]) -> usiz
         ⌝ }
     ensures { λ r.
         ⌜
-        (length (now (part .entry)) < r) ⊎ Relaid under p (now (part .entry)) (take r (now (out .exit)))
+        (length (now (part .entry)) < r) ⊎ (Relaid under p (now (part .entry)) (take r (now (out .exit)))
+        × Plan under p (now (part .entry)) (now (plan .entry)))
         ⌝ }
 {
     let n = part.len();

@@ -10,6 +10,7 @@ use lib.ListN.{length, take, drop, length-drop}
 use lib.Seq.{length-take-le, take-add, take-append-add, take-append-le, drop-at}
 use Rattle.base.specs.Digits.{part}
 use Rattle.braid_arcs.specs.Arcs.{Relaid, Relays, done, then}
+use Rattle.arc_laying.specs.Plans.{Plan}
 use Rattle.arc_relay.specs.Relay.{Replaced, Relayed}
 use Rattle.arc_relay.proofs.RowLaws.{split-part}
 
@@ -25,12 +26,13 @@ module _ (row : List ℕ) (n b e : ℕ) (h : b ≤ e) (k : e ≤ n) (l : n ≤ l
   old-length = length-take-le (e - b) (drop b row) (omega (arith, length-drop b row))
 
   -- the letters from b to n change to `mid`, and begin with the new part and the letters from e to n
-  pub is-replaced : (p m : ℕ) (under : Bool) (out mid : List ℕ) → m ≤ e - b → m ≤ length out
+  pub is-replaced : (p m : ℕ) (under : Bool) (plan out mid : List ℕ) → m ≤ e - b → m ≤ length out
       → length mid ≡ length behind
       → take (length behind - (e - b - length (take m out))) mid ≡ take m out ++ drop (e - b) behind
       → Relaid under p (part b (e - b) row) (take m out)
-      → Replaced n b e p under row (take b row ++ (mid ++ drop (n - b) (drop b row))) (n - (e - b - m))
-  is-replaced p m under out mid few room size mid-is relaid =
+      → Plan under p (part b (e - b) row) plan
+      → Replaced n b e p under plan row (take b row ++ (mid ++ drop (n - b) (drop b row))) (n - (e - b - m))
+  is-replaced p m under plan out mid few room size mid-is relaid planned =
       let new = length-take-le m out room in
       let rest : drop (e - b) behind ≡ part e (n - e) row =
       ap (drop (e - b)) (split-part row b e n h k l) ∙ drop-at (part b (e - b) row) (part e (n - e) row)
@@ -43,6 +45,7 @@ module _ (row : List ℕ) (n b e : ℕ) (h : b ≤ e) (k : e ≤ n) (l : n ≤ l
         inside = (h, k, l);
         new = take m out;
         relaid = relaid;
+        planned = planned;
         letters = omega arith;
         word =
             ap (λ (j : ℕ). take j (take b row ++ (mid ++ after))) sum
@@ -54,7 +57,8 @@ module _ (row : List ℕ) (n b e : ℕ) (h : b ≤ e) (k : e ≤ n) (l : n ≤ l
 -- ---- what relaying leaves
 
 -- the word after relaying is reached by relaying arcs
-pub relayed-relays : {n b e p r : ℕ} {under : Bool} {before after : List ℕ} → Relayed n b e p under before after r
+pub relayed-relays : {n b e p r : ℕ} {under : Bool} {plan before after : List ℕ}
+    → Relayed n b e p under plan before after r
     → Relays (take n before) (take r after)
 relayed-relays {n} {before = before} (inl (s, t)) = rw (s, t) done
 relayed-relays {n} {b} {e} {r = r} {before = before} {after = after} (inr x) =
@@ -68,7 +72,8 @@ relayed-relays {n} {b} {e} {r = r} {before = before} {after = after} (inr x) =
     (rw (x .word) done)
 
 -- and it has not more letters
-pub relayed-fewer : {n b e p r : ℕ} {under : Bool} {before after : List ℕ} → Relayed n b e p under before after r
+pub relayed-fewer : {n b e p r : ℕ} {under : Bool} {plan before after : List ℕ}
+    → Relayed n b e p under plan before after r
     → r ≤ n
 relayed-fewer (inl (s, t)) = omega arith
 relayed-fewer {n} {b} {e} {before = before} (inr x) =

@@ -65,7 +65,10 @@ fn relay_inside(
     out: &mut [u8],
 ) -> usize
     requires { ⌜ Fits n b e p (length (now codes)) (length (now out)) × (e - b ≤ length (now plan)) ⌝ }
-    ensures { λ r. ⌜ Relayed n b e p under (now (codes .entry)) (now (codes .exit)) r ⌝ }
+    ensures { λ r.
+        ⌜
+        Relayed n b e p under (now (plan .entry)) (now (codes .entry)) (now (codes .exit)) r
+        ⌝ }
 {
     let m = lay(&codes[b..e], p, under, plan, out);
     if e - b < m {
@@ -87,7 +90,10 @@ pub fn relay(
     plan: &[u8],
     out: &mut [u8],
 ) -> usize
-    ensures { λ r. ⌜ Relayed n b e p under (now (codes .entry)) (now (codes .exit)) r ⌝ }
+    ensures { λ r.
+        ⌜
+        Relayed n b e p under (now (plan .entry)) (now (codes .entry)) (now (codes .exit)) r
+        ⌝ }
 {
     if !fits(n, b, e, p, codes.len(), out.len()) {
         return n;

@@ -7,10 +7,12 @@ use Rattle.arc_laying.proofs.crossed.Statement.{statement}
 use Rattle.arc_laying.proofs.crossed.Tie as tie
 
 returns : tie.Need-returns
-returns c = record { reads = omega arith; further = omega arith; laid = inl (omega arith) }
+returns c =
+    (record { reads = omega arith; further = omega arith; laid = inl (omega arith) }, omega arith, λ w e. omega arith)
 
 returns-2 : tie.Need-returns-2
-returns-2 c = record { reads = omega arith; further = omega arith; laid = inl (omega arith) }
+returns-2 c =
+    (record { reads = omega arith; further = omega arith; laid = inl (omega arith) }, omega arith, λ w e. omega arith)
 
 returns-3 : tie.Need-returns-3
 returns-3 c =
@@ -21,12 +23,15 @@ returns-3 c =
     let out = a .out .now in
     let laid =
     crosses (a .under) (a .p) part out (s .read) (s .written) (s .old) (s .new) (b .pre .0 .laid) (a .d) (b .pre .1)
-    (omega arith) (b .pre .2) (c .before .if2 .left) in
-    record {
-      reads = omega arith;
-      further = omega arith;
-      laid = inr (omega arith, rw (c .beside .ensures) laid);
-    }
+    (omega arith) (b .pre .2) (c .before .if2 .left) in (
+      record {
+        reads = omega arith;
+        further = omega arith;
+        laid = inr (omega arith, rw (c .beside .ensures) laid);
+      },
+      omega arith,
+      λ w. c .before .if2 .left,
+    )
 
 pub crossed-spec : {M : Type 1} → statement M
 crossed-spec =

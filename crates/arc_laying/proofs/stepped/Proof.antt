@@ -1,5 +1,6 @@
 -- `arc_laying::stepped` meets its contract.
 use Prim.Native.Nat.{_+_, _-_}
+use mathlib.Core.Path.{refl}
 use mathlib.Core.Logic.{inl, inr}
 use native.Mathlib.Omega.{arith}
 use borrow.Author.Needs.{needs}
@@ -10,27 +11,29 @@ use Rattle.arc_laying.proofs.stepped.Statement.{statement}
 use Rattle.arc_laying.proofs.stepped.Tie as tie
 
 returns : tie.Need-returns
-returns c = record { reads = omega arith; further = omega arith; laid = inl (omega arith) }
+returns c = (record { reads = omega arith; further = omega arith; laid = inl (omega arith) }, omega arith)
 
 returns-2 : tie.Need-returns-2
-returns-2 c = record { reads = omega arith; further = omega arith; laid = inl (omega arith) }
+returns-2 c = (record { reads = omega arith; further = omega arith; laid = inl (omega arith) }, omega arith)
 
 returns-3 : tie.Need-returns-3
 returns-3 c =
     let b = c .before .before .before .before .before .before in
     let a = b .args in
     let s = a .s in
-    let right = own-right (a .under) (s .new) (c .rightward .result) (omega arith) (c .rightward .ensures) in
-    record {
-      reads = omega arith;
-      further = omega arith;
-      laid =
-          inr (
-            omega arith,
-            writes-own (a .under) (a .p) (a .part .now) (a .out .now) (s .read) (s .written) (s .old) (s .new)
-                (b .pre .0 .laid) (s .new + 1) (c .rightward .result) (omega arith) right,
-          );
-    }
+    let right = own-right (a .under) (s .new) (c .rightward .result) (omega arith) (c .rightward .ensures) in (
+      record {
+        reads = omega arith;
+        further = omega arith;
+        laid =
+            inr (
+              omega arith,
+              writes-own (a .under) (a .p) (a .part .now) (a .out .now) (s .read) (s .written) (s .old) (s .new)
+                  (b .pre .0 .laid) (s .new + 1) (c .rightward .result) (omega arith) right,
+            );
+      },
+      refl,
+    )
 
 leftward-requires : tie.Need-leftward-requires
 leftward-requires c κs =
@@ -43,17 +46,19 @@ returns-4 c =
     let s = a .s in
     let e = arc-end (b .pre .0 .laid .is) in
     let left =
-    own-left (a .under) (s .new) (c .leftward .result) (omega arith) (omega arith) (c .leftward .ensures) in
-    record {
-      reads = omega arith;
-      further = omega arith;
-      laid =
-          inr (
-            omega arith,
-            writes-own (a .under) (a .p) (a .part .now) (a .out .now) (s .read) (s .written) (s .old) (s .new)
-                (b .pre .0 .laid) (s .new - 1) (c .leftward .result) (omega arith) left,
-          );
-    }
+    own-left (a .under) (s .new) (c .leftward .result) (omega arith) (omega arith) (c .leftward .ensures) in (
+      record {
+        reads = omega arith;
+        further = omega arith;
+        laid =
+            inr (
+              omega arith,
+              writes-own (a .under) (a .p) (a .part .now) (a .out .now) (s .read) (s .written) (s .old) (s .new)
+                  (b .pre .0 .laid) (s .new - 1) (c .leftward .result) (omega arith) left,
+            );
+      },
+      refl,
+    )
 
 pub stepped-spec : {M : Type 1} → statement M
 stepped-spec =

@@ -7,6 +7,7 @@ use mathlib.Core.Logic.{_⊎_}
 use lib.ListN.{length, take}
 use Rattle.arc_laying.specs.declared.Laying.{Laying}
 use Rattle.braid_arcs.specs.Arcs.{Arc}
+use Rattle.arc_laying.specs.Plans.{PlacedAt}
 
 -- what is read of the part, and what is written, are arcs with the same start and the same other letters
 pub record Laid (under : Bool) (p : ℕ) (part out : List ℕ) (read written old new : ℕ) : Type 0 where
@@ -29,6 +30,11 @@ pub record Turned (under : Bool) (p : ℕ) (part out : List ℕ) (s r : Laying) 
   pub further : s .read + s .written < r .read + r .written
   pub laid : (r .written ≡ length part + 1)
       ⊎ ((r .written ≤ length part) × Laid under p part out (r .read) (r .written) (r .old) (r .new))
+
+-- If a turn is not refused, the plan has right places for the letters that the turn reads.
+abbrev pub Follows : Bool → ℕ → List ℕ → List ℕ → Laying → Laying → Type 0
+Follows under p part plan s r =
+    r .written ≤ length part → (k : ℕ) → s .read ≤ k → k < r .read → PlacedAt under p part plan k
 
 -- something is left to do: a letter to read, or a step of the strand to its end
 abbrev pub Unfinished : ℕ → Laying → Type 0

@@ -39,10 +39,10 @@ returns-2 c =
     let f = b .pre .0 in
     let lay = l .lay in
     let replace = c .before .before .replace in
-    let relaid = ⊎-elim (λ h. absurd (omega arith)) (λ g. g) (lay .ensures) in
+    let laid = ⊎-elim (λ h. absurd (omega arith)) (λ g. g) (lay .ensures) in
     inr (is-replaced (a .codes .now) (a .n) (a .b) (a .e) (f .start) (f .end) (f .in-row) (a .p) (lay .result)
-    (a .under) (lay .last .1 .1 .1 .1 .0) (replace .last .0) (omega arith) (in-memory l (omega arith))
-    (replace .kept .0) (replace .ensures) relaid)
+    (a .under) (a .plan .now) (lay .last .1 .1 .1 .1 .0) (replace .last .0) (omega arith) (in-memory l (omega arith))
+    (replace .kept .0) (replace .ensures) (laid .0) (laid .1))
 
 pub relay-inside-spec : {M : Type 1} → statement M
 relay-inside-spec =

@@ -2,6 +2,7 @@
 //! their new words must have the same bytes. The new word must also have the properties that hold for every search.
 
 use reference::reduce::freely_reduced;
+use reference::shortener::without_handles;
 use reference::testkit::signatures;
 use reference::word::{letters, word_file};
 
@@ -24,13 +25,27 @@ fn effort_of(byte: u8) -> u16 {
     }
 }
 
-/// For each class of tests/signatures.txt: the number of letters of all its words, and the numbers after shortening
-/// with efforts 0, 1 and 5. The numbers come from the reference.
-const SAVED: [(&str, usize, [usize; 3]); 3] = [
-    ("sig32", 11_516, [10_504, 8_062, 7_660]),
-    ("sig256", 21_854, [19_658, 15_508, 14_874]),
-    ("stoch32", 10_798, [8_562, 3_328, 3_034]),
+/// For each class of words: the percentage of letters that an experiment outside the project saved with effort 5, the
+/// number of letters of all words, and the numbers after shortening with efforts 0, 1 and 5. The numbers of letters
+/// come from the reference. The experiment had twice as many words, so its percentage is a bound with one percent less.
+const SAVED: [(&str, f64, usize, [usize; 3]); 5] = [
+    ("sig32", 33.7, 11_516, [10_504, 8_062, 7_660]),
+    ("sig256", 31.1, 21_854, [19_658, 15_508, 14_874]),
+    ("stoch32", 71.7, 10_798, [8_562, 3_328, 3_034]),
+    ("handles32", 36.5, 5_018, [5_018, 3_598, 3_110]),
+    ("rnd10000", 37.7, 10_000, [7_446, 6_348, 6_148]),
 ];
+
+/// The word files of a class of tests/signatures.txt. The words of `handles32` are those of `stoch32`, after handle
+/// reduction by the reference.
+fn words_of(class: &str) -> Vec<Vec<u8>> {
+    if class != "handles32" {
+        return signatures(class);
+    }
+    let reduced =
+        |word: &Vec<u8>| without_handles(&letters(word)).expect("no step leaves over 10,000 letters");
+    signatures("stoch32").iter().map(|word| word_file(&reduced(word))).collect()
+}
 
 /// The number of random words of middle size that are shortened.
 const MIDDLING: usize = 40;
@@ -87,11 +102,13 @@ impl Operation for Shorten {
         cases
     }
 
-    /// Shortens the signatures and counts their letters. Then shortens random words of middle size, before and after
+    /// Shortens the words of each class and counts their letters. Then shortens random words of middle size, before and after
     /// free reduction.
     fn small(&self, run: &mut Run) -> Checked {
-        for (class, before, after) in SAVED {
-            let words = signatures(class);
+        for (class, percent, before, after) in SAVED {
+            let saved = 100.0 - 100.0 * after[2] as f64 / before as f64;
+            assert!(saved > percent - 1.0, "{class}: {saved} percent saved");
+            let words = words_of(class);
             assert_eq!(words.iter().map(|word| letters(word).len()).sum::<usize>(), before, "{class}");
             for (effort, saved) in [0, 1, 5].into_iter().zip(after) {
                 let mut sum = 0;
