@@ -1015,6 +1015,54 @@ size_t plain_convert(bool to_y, const uint8_t *word, size_t wn, const uint8_t *p
     return write_codes(codes, at, out);
 }
 
+/* The relations of Appendix A, ten codes to a row: the row's letters, then 15. */
+static uint8_t relations[79][10];
+
+void plain_relations(const uint8_t rows[790])
+{
+    memcpy(relations, rows, sizeof relations);
+}
+
+/* The letters that replace a pair, by the first row and place that hold it. Their number; 0 without such a row. */
+static size_t replacement(uint8_t c, uint8_t d, uint8_t new[9])
+{
+    for (size_t r = 0; r < 79; r++) {
+        const uint8_t *row = relations[r];
+        for (size_t k = 0; row[k + 1] != 15; k++) {
+            if (row[k] != c || row[k + 1] != d)
+                continue;
+            size_t n = 0, end = k + 2;
+            for (size_t i = k; i > 0; i--)
+                new[n++] = row[i - 1] ^ 8;
+            while (row[end] != 15)
+                end++;
+            for (size_t i = end; i > k + 2; i--)
+                new[n++] = row[i - 1] ^ 8;
+            return n;
+        }
+    }
+    return 0;
+}
+
+/* A Y word with the pair at a place replaced. The bytes written; 0 on a refusal. */
+size_t plain_replace_pair(const uint8_t *word, size_t wn, size_t place, uint8_t *out, size_t len)
+{
+    uint8_t codes[LETTERS + 8], new[9];
+    size_t n;
+    if (len < WORD_BYTES || read_word(word, wn, &n) || n < 2 || place > n - 2)
+        return 0;
+    for (size_t k = 0; k < n; k++)
+        codes[k] = (uint8_t)code_at(word + 2, k);
+    size_t m = replacement(codes[place], codes[place + 1], new);
+    if (m == 0)
+        return write_codes(codes, n, out);
+    if (n - 2 + m > LETTERS)
+        return 0;
+    memmove(codes + place + m, codes + place + 2, n - place - 2);
+    memcpy(codes + place, new, m);
+    return write_codes(codes, n - 2 + m, out);
+}
+
 /* Key shelves: the slot of a publisher's key number, or null. */
 static uint8_t *slot_of(uint8_t *shelf, size_t publisher, size_t number)
 {

@@ -1,7 +1,12 @@
 //! The key reader, the verdict whole and by halves, cloaking, the lent multiplier, the rewriter, free reduction,
-//! taking handles out, crossings and spreading in plain Rust, as one would write them by hand: for the library's times to stand beside.
+//! taking handles out, conversion, pair replacement, crossings and spreading in plain Rust, as one would write them by
+//! hand: for the library's times to stand beside.
 
 use std::hint::black_box;
+use std::sync::OnceLock;
+
+use reference::dialect::{relation, RELATIONS};
+use reference::letter::codes_of;
 
 const WORD_BYTES: usize = 5002;
 const LETTERS: usize = 10_000;
@@ -669,6 +674,44 @@ pub fn convert(to_y: bool, word: &[u8], parts: &[u8], out: &mut [u8]) -> Result<
         if codes.len() > LETTERS {
             return Err(34);
         }
+    }
+    Ok(write_codes(&codes, out))
+}
+
+/// The relations of Appendix A, ten codes to a row: the row's letters, then 15.
+pub fn relations() -> &'static [[u8; 10]; 79] {
+    static ROWS: OnceLock<[[u8; 10]; 79]> = OnceLock::new();
+    ROWS.get_or_init(|| {
+        RELATIONS.map(|row| {
+            let (codes, mut filled) = (codes_of(&relation(row)), [15; 10]);
+            filled[..codes.len()].copy_from_slice(&codes);
+            filled
+        })
+    })
+}
+
+/// The letters that replace a pair, by the first row and place that hold it.
+fn replacement(pair: &[u8]) -> Option<Vec<u8>> {
+    relations().iter().find_map(|row| {
+        let letters = row.split(|code| *code == 15).next()?;
+        let place = letters.windows(2).position(|two| two == pair)?;
+        let inverse = |part: &[u8]| part.iter().rev().map(|code| code ^ 8).collect::<Vec<u8>>();
+        Some([inverse(&letters[..place]), inverse(&letters[place + 2..])].concat())
+    })
+}
+
+/// A Y word with the pair at a place replaced.
+pub fn replace_pair(word: &[u8], place: usize, out: &mut [u8]) -> Result<usize, u8> {
+    if out.len() < WORD_BYTES {
+        return Err(15);
+    }
+    let mut codes: Vec<u8> = read_word(word)?.collect();
+    let pair = codes.get(place..).and_then(|rest| rest.get(..2)).ok_or(22)?;
+    if let Some(new) = replacement(pair) {
+        codes.splice(place..place + 2, new);
+    }
+    if codes.len() > LETTERS {
+        return Err(34);
     }
     Ok(write_codes(&codes, out))
 }

@@ -1,9 +1,10 @@
 //! Calls the functions of `plain.c`.
 
-use crate::plain::SHELF_BYTES;
+use crate::plain::{relations, SHELF_BYTES};
 
 extern "C" {
     fn plain_tables();
+    fn plain_relations(rows: *const u8);
     fn plain_read_key(file: *const u8, n: usize) -> u8;
     fn plain_verify(
         key: *const u8,
@@ -55,6 +56,7 @@ extern "C" {
         out: *mut u8,
         len: usize,
     ) -> usize;
+    fn plain_replace_pair(word: *const u8, wn: usize, place: usize, out: *mut u8, len: usize) -> usize;
     fn plain_crossings(word: *const u8, wn: usize, a: u8, b: u8) -> i32;
     fn plain_words_ending(length: usize, labels: *const u8, n: usize) -> u32;
     fn plain_shelf_load(shelf: *mut u8, publisher: usize, number: usize, key: *const u8, n: usize) -> u8;
@@ -75,7 +77,10 @@ extern "C" {
 
 pub fn tables() {
     // SAFETY: see above.
-    unsafe { plain_tables() }
+    unsafe {
+        plain_tables();
+        plain_relations(relations().as_ptr().cast());
+    }
 }
 
 pub fn read_key(file: &[u8]) -> u8 {
@@ -160,6 +165,11 @@ pub fn convert(to_y: bool, word: &[u8], parts: &[u8], out: &mut [u8]) -> usize {
     let (list, count) = (parts.as_ptr(), parts.len());
     // SAFETY: see above.
     unsafe { plain_convert(to_y, word.as_ptr(), word.len(), list, count, out.as_mut_ptr(), out.len()) }
+}
+
+pub fn replace_pair(word: &[u8], place: usize, out: &mut [u8]) -> usize {
+    // SAFETY: see above.
+    unsafe { plain_replace_pair(word.as_ptr(), word.len(), place, out.as_mut_ptr(), out.len()) }
 }
 
 pub fn shelf_load(shelf: &mut [u8; SHELF_BYTES], publisher: usize, number: usize, key: &[u8]) -> u8 {

@@ -98,6 +98,11 @@ pub enum Work {
         to_y: bool,
         word: Vec<u8>,
     },
+    /// A Y word in which the pair at a place is replaced.
+    Replacing {
+        word: Vec<u8>,
+        place: usize,
+    },
     Keys(Vec<Vec<u8>>),
     Crossings {
         word: Vec<u8>,
@@ -319,6 +324,13 @@ impl Work {
                 (0, plain::convert(*to_y, word, &PARTS, out).unwrap_or(0))
             }
             (Work::Converting { to_y, word }, Who::C) => (0, plain_c::convert(*to_y, word, &PARTS, out)),
+            (Work::Replacing { word, place }, Who::Library) => {
+                (0, walnut::replace_pair(word, *place, out).map_or(0, |written| written.len()))
+            }
+            (Work::Replacing { word, place }, Who::Rust) => {
+                (0, plain::replace_pair(word, *place, out).unwrap_or(0))
+            }
+            (Work::Replacing { word, place }, Who::C) => (0, plain_c::replace_pair(word, *place, out)),
             (Work::Keys(files), who) => (files.iter().map(|file| key_answer(file, who)).sum(), 0),
             (Work::Crossings { word }, _) => (crossings(who, word, 0, 1) as u32, 0),
             (Work::Judging { shelf, slip }, _) => (judged(who, *black_box(shelf), slip), 0),
@@ -456,6 +468,13 @@ fn converting(random: &mut Random, to_y: bool, letters: usize) -> Work {
     Work::Converting { to_y, word: word_file(&random.word(letters)) }
 }
 
+/// A Y word of so many letters. The pair y1 y2⁻¹ stands in the middle, and row 26 replaces it.
+fn replacing(random: &mut Random, letters: usize) -> Work {
+    let (mut codes, place) = (random.word(letters), letters / 2);
+    codes[place..place + 2].copy_from_slice(&[0, 9]);
+    Work::Replacing { word: word_file(&codes), place }
+}
+
 /// An accepted slip of a typical word, and a shelf that holds its key.
 fn judging(random: &mut Random) -> Work {
     let codes = random.word(typical(Field::Gf32));
@@ -471,7 +490,7 @@ fn loading(random: &mut Random) -> Work {
 }
 
 /// How many cases there are.
-pub const CASES: usize = 32;
+pub const CASES: usize = 33;
 
 /// The case with a number. It is the same in every run.
 pub fn case(number: usize) -> Case {
@@ -511,7 +530,8 @@ pub fn case(number: usize) -> Case {
         28 => ("to Y, 1,283 letters", 1, converting(random, true, typical(small))),
         29 => ("from Y, 1,283 letters", 1, converting(random, false, typical(small))),
         30 => ("verdict by a shelf, 1,283", 1, judging(random)),
-        _ => ("a key loaded into a shelf", KEYS, loading(random)),
+        31 => ("a key loaded into a shelf", KEYS, loading(random)),
+        _ => ("pair replaced, 1,283 letters", 1, replacing(random, typical(small))),
     };
     Case { name, parts, work }
 }

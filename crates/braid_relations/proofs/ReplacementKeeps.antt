@@ -10,31 +10,17 @@ use lib.ListN.{length, take, drop, getD}
 use Rattle.base.specs.Lists.{every}
 use Rattle.base.proofs.ListLaws.{every-take, every-drop, every-append, every-getD, and-both}
 use Rattle.word.specs.Letters.{isLetter}
-use Rattle.word.specs.Reduction.{reduced}
 use Rattle.word.proofs.LetterLaws.{Lettered}
 use Rattle.braid_same.specs.SameBraid.{SameBraid}
 use Rattle.braid_same.proofs.Laws.{same-none, same-then, same-turned, same-append, same-inside}
-use Rattle.braid_same.proofs.Cancelling.{reduced-same}
-use Rattle.word_dialect.specs.Dialect.{inverted, fromY, toY, converted, areParts}
-use Rattle.word_dialect.proofs.InverseWords.{inverted-append, inverted-lettered, inverted-twice, undone}
-use Rattle.word_dialect.proofs.ConversionLaws.{converted-append, converted-lettered, converted-inverted, there-and-back}
+use Rattle.word_dialect.specs.Dialect.{inverted, fromY}
+use Rattle.word_dialect.proofs.InverseWords.{inverted-lettered}
+use Rattle.word_dialect.proofs.ConversionLaws.{converted-append, converted-lettered, converted-inverted}
 use Rattle.braid_relations.specs.Relations.{appendixParts, artin, relations, All, none, also, placeIn}
 use Rattle.braid_relations.specs.Relations.{replacement, inverseAround}
 use Rattle.braid_relations.proofs.RowLaws.{appendix-parts, row-apart}
+use Rattle.braid_relations.proofs.YBraids.{undone-same, undone-before}
 use Rattle.braid_relations.proofs.AllKept.{Relation, all-relations}
-
--- a word and then its inverse, and a word's inverse and then the word, are the same braid as the empty word
-undone-same : (u : List ℕ) → Lettered u → SameBraid (u ++ inverted u) []
-unfolding reduced
-undone-same u e =
-    let l : Lettered (u ++ inverted u) =
-    every-append isLetter u (inverted u) ∙ and-both e (inverted-lettered u e) in
-    let r : reduced (u ++ inverted u) ≡ [] =
-    ap (λ (v : List ℕ). reduced (u ++ v)) (sym (append-nil (inverted u))) ∙ undone u [] e in
-    rw r at (reduced-same (u ++ inverted u) l)
-
-undone-before : (u : List ℕ) → Lettered u → SameBraid (inverted u ++ u) []
-undone-before u e = rw (inverted-twice u e) at (undone-same (inverted u) (inverted-lettered u e))
 
 -- if x m z does nothing, m does what the inverses of x and z do
 solved : (x m z : List ℕ) → Lettered x → Lettered z → SameBraid (x ++ (m ++ z)) []
@@ -112,14 +98,3 @@ replacement-lettered c d ec ed (row ∷ rows) (also r rs) =
 pub pair-same : (c d : ℕ) → isLetter c ≡ true → isLetter d ≡ true
     → SameBraid (artin (c ∷ d ∷ [])) (artin (replacement relations c d))
 pair-same c d ec ed = replacement-same c d ec ed relations all-relations
-
--- ---- what a Y word means
-
--- A word and what it becomes on the way there and back are the same braid. So an Artin word is the same braid as the
--- Artin word of its Y word, and a Y word may be exchanged for the Y word of its Artin word.
-there-and-back-same : (parts : List ℕ) → areParts parts ≡ true → (w : List ℕ) → Lettered w
-    → SameBraid w (converted fromY parts (converted toY parts w))
-there-and-back-same parts ps w e =
-    let v = converted fromY parts (converted toY parts w) in
-    let ev = converted-lettered fromY parts ps (converted toY parts w) (converted-lettered toY parts ps w e) in
-    same-then (rw (there-and-back parts ps toY w e) (reduced-same w e)) (same-turned (reduced-same v ev))

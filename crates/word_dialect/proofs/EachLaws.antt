@@ -1,11 +1,11 @@
--- Laws of `eachBy`: words one after another, one more letter, and how long the result is.
-use Prim.Native.Nat.{ℕ, suc, _+_, _≤_, _<_}
+-- Laws of `eachBy`: words one after another, one more letter, and how long the result is; and a code repeated.
+use Prim.Native.Nat.{ℕ, zero, suc, _+_, _≤_, _<_}
 use mathlib.Core.Path.{_≡_, refl, sym, ap, ap₂, _∙_}
 use mathlib.Core.Bool.{Bool, true}
 use mathlib.Core.List.{List, [], _∷_, _++_, append-assoc, append-nil}
 use native.Mathlib.Omega.{arith}
 use native.Mathlib.Numerals.{add-one}
-use lib.ListN.{length, take, drop, getD, length-append, take-append-drop}
+use lib.ListN.{length, take, drop, getD, replicate, length-append, take-append-drop}
 use lib.Seq.{take-suc}
 use Rattle.base.specs.Lists.{every}
 use Rattle.base.proofs.ListLaws.{and-left, and-right, and-both, every-append}
@@ -56,3 +56,9 @@ each-alike f g t h [] e = refl
 each-alike f g t h (c ∷ w) e =
     ap₂ (λ (x y : List ℕ). x ++ y) (h c (and-left (t c) (every t w) e))
     (each-alike f g t h w (and-right (t c) (every t w) e))
+
+-- what holds of a code holds of each of n copies of it
+pub every-repeated : (t : ℕ → Bool) (n c : ℕ) → t c ≡ true → every t (replicate n c) ≡ true
+unfolding every
+every-repeated t zero c e = refl
+every-repeated t (suc n) c e = and-both e (every-repeated t n c e)

@@ -1,7 +1,7 @@
 -- The contract of the two conversions shuts out wrong programs, each by an input on which it differs: y_(k+1) without
 -- its inverse, a run past the part's end, an inverse run that is not turned round, free reduction in the writer,
--- parts that sum to 8 or wrap at 256 or hold a zero, parts asked before the word, and 34 at 10,000 letters.
-use Prim.Native.Nat.{ℕ, zero, suc, _+_, _*_, _≤_}
+-- parts that sum to 8 or wrap at 256 or hold a zero, another order of the questions, and 34 at 10,000 letters.
+use Prim.Native.Nat.{ℕ, zero, suc, _+_, _*_, _≤_, _<_}
 use mathlib.Core.Path.{_≡_, refl, sym, ap, _∙_}
 use mathlib.Core.Bool.{Bool, true, false}
 use mathlib.Core.List.{List, [], _∷_, _++_}
@@ -13,14 +13,14 @@ use Rattle.base.specs.Questions.{firstNo}
 use Rattle.base.specs.Lists.{every, equal, valuesFrom}
 use Rattle.base.specs.Digits.{value, digits, halves}
 use Rattle.base.proofs.QuestionLaws.{fails, passed-answers}
-use Rattle.base.proofs.ListLaws.{and-both, true-false, equal-of}
+use Rattle.base.proofs.ListLaws.{true-false, equal-of}
 use Rattle.word.specs.Letters.{isLetter}
-use Rattle.word.specs.Words.{codes, filler, packed, wordFile, wordAnswer}
-use Rattle.word.proofs.LetterLaws.{Lettered}
+use Rattle.word.specs.Words.{codes, filler, packed, wordFile, wordQuestions, wordAnswer}
 use Rattle.word.proofs.RoundTrip.{codes-wordFile, wordFile-accepted, wrote-file}
 use Rattle.word_dialect.specs.Dialect.{partSum, areParts, following, inverted, eachBy, toY, fromY}
 use Rattle.word_dialect.specs.Dialect.{runOf, signedRun, run, converted, longQuestion, WroteConverted}
-use Rattle.word_dialect.proofs.ConvertLaws.{past-room, past-word, past-parts}
+use Rattle.word_dialect.proofs.EachLaws.{every-repeated}
+use Rattle.word_dialect.proofs.ConvertLaws.{afterWord, past-room, past-word, past-parts}
 
 abbrev four-three : List ℕ
 four-three = 4 ∷ 3 ∷ []
@@ -92,6 +92,15 @@ module _ (way : Bool) {before after : List ℕ} {answer bytes : ℕ} (room : 500
   unfolding partSum every
   no-parts = not-parts [] refl
 
+-- ---- the order: 15, the word, 33, 34
+
+-- the room is asked before the word
+pub room-first : (way : Bool) {before after : List ℕ} {answer bytes : ℕ} → length before < 5002
+    → WroteConverted way [] [] before after answer bytes → answer ≡ 15
+room-first way {before} few w =
+    w .answer-is
+    ∙ fails 15 (wordQuestions [] ++ afterWord way (length before) [] []) (lt-leb 5002 (length before) few)
+
 -- the word is asked before the parts
 pub word-first : (way : Bool) {before after : List ℕ} {answer bytes : ℕ} → 5002 ≤ length before
     → WroteConverted way [] [] before after answer bytes → answer ≡ 9
@@ -110,15 +119,10 @@ repeated (suc n) c f =
     let m = suc-mul n (length (f c)) in
     omega (arith, l, repeated n c f, m)
 
-b1-letters : (n : ℕ) → Lettered (replicate n 0)
-unfolding every
-b1-letters zero = refl
-b1-letters (suc n) = b1-letters n
-
--- b1, n times, becomes 2 n letters
-b1-length : (n : ℕ) → length (converted toY four-three (replicate n 0)) ≡ n * 2
+-- b1, n times, becomes 2 n letters if the first part is 4
+b1-length : (parts : List ℕ) (n : ℕ) → length (converted toY (4 ∷ parts) (replicate n 0)) ≡ n * 2
 unfolding converted run signedRun runOf following
-b1-length n = repeated n 0 (run toY four-three)
+b1-length parts n = repeated n 0 (run toY (4 ∷ parts))
 
 module _ (n : ℕ) (h : n ≤ 10000) {before after : List ℕ} {answer bytes : ℕ} (room : 5002 ≤ length before)
     (w : WroteConverted toY (wordFile (replicate n 0)) four-three before after answer bytes) where
@@ -128,12 +132,15 @@ module _ (n : ℕ) (h : n ≤ 10000) {before after : List ℕ} {answer bytes : �
   few : length word ≤ 10000
   few = omega (arith, length-replicate {A = ℕ} n 0)
 
+  letters : every isLetter word ≡ true
+  letters = every-repeated isLetter n 0 refl
+
   answers : answer ≡ firstNo (longQuestion toY word four-three)
   unfolding partSum every
   answers =
       w .answer-is
-      ∙ past-parts toY (length before) (wordFile word) four-three room (wordFile-accepted word few (b1-letters n)) refl
-      ∙ ap (λ (l : List ℕ). firstNo (longQuestion toY l four-three)) (codes-wordFile word few (b1-letters n))
+      ∙ past-parts toY (length before) (wordFile word) four-three room (wordFile-accepted word few letters) refl
+      ∙ ap (λ (l : List ℕ). firstNo (longQuestion toY l four-three)) (codes-wordFile word few letters)
 
 -- 10,000 letters are not refused, 10,002 are
 pub ten-thousand : {before after : List ℕ} {answer bytes : ℕ} → 5002 ≤ length before
@@ -142,11 +149,29 @@ ten-thousand room w =
     let five : List ℕ = replicate 5000 0 in
     answers 5000 (omega arith) room w
     ∙ passed-answers (longQuestion toY five four-three)
-    (le-leb (length (converted toY four-three five)) 10000 (omega (arith, b1-length 5000)), tt)
+    (le-leb (length (converted toY four-three five)) 10000 (omega (arith, b1-length (3 ∷ []) 5000)), tt)
 
 pub over-ten-thousand : {before after : List ℕ} {answer bytes : ℕ} → 5002 ≤ length before
     → WroteConverted toY (wordFile (replicate 5001 0)) four-three before after answer bytes → answer ≡ 34
 over-ten-thousand room w =
     let more : List ℕ = replicate 5001 0 in
     answers 5001 (omega arith) room w
-    ∙ fails 34 [] (lt-leb (length (converted toY four-three more)) 10000 (omega (arith, b1-length 5001)))
+    ∙ fails 34 [] (lt-leb (length (converted toY four-three more)) 10000 (omega (arith, b1-length (3 ∷ []) 5001)))
+
+-- the parts are asked before the length: parts 4 and 4 sum to 8, and b1, 5,001 times, becomes 10,002 letters
+four-four : areParts (4 ∷ 4 ∷ []) ≡ false
+unfolding partSum every
+four-four = refl
+
+pub parts-first : {before after : List ℕ} {answer bytes : ℕ} → 5002 ≤ length before
+    → WroteConverted toY (wordFile (replicate 5001 0)) (4 ∷ 4 ∷ []) before after answer bytes
+    → (10000 < length (converted toY (4 ∷ 4 ∷ []) (replicate 5001 0))) × (answer ≡ 33)
+parts-first {before} room w =
+    let word : List ℕ = replicate 5001 0 in
+    let few : length word ≤ 10000 = omega (arith, length-replicate {A = ℕ} 5001 0) in (
+      omega (arith, b1-length (4 ∷ []) 5001),
+      w .answer-is
+          ∙ past-word toY (length before) (wordFile word) (4 ∷ 4 ∷ []) room
+          (wordFile-accepted word few (every-repeated isLetter 5001 0 refl))
+          ∙ fails 33 (longQuestion toY (codes (wordFile word)) (4 ∷ 4 ∷ [])) four-four,
+    )

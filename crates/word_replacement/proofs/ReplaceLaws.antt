@@ -163,7 +163,7 @@ module _ (room : ℕ) (word : List ℕ) (place : ℕ) where
       → firstNo (replacementQuestions room word place) ≡ firstNo (wordQuestions word ++ afterWord)
   past-room h = passes 15 (wordQuestions word ++ afterWord) (le-leb 5002 room h)
 
-  pub past-word : 5002 ≤ room → wordAnswer word ≡ 0 → firstNo (replacementQuestions room word place) ≡ firstNo afterWord
+  past-word : 5002 ≤ room → wordAnswer word ≡ 0 → firstNo (replacementQuestions room word place) ≡ firstNo afterWord
   unfolding wordAnswer
   past-word h z = past-room h ∙ all-passed (wordQuestions word) afterWord tt z
 
