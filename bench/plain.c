@@ -321,7 +321,22 @@ uint8_t plain_read_key(const uint8_t *file, size_t n)
     return read_key(file, n, &held);
 }
 
-uint8_t plain_verify(const uint8_t *file, size_t kn, const uint8_t *digest, size_t dn, const uint8_t *word, size_t wn)
+/* Charges letters to a publisher, in the last four bytes of a shelf, or gives 36. */
+static uint8_t charge(uint8_t charges[4], size_t publisher, size_t letters)
+{
+    uint8_t *own = charges + 2 * (publisher - 1), *other = charges + 2 * (2 - publisher);
+    size_t after = (size_t)own[0] << 8 | own[1], others = (size_t)other[0] << 8 | other[1];
+    after += letters;
+    if ((after > 10000 ? after - 10000 : 0) + (others > 10000 ? others - 10000 : 0) > 10000)
+        return 36;
+    own[0] = (uint8_t)(after >> 8);
+    own[1] = (uint8_t)after;
+    return 0;
+}
+
+/* The verdict on a slip. If there are charges, the word's letters are charged after all questions before 14. */
+static uint8_t verdict(const uint8_t *file, size_t kn, const uint8_t *digest, size_t dn, const uint8_t *word, size_t wn,
+                       uint8_t *charges, size_t publisher)
 {
     key k;
     pair reached;
@@ -333,10 +348,17 @@ uint8_t plain_verify(const uint8_t *file, size_t kn, const uint8_t *digest, size
         return 8;
     if ((answer = read_word(word, wn, &letters)))
         return answer;
+    if (charges != NULL && (answer = charge(charges, publisher, letters)))
+        return answer;
     word_on(&k.first, k.over, k.t_values, word + 2, letters);
     digest_matrix(k.over, k.t_values, digest, &reached);
     matrix_product(k.over, reached.matrix, k.second, wanted);
     return memcmp(k.first.matrix, wanted, 64) ? 14 : 0;
+}
+
+uint8_t plain_verify(const uint8_t *file, size_t kn, const uint8_t *digest, size_t dn, const uint8_t *word, size_t wn)
+{
+    return verdict(file, kn, digest, dn, word, wn, NULL, 0);
 }
 
 static half held_half;
@@ -1093,5 +1115,5 @@ uint8_t plain_shelf_judge(uint8_t *shelf, size_t publisher, size_t number, const
         return 30;
     if (slot[0] == 0)
         return 31;
-    return plain_verify(slot + 1, slot[0] < 128 ? slot[0] : 128, digest, dn, word, wn);
+    return verdict(slot + 1, slot[0] < 128 ? slot[0] : 128, digest, dn, word, wn, shelf + 1032, publisher);
 }

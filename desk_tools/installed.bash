@@ -6,7 +6,7 @@ lib=$root/../../lib
 need() {
     local each
     for each in "$@"; do
-        [ "$each" != library ] || each=../../lib/libwalnut.so.0
+        [ "$each" != library ] || each=../../lib/libwalnut.so.1
         if [ ! -r "$bin/$each" ]; then
             echo "$name: '$bin/$each' is missing: install walnut again" >&2
             exit 3

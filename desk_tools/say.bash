@@ -4,8 +4,8 @@
 # For each length of a key file: the length of its digest, and the number of elements of its field.
 declare -A digest_bytes=([83]=32 [128]=64) elements=([83]=32 [128]=256)
 
-# The bytes of a key shelf, and of each of its slots.
-shelf_bytes=1032 slot_bytes=129
+# The bytes of a key shelf, of each of its slots, and of all eight.
+shelf_bytes=1036 slot_bytes=129 slots_bytes=1032
 
 say() { printf '%s: %s\n' "$name" "$*" >&2; }
 
@@ -258,18 +258,41 @@ say_no_shelf() {
 # held_bytes SHELF PUBLISHER NUMBER: the length of the key that is held there.
 held_bytes() { od -An -tu1 -j$((slot_bytes * (4 * ($2 - 1) + $3))) -N1 -- "$1" | tr -d ' '; }
 
-# about_shelf ANSWER SHELF VERB PUBLISHER NUMBER FILE..: a refused call of a shelf.
+# charged SHELF PUBLISHER: the letters charged to a publisher in this round.
+charged() { first_two "$1" $((slots_bytes + 2 * ($2 - 1))); }
+
+# letters_left OWN OTHER: the most letters that a publisher may still have judged in this round, from its own charge and
+# the other's. Each is sure of 10000 letters. The amounts over 10000 may sum to 10000.
+letters_left() {
+    local over=$(($2 > 10000 ? $2 - 10000 : 0)) left
+    left=$((over > 10000 ? 0 : 20000 - over - $1))
+    echo $((left > 0 ? left : 0))
+}
+
+# about_round SHELF PUBLISHER WORD: a slip that this round does not admit.
+about_round() {
+    local first second left
+    first=$(charged "$1" 1) second=$(charged "$1" 2)
+    if [ "$2" = 1 ]; then left=$(letters_left "$first" "$second"); else left=$(letters_left "$second" "$first"); fi
+    size "$3" >/dev/null && say "the word is '$3', $(count "$(first_two "$3")" letter)"
+    say "the shelf is '$1'; in this round it has charged $(count "$first" letter) to publisher 1 and" \
+        "$(count "$second" letter) to publisher 2, so at most $left more are left for publisher $2"
+}
+
+# about_shelf ANSWER SHELF VERB PUBLISHER NUMBER FILE..: a refused call of a shelf. A new round has no number.
 about_shelf() {
-    local answer=$1 shelf=$2 verb=$3 publisher=$4 number=$5
+    local answer=$1 shelf=$2 verb=$3 publisher=$4 number=${5-}
     local more="for what it holds: ./walnut shelf ${2@Q} show"
-    shift 5
+    shift $(($# < 5 ? $# : 5))
     case $answer,$verb in
+        30,round) say "the publisher is '$publisher'" ;;
         30,*) say "the publisher is '$publisher' and the key number is '$number'" ;;
         31,*) say "the shelf is '$shelf', the publisher is $publisher and the key number is $number; $more" ;;
         *,load) about_key "$answer" "$1" ;;
         [1-7],* | 26,*) say "the key is damaged that '$shelf' holds for publisher $publisher under $number; $more" ;;
         8,*) digest_told "$(held_bytes "$shelf" "$publisher" "$number")" "$1" ;;
         9,* | 1[0-3],*) about_word "$answer" "$2" ;;
+        36,*) about_round "$shelf" "$publisher" "$2" ;;
         14,*) say "the shelf is '$shelf', the publisher is $publisher, the key number is $number, the digest is '$1' and" \
             "the word is '$2'" ;;
     esac

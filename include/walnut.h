@@ -5,7 +5,7 @@
  * ANSWERS. Every function takes any bytes. Each function asks its questions in the order that its comment lists. The
  * answer is the number of the first question that the input fails, or 0. enum walnut_answer names the numbers, and
  * walnut_text says what failed. On an answer other than 0 no memory of the caller changes, a yes or no is no, and all
- * other results are zero.
+ * other results are zero. Exception: walnut_shelf_judge charges a slip's letters on 14 too.
  *
  * POINTERS. A pointer with a length must not be null, even if the length is 0. An output must not overlap an input.
  *
@@ -70,16 +70,18 @@
  * DIGEST. The hash of what is signed: 32 bytes with an 83-byte key, 64 with a 128-byte key. It is the hash itself, not
  * its hexadecimal text.
  *
- * SHELF. The keys of two publishers, numbered 1 and 2. Each publisher has its own key numbers, 0 to 3. A shelf has 1,032
- * bytes: eight slots of 129 bytes, first the four of publisher 1. A slot has 1 byte for the length of the key file that
- * it holds, 0 if it holds none, then the file, then zeros. All zeros are the empty shelf. Every content is a shelf: a
- * length over 128 counts as 128, and a file that is no key gets the key's answers when it is judged by.
+ * SHELF. The keys of two publishers, numbered 1 and 2, and the letters charged to each in this round. Each publisher
+ * has its own key numbers, 0 to 3. A shelf has 1,036 bytes: eight slots of 129 bytes, first the four of publisher 1, and
+ * 2 bytes each for the letters charged to publisher 1 and to publisher 2. A slot has 1 byte for the length of the key
+ * file that it holds, 0 if it holds none, then the file, then zeros. All zeros are the empty shelf. Every content is a
+ * shelf: a length over 128 counts as 128, and a file that is no key gets the key's answers when it is judged by.
  *
  *     number 2 of publisher 2 begins at byte 129 * (4 * (2 - 1) + 2) = 774
+ *     the letters charged to publisher 2 are bytes 1034 and 1035
  *
  * A shelf is plain bytes, without pointers. Copy it, and keep it in a file or in flash as it is. It belongs to one caller
  * at a time: threads must not call with the same shelf at the same time. Its bytes are no secret. They are no protection
- * either: whoever can write them can change the keys.
+ * either: whoever can write them can change the keys and the charges.
  */
 #ifndef WALNUT_H
 #define WALNUT_H
@@ -93,8 +95,8 @@ extern "C" {
 #endif
 
 /* The version of this header and of its library. The first number is also the number after libwalnut.so. */
-#define WALNUT_VERSION_MAJOR 0
-#define WALNUT_VERSION_MINOR 9
+#define WALNUT_VERSION_MAJOR 1
+#define WALNUT_VERSION_MINOR 0
 #define WALNUT_VERSION_PATCH 0
 
 /* Marks a function whose result must be used. A compiler that knows the mark warns if a caller drops the result. */
@@ -143,6 +145,7 @@ enum walnut_answer {
     WALNUT_ANSWER_PARTS = 33,
     WALNUT_ANSWER_NEW_WORD_FULL = 34,
     WALNUT_ANSWER_LENGTH_OR_LIST = 35,
+    WALNUT_ANSWER_ROUND_FULL = 36,
     /* answers.txt: end */
 };
 
@@ -187,6 +190,7 @@ static inline const char *walnut_text(uint8_t answer)
     case 33: return "the parts are empty, hold a zero or do not sum to 7";
     case 34: return "the new word would have more than 10,000 letters";
     case 35: return "the length is over 12, or the list is not four labels, 0 to 3 each once";
+    case 36: return "the slip has more letters than this round has left for its publisher";
     /* answers.txt: end */
     default: return "an answer that this header does not know";
     }
@@ -209,7 +213,7 @@ static inline const char *walnut_text(uint8_t answer)
 #define WALNUT_LETTERS 10000 /* the most letters of a word */
 #define WALNUT_MOVES 4096 /* the most moves of a list */
 #define WALNUT_SPREAD_LENGTH 12 /* the most letters of the words that walnut_words_ending counts */
-#define WALNUT_SHELF_BYTES 1032 /* bytes of a key shelf */
+#define WALNUT_SHELF_BYTES 1036 /* bytes of a key shelf */
 #define WALNUT_STACK_BYTES 98304 /* bytes of stack that a call may take */
 
 /* An element of a field. On a refusal it is 0. */
@@ -268,7 +272,7 @@ typedef struct {
 /* A half. On a refusal its field is the one with 32 elements, and all its numbers are 0. */
 typedef struct { uint8_t answer; walnut_half half; } walnut_halved;
 
-/* The keys of two publishers, as FILES says. All zeros are the empty shelf. */
+/* The keys of two publishers and their charged letters, as FILES says. All zeros are the empty shelf. */
 typedef struct { uint8_t bytes[WALNUT_SHELF_BYTES]; } walnut_shelf;
 
 /* Multiplies two elements of the field that `large` names. Answers: 17, 0. Changes nothing. */
@@ -397,10 +401,17 @@ WALNUT_MUST_USE uint8_t walnut_shelf_load(walnut_shelf *shelf, size_t publisher,
    slot of *shelf, on 0 only. */
 WALNUT_MUST_USE uint8_t walnut_shelf_clear(walnut_shelf *shelf, size_t publisher, size_t number);
 
-/* Judges a slip by the key under a publisher's key number, as walnut_verify does with that key's file. Answers: 30, 31,
-   then 1 to 7 and 26 only for a slot that walnut_shelf_load did not make, 8 to 14, or 0 for yes. Changes nothing. */
+/* Judges a slip by the key under a publisher's key number, as walnut_verify does with that key's file, and charges its
+   letters to the publisher. Answers: 30, 31, then 1 to 7 and 26 only for a slot that walnut_shelf_load did not make, 8
+   to 13, 36, 14, or 0 for yes. 36 is no verdict: with this slip, what publisher 1 is over 10,000 letters and what
+   publisher 2 is over 10,000 would sum to more than 10,000. Changes the 2 bytes of *shelf with the letters charged to
+   the publisher, on 0 and 14 only. */
 WALNUT_MUST_USE uint8_t walnut_shelf_judge(walnut_shelf *shelf, size_t publisher, size_t number, const uint8_t *digest,
                                            size_t dn, const uint8_t *word, size_t wn);
+
+/* Starts a new round: no letters are charged to either publisher. Either publisher may start one. Answers: 30, 0.
+   Changes the 4 bytes of *shelf with the charged letters, on 0 only. */
+WALNUT_MUST_USE uint8_t walnut_shelf_round(walnut_shelf *shelf, size_t publisher);
 
 #ifdef __cplusplus
 }

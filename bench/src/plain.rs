@@ -263,17 +263,20 @@ fn matrix_product<const SIZE: usize>(table: &Table<SIZE>, a: &Matrix, b: &Matrix
 
 const ORDER: Eight = [0, 1, 2, 3, 4, 5, 6, 7];
 
+/// The verdict on a slip. `admit` gets the word's number of letters after all questions before 14.
 fn verify_over<const SIZE: usize>(
     table: &Table<SIZE>,
     key: &[u8],
     digest: &[u8],
     word: &[u8],
+    admit: impl FnOnce(usize) -> Result<(), u8>,
 ) -> Result<(), u8> {
     let Key { t_values, pair, second } = read_key(table, key)?;
     if digest.len() != if SIZE == 32 { 32 } else { 64 } {
         return Err(8);
     }
     let letters = read_word(word)?;
+    admit(usize::from(word[0]) << 8 | usize::from(word[1]))?;
     let reached = pair.carried(table, &t_values, letters);
     let braid = halves(digest).flat_map(half_byte_braid);
     let encoded = Pair::with_labels(ORDER).carried(table, &t_values, braid);
@@ -293,12 +296,21 @@ pub fn read(file: &[u8]) -> Result<(), u8> {
     }
 }
 
-pub fn verify(key: &[u8], digest: &[u8], word: &[u8]) -> Result<(), u8> {
+fn verify_admitted(
+    key: &[u8],
+    digest: &[u8],
+    word: &[u8],
+    admit: impl FnOnce(usize) -> Result<(), u8>,
+) -> Result<(), u8> {
     match key.len() {
-        83 => verify_over(&SMALL, key, digest, word),
-        128 => verify_over(&LARGE, key, digest, word),
+        83 => verify_over(&SMALL, key, digest, word, admit),
+        128 => verify_over(&LARGE, key, digest, word, admit),
         _ => Err(1),
     }
+}
+
+pub fn verify(key: &[u8], digest: &[u8], word: &[u8]) -> Result<(), u8> {
+    verify_admitted(key, digest, word, |_| Ok(()))
 }
 
 /// The result of the first half of a verdict, and the input of the second. It has no positions, so the second half asks
@@ -759,7 +771,7 @@ pub fn words_ending(length: usize, labels: &[u8]) -> Result<u32, u8> {
 }
 
 /// The bytes of a key shelf, and the slot of a publisher's key number.
-pub const SHELF_BYTES: usize = 1032;
+pub const SHELF_BYTES: usize = 1036;
 
 fn shelf_slot(publisher: usize, number: usize) -> Result<std::ops::Range<usize>, u8> {
     if !(1..=2).contains(&publisher) || number > 3 {
@@ -784,16 +796,30 @@ pub fn shelf_load(
     Ok(())
 }
 
+/// Charges letters to a publisher, in the last four bytes of a shelf, or refuses.
+fn charge(charges: &mut [u8], publisher: usize, letters: usize) -> Result<(), u8> {
+    let charged = [0, 2].map(|at| usize::from(charges[at]) << 8 | usize::from(charges[at + 1]));
+    let own = charged[publisher - 1] + letters;
+    if own.saturating_sub(10_000) + charged[2 - publisher].saturating_sub(10_000) > 10_000 {
+        return Err(36);
+    }
+    charges[2 * publisher - 2..2 * publisher].copy_from_slice(&(own as u16).to_be_bytes());
+    Ok(())
+}
+
 pub fn shelf_judge(
-    shelf: &[u8; SHELF_BYTES],
+    shelf: &mut [u8; SHELF_BYTES],
     publisher: usize,
     number: usize,
     digest: &[u8],
     word: &[u8],
 ) -> Result<(), u8> {
-    let slot = &shelf[shelf_slot(publisher, number)?];
+    let (slots, charges) = shelf.split_at_mut(1032);
+    let slot = &slots[shelf_slot(publisher, number)?];
     match usize::from(slot[0]).min(128) {
         0 => Err(31),
-        bytes => verify(&slot[1..=bytes], digest, word),
+        bytes => {
+            verify_admitted(&slot[1..=bytes], digest, word, |letters| charge(charges, publisher, letters))
+        }
     }
 }

@@ -231,14 +231,20 @@ fn handles(who: Who, word: &[u8], limit: u16, again: bool, out: &mut [u8]) -> (u
     }
 }
 
-/// The verdict on a slip by the key that a shelf holds for publisher 2 under number 1.
-fn judged(who: Who, mut bytes: [u8; SHELF_BYTES], slip: &Slip) -> u32 {
+/// The answer to a slip by the key that a shelf holds for publisher 2 under number 1, and the letters then charged.
+fn judged(who: Who, mut bytes: [u8; SHELF_BYTES], slip: &Slip, out: &mut [u8]) -> (u32, usize) {
     let Slip { digest, word, .. } = slip;
-    match who {
-        Who::Library => number(Shelf::from(bytes).judge(2, 1, digest, word).map_err(Refusal::number)),
-        Who::Rust => number(plain::shelf_judge(&bytes, 2, 1, digest, word)),
+    let answer = match who {
+        Who::Library => {
+            let mut shelf = Shelf::from(bytes);
+            let answer = number(shelf.judge(2, 1, digest, word).map_err(Refusal::number));
+            bytes = shelf.bytes;
+            answer
+        }
+        Who::Rust => number(plain::shelf_judge(&mut bytes, 2, 1, digest, word)),
         Who::C => u32::from(plain_c::shelf_judge(&mut bytes, 2, 1, digest, word)),
-    }
+    };
+    (answer, lay_out(&bytes[SHELF_BYTES - 4..], out))
 }
 
 /// The sum of the answers to keys that are loaded, by both publishers and under all numbers in turn, and the shelf.
@@ -333,7 +339,7 @@ impl Work {
             (Work::Replacing { word, place }, Who::C) => (0, plain_c::replace_pair(word, *place, out)),
             (Work::Keys(files), who) => (files.iter().map(|file| key_answer(file, who)).sum(), 0),
             (Work::Crossings { word }, _) => (crossings(who, word, 0, 1) as u32, 0),
-            (Work::Judging { shelf, slip }, _) => (judged(who, *black_box(shelf), slip), 0),
+            (Work::Judging { shelf, slip }, _) => judged(who, *black_box(shelf), slip, out),
             (Work::Loading(keys), _) => loaded(who, keys, out),
             (Work::Spreading { length, labels }, _) => (words_ending(who, black_box(*length), labels), 0),
         }
@@ -475,12 +481,15 @@ fn replacing(random: &mut Random, letters: usize) -> Work {
     Work::Replacing { word: word_file(&codes), place }
 }
 
-/// An accepted slip of a typical word, and a shelf that holds its key.
-fn judging(random: &mut Random) -> Work {
+/// An accepted slip of a typical word, and a shelf that holds its key. In a full round its letters are not admitted.
+fn judging(random: &mut Random, full: bool) -> Work {
     let codes = random.word(typical(Field::Gf32));
     let slip = accepted(random, Field::Gf32, &codes);
     let mut shelf = [0; SHELF_BYTES];
     assert_eq!(plain_c::shelf_load(&mut shelf, 2, 1, &slip.key), 0, "the key is accepted");
+    if full {
+        shelf[SHELF_BYTES - 2..].copy_from_slice(&20_000_u16.to_be_bytes());
+    }
     Work::Judging { shelf, slip }
 }
 
@@ -490,7 +499,7 @@ fn loading(random: &mut Random) -> Work {
 }
 
 /// How many cases there are.
-pub const CASES: usize = 33;
+pub const CASES: usize = 34;
 
 /// The case with a number. It is the same in every run.
 pub fn case(number: usize) -> Case {
@@ -529,9 +538,10 @@ pub fn case(number: usize) -> Case {
         27 => ("words of length 12 in a list", 1, Work::Spreading { length: 12, labels: [2, 3, 0, 1] }),
         28 => ("to Y, 1,283 letters", 1, converting(random, true, typical(small))),
         29 => ("from Y, 1,283 letters", 1, converting(random, false, typical(small))),
-        30 => ("verdict by a shelf, 1,283", 1, judging(random)),
+        30 => ("verdict by a shelf, 1,283", 1, judging(random, false)),
         31 => ("a key loaded into a shelf", KEYS, loading(random)),
-        _ => ("pair replaced, 1,283 letters", 1, replacing(random, typical(small))),
+        32 => ("pair replaced, 1,283 letters", 1, replacing(random, typical(small))),
+        _ => ("slip refused by a full round", 1, judging(random, true)),
     };
     Case { name, parts, work }
 }

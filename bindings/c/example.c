@@ -303,6 +303,7 @@ static void shelves(const uint8_t key[WALNUT_KEY_BYTES])
     uint8_t signature[66] = {0x00, 0x80};
     memset(signature + 2, 0x66, 64);
     walnut_shelf shelf = {{0}}, empty = shelf;
+    uint8_t long_word[WALNUT_WORD_BYTES] = {0x27, 0x10};
     printf("publisher 1 loads the plain key under 0: answer %u\n",
            walnut_shelf_load(&shelf, 1, 0, key, WALNUT_KEY_BYTES));
     printf("its slip by this key: answer %u\n",
@@ -311,6 +312,16 @@ static void shelves(const uint8_t key[WALNUT_KEY_BYTES])
            walnut_shelf_judge(&shelf, 2, 0, digest, sizeof digest, signature, sizeof signature));
     printf("there is no number 4: answer %u\n", walnut_shelf_load(&shelf, 1, 4, key, WALNUT_KEY_BYTES));
     print_hex("number 0 begins with", shelf.bytes, 4);
+    /* each publisher is sure of 10,000 letters in a round, and a further 10,000 go to whoever comes first */
+    print_hex("the letters charged to both are", shelf.bytes + WALNUT_SHELF_BYTES - 4, 4);
+    printf("b1, 10000 times: answer %u\n",
+           walnut_shelf_judge(&shelf, 1, 0, digest, sizeof digest, long_word, sizeof long_word));
+    print_hex("the letters charged to both are", shelf.bytes + WALNUT_SHELF_BYTES - 4, 4);
+    printf("the same again: answer %u\n",
+           walnut_shelf_judge(&shelf, 1, 0, digest, sizeof digest, long_word, sizeof long_word));
+    printf("publisher 2 starts a new round: answer %u\n", walnut_shelf_round(&shelf, 2));
+    print_hex("the letters charged to both are", shelf.bytes + WALNUT_SHELF_BYTES - 4, 4);
+    printf("publisher 3 starts a new round: answer %u\n", walnut_shelf_round(&shelf, 3));
     printf("publisher 1 clears 0: answer %u\n", walnut_shelf_clear(&shelf, 1, 0));
     printf("the shelf is empty again: %s\n", memcmp(&shelf, &empty, sizeof shelf) == 0 ? "yes" : "no");
 }

@@ -138,6 +138,15 @@ print("its slip by this key: answer", answer_of(shelf.judge, 1, 0, bytes(32), si
 print("publisher 2 has none under 0: answer", answer_of(shelf.judge, 2, 0, bytes(32), signature))
 print("there is no number 4: answer", answer_of(shelf.load, 1, 4, key))
 print("number 0 begins with", text(bytes(shelf)[:4]))
+# each publisher is sure of 10,000 letters in a round, and a further 10,000 go to whoever comes first
+long_word = bytes.fromhex("27 10") + bytes(5000)
+print("the letters charged to both are", text(bytes(shelf)[-4:]))
+print("b1, 10000 times: answer", answer_of(shelf.judge, 1, 0, bytes(32), long_word))
+print("the letters charged to both are", text(bytes(shelf)[-4:]))
+print("the same again: answer", answer_of(shelf.judge, 1, 0, bytes(32), long_word))
+print("publisher 2 starts a new round: answer", answer_of(shelf.round, 2))
+print("the letters charged to both are", text(bytes(shelf)[-4:]))
+print("publisher 3 starts a new round: answer", answer_of(shelf.round, 3))
 print("publisher 1 clears 0: answer", answer_of(shelf.clear, 1, 0))
 print("the shelf is empty again:", yes_or_no(shelf == walnut.Shelf(bytes(walnut.SHELF_BYTES))))
 

@@ -330,8 +330,12 @@ class Shelves(Case):
             self.refused(Answer.NO_KEY_HELD, shelf.judge, publisher, 3, digest, signature)
             shelf.load(publisher, 3, key)
             loaded = bytes(shelf)
-            shelf.judge(publisher, 3, digest, signature)
             self.refused(Answer.MATRICES_DIFFER, shelf.judge, publisher, 3, digest, bytes(2))
+            self.assertEqual(bytes(shelf), loaded)
+            shelf.judge(publisher, 3, digest, signature)
+            # 128 letters are charged to publisher 1, then 256 to publisher 2
+            loaded = loaded[:1032] + bytes([0, 128, publisher - 1, 0])
+            self.assertEqual(shelf.charged, (128, 256 * (publisher - 1)))
             self.refused(Answer.KEY_LENGTH, shelf.load, publisher, 3, key[1:])
             for nobody, number in ((0, 3), (3, 3), (publisher, 4), (publisher, 2**70), (2**64 + 1, 3)):
                 self.refused(Answer.NO_SUCH_NUMBER, shelf.load, nobody, number, key)
@@ -344,11 +348,32 @@ class Shelves(Case):
             self.assertEqual(Shelf(loaded), shelf)
         for publisher in (1, 2, 1):
             shelf.clear(publisher, 3)
+        self.assertEqual(shelf.charged, (128, 256))
+        shelf.round(1)
         self.assertEqual(shelf, Shelf())
 
+    def test_a_round_has_limits(self):
+        # b1, 10,000 times, is no signature of zero bytes; its letters are charged all the same
+        shelf, word = Shelf(), bytes.fromhex("27 10") + bytes(5000)
+        for publisher in (1, 2):
+            shelf.load(publisher, 0, plain_key(GF32))
+        rows = ((1, word, 14, (10000, 0)), (1, word, 14, (20000, 0)), (1, b"\0\1\0", 36, (20000, 0)))
+        rows += ((2, word, 14, (20000, 10000)), (2, b"\0\1\0", 36, (20000, 10000)))
+        for publisher, letters, answer, charged in rows:
+            self.refused(answer, shelf.judge, publisher, 0, bytes(32), letters)
+            self.assertEqual(shelf.charged, charged)
+        self.assertEqual(Answer.ROUND_FULL, 36)
+        full = bytes(shelf)
+        for nobody in (0, 3, 257, 2**64 + 1):
+            self.refused(Answer.NO_SUCH_NUMBER, shelf.round, nobody)
+        self.assertEqual(bytes(shelf), full)
+        shelf.round(2)
+        self.assertEqual(bytes(shelf), full[:1032] + bytes(4))
+
     def test_what_is_no_shelf(self):
-        self.raised(ValueError, "data: 1032 numbers are needed, not 1031", Shelf, bytes(1031))
+        self.raised(ValueError, "data: 1036 numbers are needed, not 1035", Shelf, bytes(1035))
         self.raised(TypeError, "publisher: a whole number is needed, not str", Shelf().clear, "1", 0)
+        self.raised(TypeError, "publisher: a whole number is needed, not str", Shelf().round, "1")
         self.raised(ValueError, "number: -1 is no byte", Shelf().clear, 1, -1)
         self.raised(TypeError, "key: bytes are needed", Shelf().load, 1, 0, "00")
 
@@ -372,7 +397,7 @@ class Values(Case):
         environment = {**os.environ, "WALNUT_LIB_DIR": os.devnull, "PYTHONPATH": os.path.dirname(walnut.__file__)}
         run = subprocess.run([sys.executable, "-c", "import walnut"], env=environment, capture_output=True, text=True)
         self.assertNotEqual(run.returncode, 0)
-        self.assertIn(f"libwalnut.so.0 was looked for in {os.devnull}, which WALNUT_LIB_DIR names", run.stderr)
+        self.assertIn(f"libwalnut.so.1 was looked for in {os.devnull}, which WALNUT_LIB_DIR names", run.stderr)
 
 
 if __name__ == "__main__":

@@ -7,7 +7,7 @@ lists look like stands in walnut.h, under FILES.
 
 Many words verify for one digest, so a word's bytes are no identity of a slip.
 
-The shared library libwalnut.so.0 is looked for in the folder that the environment variable WALNUT_LIB_DIR names;
+The shared library libwalnut.so.1 is looked for in the folder that the environment variable WALNUT_LIB_DIR names;
 without it beside this file, and then where the system looks for libraries.
 """
 
@@ -17,7 +17,7 @@ import operator
 import os
 from typing import Any, Iterable, List, Optional, Tuple, Union
 
-__version__ = "0.9.0"
+__version__ = "1.0.0"
 
 # walnut.h: begin; tools/interface writes these lines
 from ctypes import POINTER, Structure, c_bool, c_char_p, c_int32, c_size_t, c_uint16, c_uint32, c_uint8
@@ -43,7 +43,7 @@ MOVES = 4096
 # the most letters of the words that walnut_words_ending counts
 SPREAD_LENGTH = 12
 # bytes of a key shelf
-SHELF_BYTES = 1032
+SHELF_BYTES = 1036
 # bytes of stack that a call may take
 STACK_BYTES = 98304
 
@@ -132,9 +132,9 @@ class _Halved(Structure):
 
 
 class _Shelf(Structure):
-    """The keys of two publishers, as FILES says. All zeros are the empty shelf."""
+    """The keys of two publishers and their charged letters, as FILES says. All zeros are the empty shelf."""
 
-    _fields_ = [("bytes", c_uint8 * 1032)]
+    _fields_ = [("bytes", c_uint8 * 1036)]
 
 
 # of each exported function: what it gives, then what it takes
@@ -168,6 +168,7 @@ _FUNCTIONS: Any = {
     "walnut_shelf_load": (c_uint8, POINTER(_Shelf), c_size_t, c_size_t, c_char_p, c_size_t),
     "walnut_shelf_clear": (c_uint8, POINTER(_Shelf), c_size_t, c_size_t),
     "walnut_shelf_judge": (c_uint8, POINTER(_Shelf), c_size_t, c_size_t, c_char_p, c_size_t, c_char_p, c_size_t),
+    "walnut_shelf_round": (c_uint8, POINTER(_Shelf), c_size_t),
 }
 # walnut.h: end
 
@@ -237,6 +238,7 @@ class Answer(enum.IntEnum):
     PARTS = 33
     NEW_WORD_FULL = 34
     LENGTH_OR_LIST = 35
+    ROUND_FULL = 36
     # answers.txt: end
 
 
@@ -279,6 +281,7 @@ TEXTS = {
     33: "the parts are empty, hold a zero or do not sum to 7",
     34: "the new word would have more than 10,000 letters",
     35: "the length is over 12, or the list is not four labels, 0 to 3 each once",
+    36: "the slip has more letters than this round has left for its publisher",
     # answers.txt: end
 }
 
@@ -303,7 +306,7 @@ class Refusal(Exception):
 
 
 def _library() -> ctypes.CDLL:
-    name = "libwalnut.so.0"
+    name = "libwalnut.so.1"
     named = os.environ.get("WALNUT_LIB_DIR")
     beside = os.path.join(os.path.dirname(os.path.abspath(__file__)), name)
     if named:
@@ -611,9 +614,9 @@ class Half:
 
 
 class Shelf:
-    """The key shelf of two publishers, numbered 1 and 2, each with key numbers 0 to 3. bytes(shelf) gives its bytes, and
-    Shelf(data) makes it from any such bytes; without them it is empty. Do not use one shelf from two threads at the
-    same time."""
+    """The key shelf of two publishers, numbered 1 and 2, each with key numbers 0 to 3, and the letters charged to each.
+    bytes(shelf) gives its bytes, and Shelf(data) makes it from any such bytes; without them it is empty. Do not use one
+    shelf from two threads at the same time."""
 
     def __init__(self, data: Optional[Bytes] = None) -> None:
         self._bytes = bytes(SHELF_BYTES) if data is None else _fixed(data, SHELF_BYTES, "data")
@@ -630,13 +633,24 @@ class Shelf:
         self._call(_lib.walnut_shelf_clear, publisher, number)
 
     def judge(self, publisher: int, number: int, digest: Bytes, word: Bytes) -> None:
-        """Judges a slip by the key under a publisher's key number, as verify does with that key's file."""
+        """Judges a slip by the key under a publisher's key number, as verify does with that key's file, and charges its
+        letters to the publisher. They are charged on MATRICES_DIFFER too; on any other refusal nothing changes.
+        ROUND_FULL is no verdict."""
         self._call(_lib.walnut_shelf_judge, publisher, number, digest=digest, word=word)
 
-    def _call(self, function: Any, publisher: int, number: int, **parts: Bytes) -> None:
+    def round(self, publisher: int) -> None:
+        """Starts a new round: no letters are charged to either publisher. On a refusal nothing changes."""
+        self._call(_lib.walnut_shelf_round, publisher)
+
+    @property
+    def charged(self) -> Tuple[int, int]:
+        """The letters charged to publisher 1 and to publisher 2 in this round."""
+        return int.from_bytes(self._bytes[-4:-2], "big"), int.from_bytes(self._bytes[-2:], "big")
+
+    def _call(self, function: Any, *numbers: int, **parts: Bytes) -> None:
         lent = _Shelf.from_buffer_copy(self._bytes)
-        numbers = [_small(publisher, "publisher"), _small(number, "number")]
-        answer = function(lent, *numbers, *_slices(**parts))
+        small = [_small(number, name) for number, name in zip(numbers, ("publisher", "number"))]
+        answer = function(lent, *small, *_slices(**parts))
         self._bytes = bytes(lent)
         _granted(answer)
 

@@ -11,6 +11,9 @@ from walnut import letter_text
 # The number of letters in a row of text.
 ROW = 10
 
+# In a round each publisher is sure of this number of letters, and as many more go to whoever comes first.
+SURE = 10000
+
 
 def main(what, *paths):
     shows = {"word": show_word, "stored": show_stored, "key": show_key, "moves": show_moves, "shelf": show_shelf}
@@ -217,14 +220,25 @@ def no_inverses(at, file, parts, t_values, labels):
 
 
 def show_shelf(path):
-    """A line for each key number. A damaged key is told with the answer that it gets."""
+    """A line for each key number, and one for the letters charged to each publisher. A damaged key is told with the
+    answer that it gets."""
     file, size = files.read(path, walnut.SHELF_BYTES)
     if size not in (0, walnut.SHELF_BYTES):
         told = f"it has {count(size, 'byte')}, and a shelf has {walnut.SHELF_BYTES}, or none if it is empty"
         raise Refused(0, f"'{path}' is no key shelf: {told}")
-    shelf = bytes(walnut.Shelf(file)) if file else bytes(walnut.Shelf())
+    shelf = walnut.Shelf(file) if file else walnut.Shelf()
     for place in range(8):
-        print(f"publisher {place // 4 + 1} number {place % 4}: {held(shelf[129 * place : 129 * place + 129])}")
+        slot = bytes(shelf)[129 * place : 129 * place + 129]
+        print(f"publisher {place // 4 + 1} number {place % 4}: {held(slot)}")
+    for publisher, own, other in zip((1, 2), shelf.charged, reversed(shelf.charged)):
+        told = f"{count(own, 'letter')} charged in this round, at most {left(own, other)} more"
+        print(f"publisher {publisher}: {told}")
+
+
+def left(own, other):
+    """The most letters that a publisher may still have judged in this round, from its own charge and the other's."""
+    over = max(other - SURE, 0)
+    return max(2 * SURE - over - own, 0) if over <= SURE else 0
 
 
 def held(slot):

@@ -1,5 +1,5 @@
 //! A second, independent road to the operations of document 01 ("Loan-slip signatures: braid words, keys and
-//! moves") and of document 02's sections 1, 2, 4, 6, 7, 8, 9, 11 and 13, to run beside another implementation.
+//! moves") and of document 02's sections 1, 2, 4, 6, 7, 8, 9, 11, 13 and 14, to run beside another implementation.
 //!
 //! It is written to be plain, not fast, and uses another method wherever there is one:
 //!
@@ -25,7 +25,8 @@
 //!   ([`dialect`]);
 //! - the halves of a verdict work both sides out otherwise than the whole verdict: the target half byte by half byte,
 //!   and the signature's letters from the identity matrix ([`half`]);
-//! - a key shelf is a map from publisher and key number to a slot, without any place in bytes ([`shelf`]);
+//! - a key shelf is a map from publisher and key number to a slot, without any place in bytes, and whether a slip is
+//!   admitted to the chip is asked after its verdict ([`shelf`]);
 //! - the questions stand in lists, in the paper's order, and the answer is the number of the first one
 //!   answered no ([`questions`]).
 //!

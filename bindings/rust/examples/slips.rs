@@ -200,6 +200,17 @@ fn shelves(key: &[u8]) {
     println!("publisher 2 has none under 0: answer {}", answer(shelf.judge(2, 0, &digest, &signature)));
     println!("there is no number 4: answer {}", answer(shelf.load(1, 4, key)));
     println!("number 0 begins with {}", hex(&shelf.bytes[..4]));
+    // each publisher is sure of 10,000 letters in a round, and a further 10,000 go to whoever comes first
+    let mut long_word = vec![0x27, 0x10];
+    long_word.resize(WORD_BYTES, 0);
+    let charged = |shelf: &Shelf| hex(&shelf.bytes[SHELF_BYTES - 4..]);
+    println!("the letters charged to both are {}", charged(&shelf));
+    println!("b1, 10000 times: answer {}", answer(shelf.judge(1, 0, &digest, &long_word)));
+    println!("the letters charged to both are {}", charged(&shelf));
+    println!("the same again: answer {}", answer(shelf.judge(1, 0, &digest, &long_word)));
+    println!("publisher 2 starts a new round: answer {}", answer(shelf.round(2)));
+    println!("the letters charged to both are {}", charged(&shelf));
+    println!("publisher 3 starts a new round: answer {}", answer(shelf.round(3)));
     println!("publisher 1 clears 0: answer {}", answer(shelf.clear(1, 0)));
     println!("the shelf is empty again: {}", yes_or_no(shelf == Shelf::from([0; SHELF_BYTES])));
 }

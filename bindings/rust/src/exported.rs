@@ -109,11 +109,11 @@ pub struct Halved {
     pub half: Half,
 }
 
-/// The keys of two publishers, as FILES says. All zeros are the empty shelf.
+/// The keys of two publishers and their charged letters, as FILES says. All zeros are the empty shelf.
 #[repr(C)]
 #[derive(Clone, Copy, Debug, PartialEq, Eq)]
 pub struct Shelf {
-    pub bytes: [u8; 1032],
+    pub bytes: [u8; 1036],
 }
 
 extern "C" {
@@ -203,4 +203,5 @@ extern "C" {
         word: *const u8,
         wn: usize,
     ) -> u8;
+    pub fn walnut_shelf_round(shelf: *mut Shelf, publisher: usize) -> u8;
 }

@@ -356,7 +356,9 @@ impl Shelf {
         granted(unsafe { walnut_shelf_clear(self, publisher, number) }, ())
     }
 
-    /// Judges a slip by the key under a publisher's key number, as [`verify`] does with that key's file.
+    /// Judges a slip by the key under a publisher's key number, as [`verify`] does with that key's file, and charges its
+    /// letters to the publisher. They are charged on [`Refusal::MATRICES_DIFFER`] too; on any other refusal the shelf is
+    /// as it was. [`Refusal::ROUND_FULL`] is no verdict.
     pub fn judge(
         &mut self,
         publisher: usize,
@@ -367,6 +369,18 @@ impl Shelf {
         let ((digest, dn), (word, wn)) = ((digest.as_ptr(), digest.len()), (word.as_ptr(), word.len()));
         // SAFETY: see above.
         granted(unsafe { walnut_shelf_judge(self, publisher, number, digest, dn, word, wn) }, ())
+    }
+
+    /// Starts a new round: no letters are charged to either publisher. On a refusal the shelf is as it was.
+    pub fn round(&mut self, publisher: usize) -> Result<(), Refusal> {
+        // SAFETY: see above.
+        granted(unsafe { walnut_shelf_round(self, publisher) }, ())
+    }
+
+    /// The letters charged to publisher 1 and to publisher 2 in this round.
+    pub const fn charged(&self) -> [u16; 2] {
+        let [.., a, b, c, d] = self.bytes;
+        [u16::from_be_bytes([a, b]), u16::from_be_bytes([c, d])]
     }
 }
 

@@ -21,6 +21,6 @@ pub const MOVES: usize = 4096;
 /// The most letters of the words that walnut_words_ending counts.
 pub const SPREAD_LENGTH: usize = 12;
 /// Bytes of a key shelf.
-pub const SHELF_BYTES: usize = 1032;
+pub const SHELF_BYTES: usize = 1036;
 /// Bytes of stack that a call may take.
 pub const STACK_BYTES: usize = 98304;

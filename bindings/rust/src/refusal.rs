@@ -42,6 +42,7 @@ fn text(number: u8) -> &'static str {
         33 => "the parts are empty, hold a zero or do not sum to 7",
         34 => "the new word would have more than 10,000 letters",
         35 => "the length is over 12, or the list is not four labels, 0 to 3 each once",
+        36 => "the slip has more letters than this round has left for its publisher",
         // answers.txt: end
         _ => "an answer that this binding does not know",
     }
@@ -124,6 +125,8 @@ impl Refusal {
     pub const NEW_WORD_FULL: Refusal = Refusal(34);
     /// The length is over 12, or the list is not four labels, 0 to 3 each once.
     pub const LENGTH_OR_LIST: Refusal = Refusal(35);
+    /// The slip has more letters than this round has left for its publisher.
+    pub const ROUND_FULL: Refusal = Refusal(36);
     // answers.txt: end
 
     /// The number; never 0.

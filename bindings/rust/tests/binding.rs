@@ -254,9 +254,13 @@ fn shelves_keep_publishers_apart() {
         signature.extend(vec![0x66; 2 * digest.len()]);
         assert_eq!(shelf.judge(publisher, 3, &digest, &signature), Err(Refusal::NO_KEY_HELD));
         assert_eq!(shelf.load(publisher, 3, &key), Ok(()));
-        let loaded = shelf;
-        assert_eq!(shelf.judge(publisher, 3, &digest, &signature), Ok(()));
+        let mut loaded = shelf;
         assert_eq!(shelf.judge(publisher, 3, &digest, &[0, 0]), Err(Refusal::MATRICES_DIFFER));
+        assert_eq!(shelf, loaded);
+        assert_eq!(shelf.judge(publisher, 3, &digest, &signature), Ok(()));
+        // 128 letters are charged to publisher 1, then 256 to publisher 2
+        loaded.bytes[1032..].copy_from_slice(if publisher == 1 { &[0, 128, 0, 0] } else { &[0, 128, 1, 0] });
+        assert_eq!(shelf.charged(), if publisher == 1 { [128, 0] } else { [128, 256] });
         assert_eq!(shelf.load(publisher, 3, &key[1..]), Err(Refusal::KEY_LENGTH));
         for (nobody, number) in [(0, 3), (3, 3), (publisher, 4), (publisher, usize::MAX)] {
             assert_eq!(shelf.load(nobody, number, &key), Err(Refusal::NO_SUCH_NUMBER));
@@ -275,7 +279,36 @@ fn shelves_keep_publishers_apart() {
     for publisher in [1, 2, 1] {
         assert_eq!(shelf.clear(publisher, 3), Ok(()));
     }
+    assert_eq!(shelf.charged(), [128, 256]);
+    assert_eq!(shelf.round(1), Ok(()));
     assert_eq!(shelf, Shelf::empty());
+}
+
+/// b1, 10,000 times, is no signature of zero bytes. Its letters are charged all the same.
+#[test]
+fn a_round_has_limits() {
+    let (key, mut shelf) = (plain_key(Gf32), Shelf::empty());
+    let mut word = vec![0x27, 0x10];
+    word.resize(WORD_BYTES, 0);
+    for publisher in [1, 2] {
+        assert_eq!(shelf.load(publisher, 0, &key), Ok(()));
+    }
+    let mut judge = |publisher, letters: &[u8], expected, charged| {
+        assert_eq!(shelf.judge(publisher, 0, &[0; 32], letters), Err(expected));
+        assert_eq!(shelf.charged(), charged);
+    };
+    judge(1, &word, Refusal::MATRICES_DIFFER, [10_000, 0]);
+    judge(1, &word, Refusal::MATRICES_DIFFER, [20_000, 0]);
+    judge(1, &[0, 1, 0], Refusal::ROUND_FULL, [20_000, 0]);
+    judge(2, &word, Refusal::MATRICES_DIFFER, [20_000, 10_000]);
+    judge(2, &[0, 1, 0], Refusal::ROUND_FULL, [20_000, 10_000]);
+    let full = shelf;
+    for nobody in [0, 3, 257, usize::MAX] {
+        assert_eq!(shelf.round(nobody), Err(Refusal::NO_SUCH_NUMBER));
+    }
+    assert_eq!(shelf, full);
+    assert_eq!(shelf.round(2), Ok(()));
+    assert_eq!((shelf.charged(), &shelf.bytes[..1032]), ([0, 0], &full.bytes[..1032]));
 }
 
 #[test]

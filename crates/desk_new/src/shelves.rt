@@ -1,10 +1,18 @@
 // A key shelf that a file holds. `desk_shelf` decides what is answered, and which shelf is written. The arguments are
-// the verb, a name beside the new file's place, the old file, the new file, publisher and key number, and the verb's
-// files.
+// the verb, a name beside the new file's place, the old file, the new file and the publisher. Load, clear and judge
+// take the key number and their files too.
 use desk_shelf::Served;
 
-// The shelf after accepted work goes to the new file, and the answer to standard output. Judging writes no file.
-fn end(served: Served, writes: bool) {
+// Is the shelf written? After judging, if a verdict changed it; after any other work, if the work was accepted.
+fn is_written(judges: bool, answer: u8, same: bool) -> bool {
+    if judges {
+        return ((answer == 0) | (answer == 14)) & !same;
+    }
+    answer == 0
+}
+
+// The shelf goes to the new file if it is to be written, and then the answer to standard output.
+fn end(served: Served, old: &[u8; desk_shelf::SHELF_ROOM], judges: bool) {
     if !served.read {
         print::text(b"no answer\n");
         return;
@@ -15,7 +23,9 @@ fn end(served: Served, writes: bool) {
     }
     let answer = served.answer;
     let shelf = served.shelf;
-    if writes && answer == 0 && !crate::put_at(2, 4, &shelf, true) {
+    let before = text::part(old, 0, desk_shelf::SHELF_ROOM - 1);
+    let same = base::equal(before, &shelf);
+    if is_written(judges, answer, same) && !crate::put_at(2, 4, &shelf, true) {
         print::text(b"not written\n");
         return;
     }
@@ -32,10 +42,8 @@ fn load() {
     let p = os::arg(5, &mut publisher);
     let mut number = io::buffer();
     let n = os::arg(6, &mut number);
-    end(
-        desk_shelf::load(&old, &publisher[..p], &number[..n], &key, s, k),
-        true,
-    );
+    let served = desk_shelf::load(&old, &publisher[..p], &number[..n], &key, s, k);
+    end(served, &old, false);
 }
 
 // Clears a number.
@@ -46,10 +54,18 @@ fn clear() {
     let p = os::arg(5, &mut publisher);
     let mut number = io::buffer();
     let n = os::arg(6, &mut number);
-    end(
-        desk_shelf::clear(&old, &publisher[..p], &number[..n], s),
-        true,
-    );
+    let served = desk_shelf::clear(&old, &publisher[..p], &number[..n], s);
+    end(served, &old, false);
+}
+
+// Starts a new round.
+fn round() {
+    let mut old = [0u8; desk_shelf::SHELF_ROOM];
+    let s = desk_io::file(3, &mut old);
+    let mut publisher = io::buffer();
+    let p = os::arg(5, &mut publisher);
+    let served = desk_shelf::round(&old, &publisher[..p], s);
+    end(served, &old, false);
 }
 
 // Judges a slip: digest and signature.
@@ -64,10 +80,8 @@ fn judge() {
     let p = os::arg(5, &mut publisher);
     let mut number = io::buffer();
     let n = os::arg(6, &mut number);
-    end(
-        desk_shelf::judge(&old, &publisher[..p], &number[..n], &digest, &word, s, d, w),
-        false,
-    );
+    let served = desk_shelf::judge(&old, &publisher[..p], &number[..n], &digest, &word, s, d, w);
+    end(served, &old, true);
 }
 
 // The program: its verb, and the number of arguments that this verb takes.
@@ -80,11 +94,13 @@ pub fn key_shelf() {
         load();
     } else if base::equal(verb, b"clear") && n == 7 {
         clear();
+    } else if base::equal(verb, b"round") && n == 6 {
+        round();
     } else if base::equal(verb, b"judge") && n == 9 {
         judge();
     } else {
         desk_io::misused(
-            b"key_shelf takes load, clear or judge, a name beside the new file, the old shelf, the new one, a publisher, a key number, and the verb's files: KEY to load, none to clear, DIGEST SIGNATURE to judge\n",
+            b"key_shelf takes load, clear, judge or round, a name beside the new file, the old shelf, the new one and a publisher; all but round take a key number too, then KEY to load, none to clear, DIGEST SIGNATURE to judge\n",
         );
     }
 }

@@ -1,4 +1,4 @@
--- How much of a file is enough to read: of a shelf 1,033 bytes, of a key 129, of a digest 65, of a word 5,003. A longer
+-- How much of a file is enough to read: of a shelf 1,037 bytes, of a key 129, of a digest 65, of a word 5,003. A longer
 -- file is no shelf, or is refused as such files are.
 use Prim.Native.Nat.{ℕ, _+_, _<_}
 use mathlib.Core.Path.{_≡_, refl, sym, ap, ap₂, _∙_}
@@ -11,14 +11,18 @@ use lib.ListN.{length, take}
 use lib.Seq.{take-all}
 use Rattle.base.specs.Questions.{firstNo}
 use Rattle.text.specs.Enough.{Enough, EnoughOfTwo}
-use Rattle.text.proofs.EnoughLaws.{enough-long, enough-of-two, enough-of-three}
+use Rattle.text.proofs.EnoughLaws.{enough-long, enough-granted, enough-of-two, enough-of-three}
+use Rattle.word.specs.Words.{codes, wordAnswer, letters}
+use Rattle.word.proofs.LongWords.{enough-of-word, whole-word}
 use Rattle.key.specs.Keys.{keyAnswer}
 use Rattle.slip_verdict.specs.Verdict.{verdict}
 use Rattle.shelf.specs.Shelves.{shelfBytes, emptyShelf, hasSlot, held, isHeld}
-use Rattle.shelf.specs.Calls.{Work, load, clear, judge, answerTo, after}
-use Rattle.shelf.proofs.CallLaws.{left-alone, judging-leaves, load-30, load-answer, judge-30, judge-31, judge-answer}
+use Rattle.shelf.specs.Charges.{admitted, charging}
+use Rattle.shelf.specs.Calls.{Work, load, judge, answerTo, isVerdict, after}
+use Rattle.shelf.proofs.ChipLaws.{onChip}
+use Rattle.shelf.proofs.CallLaws.{left-alone, load-30, load-answer, judge-30, judge-31, judge-answer}
 use Rattle.desk_line.proofs.Enough.{enough-of-files, long-key-answer}
-use Rattle.desk_shelf.specs.Serving.{isShelf, shelfIn, unanswered, servedAnswer, servedShelf, EnoughToClear}
+use Rattle.desk_shelf.specs.Serving.{isShelf, shelfIn, unanswered, servedAnswer, servedShelf, EnoughOfShelf}
 use Rattle.desk_shelf.specs.Serving.{EnoughToLoad, EnoughToJudge}
 use Rattle.desk_shelf.proofs.ServingLaws.{answer-as, shelf-as}
 
@@ -31,8 +35,8 @@ long-shelf file h =
     (ne-eqb (length file) shelfBytes (λ e. omega arith))
 
 module _ (s : ℕ) (h : shelfBytes < s) where
-  enough-of-shelf : Enough s isShelf
-  enough-of-shelf = enough-long isShelf (λ _. false) 0 shelfBytes s (omega arith) h long-shelf
+  enough-tested : Enough s isShelf
+  enough-tested = enough-long isShelf (λ _. false) 0 shelfBytes s (omega arith) h long-shelf
 
   enough-answer : (p : ℕ) (work : Work) → Enough s (λ file. servedAnswer file p work)
   enough-answer p work =
@@ -44,13 +48,8 @@ module _ (s : ℕ) (h : shelfBytes < s) where
       enough-long (λ file. servedShelf file p work) (λ _. emptyShelf) 0 shelfBytes s (omega arith) h
       (λ file l. shelf-as file p work (long-shelf file l))
 
-  pub enough-to-clear : EnoughToClear s
-  enough-to-clear =
-      record {
-        shelf = enough-of-shelf;
-        answer = λ p n. enough-answer p (clear n);
-        left = λ p n. enough-left p (clear n);
-      }
+  pub enough-of-shelf : EnoughOfShelf s
+  enough-of-shelf = record { shelf = enough-tested; answer = enough-answer; left = enough-left }
 
 -- ---- work that a shelf answers alike, and leaves the shelf alike
 
@@ -79,23 +78,23 @@ module _ (p n : ℕ) (shelf key : List ℕ) (h : 128 < length key) where
       go true e = load-answer p n shelf key e ∙ long-key-answer key h ∙ sym (load-answer p n shelf [] e ∙ empty-1)
       go false e = load-30 p n shelf key e ∙ sym (load-30 p n shelf [] e)
 
-  -- neither is accepted
-  refused : answerTo p (load n []) shelf ≡ 0 → ⊥
-  refused z = go (hasSlot p n) refl
+  -- neither acts
+  idle : eqb (answerTo p (load n []) shelf) 0 ≡ false
+  idle = go (hasSlot p n) refl
     where
-      go : (b : Bool) → hasSlot p n ≡ b → ⊥
-      go true e = let d = sym z ∙ load-answer p n shelf [] e ∙ empty-1 in omega arith
-      go false e = let d = sym z ∙ load-30 p n shelf [] e in omega arith
+      go : (b : Bool) → hasSlot p n ≡ b → eqb (answerTo p (load n []) shelf) 0 ≡ false
+      go true e = ap (λ (a : ℕ). eqb a 0) (load-answer p n shelf [] e ∙ empty-1)
+      go false e = ap (λ (a : ℕ). eqb a 0) (load-30 p n shelf [] e)
 
   long-left : after p (load n key) shelf ≡ after p (load n []) shelf
   long-left =
-      left-alone p (load n key) shelf (λ z. refused (sym long-answer ∙ z))
-      ∙ sym (left-alone p (load n []) shelf refused)
+      left-alone p (load n key) shelf (ap (λ (a : ℕ). eqb a 0) long-answer ∙ idle)
+      ∙ sym (left-alone p (load n []) shelf idle)
 
 pub enough-to-load : (s k : ℕ) → shelfBytes < s → 128 < k → EnoughToLoad s k
 enough-to-load s k hs hk =
     record {
-      shelf = enough-of-shelf s hs;
+      shelf = enough-tested s hs;
       answer = λ p n.
           enough-of-two (λ file key. servedAnswer file p (load n key)) s k (λ key. enough-answer s hs p (load n key))
           (λ file. enough-long (λ key. servedAnswer file p (load n key)) (λ _. servedAnswer file p (load n [])) 0 128 k
@@ -118,26 +117,35 @@ module _ (d w : ℕ) (hd : 64 < d) (hw : 5002 < w) where
       ap (λ (f : List ℕ). verdict f (take d digest) (take w word)) (sym whole)
       ∙ enough-of-files k d w (omega arith) hd hw key digest word
 
+  same-letters : (word : List ℕ) → length (letters (take w word)) ≡ length (letters word)
+  unfolding letters
+  same-letters word =
+      ap length
+      (enough-granted wordAnswer codes (λ _. []) w (enough-of-word w hw) (whole-word w hw) (λ _. refl) word)
+
   same-answer : (p n : ℕ) (shelf : List ℕ) → EnoughOfTwo d w (λ digest word. answerTo p (judge n digest word) shelf)
   same-answer p n shelf digest word = go (hasSlot p n) refl (isHeld (held p n shelf)) refl
     where
       go : (b : Bool) → hasSlot p n ≡ b → (c : Bool) → isHeld (held p n shelf) ≡ c
           → answerTo p (judge n (take d digest) (take w word)) shelf ≡ answerTo p (judge n digest word) shelf
       go true e true f =
-          judge-answer p n shelf (take d digest) (take w word) e f ∙ by-key (held p n shelf) digest word
+          judge-answer p n shelf (take d digest) (take w word) e f
+          ∙ ap₂ (λ (k a : ℕ). onChip (admitted p k shelf) a) (same-letters word) (by-key (held p n shelf) digest word)
           ∙ sym (judge-answer p n shelf digest word e f)
       go true e false f =
           judge-31 p n shelf (take d digest) (take w word) e f ∙ sym (judge-31 p n shelf digest word e f)
       go false e c f = judge-30 p n shelf (take d digest) (take w word) e ∙ sym (judge-30 p n shelf digest word e)
 
   same-left : (p n : ℕ) (shelf : List ℕ) → EnoughOfTwo d w (λ digest word. after p (judge n digest word) shelf)
+  unfolding after
   same-left p n shelf digest word =
-      judging-leaves p n (take d digest) (take w word) shelf ∙ sym (judging-leaves p n digest word shelf)
+      ap₂ (λ (a k : ℕ). cond (isVerdict a) (charging p k shelf) shelf) (same-answer p n shelf digest word)
+      (same-letters word)
 
   pub enough-to-judge : (s : ℕ) → shelfBytes < s → EnoughToJudge s d w
   enough-to-judge s hs =
       record {
-        shelf = enough-of-shelf s hs;
+        shelf = enough-tested s hs;
         answer = λ p n.
             enough-of-three (λ file digest word. servedAnswer file p (judge n digest word)) s d w
             (λ digest word. enough-answer s hs p (judge n digest word))

@@ -9,7 +9,7 @@ use lib.ListN.{length, take, getD}
 use Rattle.base.specs.Lists.{overlaid}
 use Rattle.text.specs.Enough.{Enough, EnoughOfTwo, EnoughOfThree}
 use Rattle.shelf.specs.Shelves.{shelfBytes, emptyShelf}
-use Rattle.shelf.specs.Calls.{Work, load, clear, judge, answerTo, after}
+use Rattle.shelf.specs.Calls.{Work, load, clear, judge, round, answerTo, after}
 use Rattle.desk_line.specs.declared.Got.{Got}
 use Rattle.desk_shelf.specs.declared.Served.{Served}
 
@@ -42,7 +42,7 @@ pub record ServesFile (read : Bool) (file : List ℕ) (publisher : ℕ) (work : 
   pub answer-is : served .answer ≡ cond read (servedAnswer file publisher work) unanswered
   pub shelf-is : served .shelf ≡ cond read (servedShelf file publisher work) emptyShelf
 
--- The three verbs. Each file is what was read into its buffer; publisher and key number are texts.
+-- The four verbs. Each file is what was read into its buffer; publisher and key number are texts.
 abbrev pub LoadsFile : Got → Got → List ℕ → List ℕ → List ℕ → List ℕ → Served → Type 0
 LoadsFile s k old publisher number key served =
     ServesFile (s .read && k .read) (take (s .bytes) old) (digitOf publisher)
@@ -52,17 +52,20 @@ abbrev pub ClearsFile : Got → List ℕ → List ℕ → List ℕ → Served �
 ClearsFile s old publisher number served =
     ServesFile (s .read) (take (s .bytes) old) (digitOf publisher) (clear (digitOf number)) served
 
+abbrev pub StartsRound : Got → List ℕ → List ℕ → Served → Type 0
+StartsRound s old publisher served = ServesFile (s .read) (take (s .bytes) old) (digitOf publisher) round served
+
 abbrev pub JudgesFile : Got → Got → Got → List ℕ → List ℕ → List ℕ → List ℕ → List ℕ → Served → Type 0
 JudgesFile s d w old publisher number digest word served =
     ServesFile (s .read && d .read && w .read) (take (s .bytes) old) (digitOf publisher)
     (judge (digitOf number) (take (d .bytes) digest) (take (w .bytes) word)) served
 
--- These numbers of bytes are enough to read of a shelf, of a key to load it, and of a digest and a word to judge them:
--- answer and shelf are those for the whole files, however long they are.
-pub record EnoughToClear (s : ℕ) : Type 0 where
+-- These numbers of bytes are enough to read of a shelf for any work, of a key to load it, and of a digest and a word to
+-- judge them: answer and shelf are those for the whole files, however long they are.
+pub record EnoughOfShelf (s : ℕ) : Type 0 where
   pub shelf : Enough s isShelf
-  pub answer : (p n : ℕ) → Enough s (λ file. servedAnswer file p (clear n))
-  pub left : (p n : ℕ) → Enough s (λ file. servedShelf file p (clear n))
+  pub answer : (p : ℕ) (work : Work) → Enough s (λ file. servedAnswer file p work)
+  pub left : (p : ℕ) (work : Work) → Enough s (λ file. servedShelf file p work)
 
 pub record EnoughToLoad (s k : ℕ) : Type 0 where
   pub shelf : Enough s isShelf

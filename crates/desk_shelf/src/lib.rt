@@ -4,9 +4,9 @@ ghost use mathlib.Core.Path.{_≡_};
 ghost use mathlib.Core.Bool.{true};
 ghost use lib.ListN.{length};
 ghost use Rattle.shelf.specs.Shelves.{emptyShelf};
-ghost use Rattle.shelf.specs.Calls.{load, clear, judge};
+ghost use Rattle.shelf.specs.Calls.{load, clear, judge, round};
 ghost use Rattle.desk_shelf.specs.Serving.{isShelf, shelfIn, digitOf, unanswered, ServesFile, LoadsFile};
-ghost use Rattle.desk_shelf.specs.Serving.{ClearsFile, JudgesFile, EnoughToClear, EnoughToLoad};
+ghost use Rattle.desk_shelf.specs.Serving.{ClearsFile, JudgesFile, StartsRound, EnoughOfShelf, EnoughToLoad};
 ghost use Rattle.desk_shelf.specs.Serving.{EnoughToJudge};
 
 // The bytes to read of a shelf: one more than it has.
@@ -128,6 +128,23 @@ fn judged(file: &[u8], publisher: usize, number: usize, digest: &[u8], word: &[u
     }
 }
 
+// A new round started on the shelf in a file.
+fn rounded(file: &[u8], publisher: usize) -> Served
+    ensures { λ r. ⌜ ServesFile true (now (file .entry)) publisher round r ⌝ }
+{
+    if !is_shelf(file) {
+        return Served::none(true, false);
+    }
+    let mut shelf = shelf_in(file);
+    let answer = shelf_calls::round(&mut shelf, publisher);
+    Served {
+        read: true,
+        whole: true,
+        answer,
+        shelf,
+    }
+}
+
 // Loads the key in a file. Publisher and key number are texts.
 pub fn load(
     old: &[u8; SHELF_ROOM],
@@ -159,7 +176,7 @@ pub fn load(
 // Clears a number.
 pub fn clear(old: &[u8; SHELF_ROOM], publisher: &[u8], number: &[u8], s: Got) -> Served
     ensures { λ r. ⌜ ClearsFile s (now (old .entry)) (now (publisher .entry)) (now (number .entry)) r ⌝ }
-    ensures { λ _. ⌜ EnoughToClear (length (now (old .entry))) ⌝ }
+    ensures { λ _. ⌜ EnoughOfShelf (length (now (old .entry))) ⌝ }
 {
     let s_n = s.bytes;
     let file = text::part(old, 0, s_n);
@@ -172,7 +189,22 @@ pub fn clear(old: &[u8; SHELF_ROOM], publisher: &[u8], number: &[u8], s: Got) ->
     cleared(file, p, n)
 }
 
-// Judges the digest and the signature in two files.
+// Starts a new round.
+pub fn round(old: &[u8; SHELF_ROOM], publisher: &[u8], s: Got) -> Served
+    ensures { λ r. ⌜ StartsRound s (now (old .entry)) (now (publisher .entry)) r ⌝ }
+    ensures { λ _. ⌜ EnoughOfShelf (length (now (old .entry))) ⌝ }
+{
+    let s_n = s.bytes;
+    let file = text::part(old, 0, s_n);
+    let p = digit_of(publisher);
+    if !s.read {
+        let whole = is_shelf(file);
+        return Served::none(false, whole);
+    }
+    rounded(file, p)
+}
+
+// Judges the digest and the signature in two files. The shelf to write has the slip's letters charged on 0 and on 14.
 pub fn judge(
     old: &[u8; SHELF_ROOM],
     publisher: &[u8],

@@ -1,13 +1,14 @@
 -- Laws of a list in which bytes were replaced: its length, the part that was replaced, and every part beside it.
 use Prim.Native.Nat.{ℕ, _+_, _-_, _≤_}
-use mathlib.Core.Path.{_≡_, sym, ap, _∙_}
-use mathlib.Core.List.{List, _++_, append-assoc}
+use mathlib.Core.Path.{_≡_, sym, ap, ap₂, _∙_}
+use mathlib.Core.List.{List, [], _++_, append-assoc, append-nil}
 use native.Mathlib.Omega.{arith}
-use lib.ListN.{length, take, drop, length-append, length-drop, take-append-drop}
-use lib.Seq.{length-take-le, drop-at, drop-append-le, take-append-le, drop-append-add, drop-drop}
+use lib.ListN.{length, take, drop, length-append, length-drop, take-append-drop, drop-of-length-le}
+use lib.Seq.{length-take-le, take-all, drop-at, drop-append-le, take-append-le, drop-append-add, drop-drop}
 use Rattle.base.specs.Lists.{overlaid}
 use Rattle.base.specs.Digits.{part}
 use Rattle.base.proofs.ListLaws.{length-overlaid, take-overlaid}
+use Rattle.text.proofs.EnoughLaws.{enough-part}
 use Rattle.shelf.specs.Shelves.{replaced}
 
 -- a part of the first of two lists
@@ -45,6 +46,14 @@ module _ (at : ℕ) (bytes before : List ℕ) (fits : at + length bytes ≤ leng
       ap (take (length bytes)) (drop-at (take at before) (overlaid bytes (drop at before)) at front)
       ∙ take-overlaid bytes (drop at before)
 
+  -- a part of the bytes
+  pub part-inside : (i n : ℕ) → i + n ≤ length bytes → part (at + i) n (replaced at bytes before) ≡ part i n bytes
+  part-inside i n h =
+      let now = replaced at bytes before in
+      ap (take n) (sym (drop-drop i at now))
+      ∙ sym (enough-part i n (length bytes) h (drop at now))
+      ∙ ap (part i n) part-replaced
+
   -- a part that ends at the place or before it
   pub part-before : (i n : ℕ) → i + n ≤ at → part i n (replaced at bytes before) ≡ part i n before
   unfolding replaced
@@ -80,3 +89,23 @@ replaced-same at n before h =
     ap (λ (k : ℕ). take at before ++ (part at n before ++ drop k (drop at before))) l
     ∙ ap (λ (xs : List ℕ). take at before ++ xs) (take-append-drop n (drop at before))
     ∙ take-append-drop at before
+
+-- everything from the place on is lent, and comes back with the bytes at its front
+pub put-back : (at : ℕ) (bytes before last : List ℕ) → at + length bytes ≤ length before
+    → last
+    ≡ overlaid (take (length (take (length before - at) (drop at before))) bytes)
+    (take (length before - at) (drop at before))
+    → take at before ++ (last ++ drop (length before - at) (drop at before)) ≡ replaced at bytes before
+unfolding replaced
+put-back at bytes before last h e =
+    let l = length-drop at before in
+    let rest : take (length before - at) (drop at before) ≡ drop at before =
+    take-all (length before - at) (drop at before) (omega arith) in
+    let past : length (drop at before) ≤ length before - at = omega arith in
+    let end : drop (length before - at) (drop at before) ≡ [] = drop-of-length-le (drop at before) past in
+    ap₂ (λ (xs ys : List ℕ). take at before ++ (xs ++ ys))
+    (e
+    ∙ ap (λ (xs : List ℕ). overlaid (take (length xs) bytes) xs) rest
+    ∙ ap (λ (xs : List ℕ). overlaid xs (drop at before)) (take-all (length (drop at before)) bytes (omega arith)))
+    end
+    ∙ ap (λ (xs : List ℕ). take at before ++ xs) (append-nil (overlaid bytes (drop at before)))

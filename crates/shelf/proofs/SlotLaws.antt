@@ -13,8 +13,8 @@ use lib.Seq.{take-at, drop-at}
 use Rattle.base.specs.Lists.{overlaid}
 use Rattle.base.specs.Digits.{part}
 use Rattle.base.proofs.ListLaws.{and-left, and-right, length-overlaid, take-overlaid}
-use Rattle.shelf.specs.Shelves.{fileRoom, slotBytes, shelfBytes, emptyShelf, isPublisher, hasSlot, slotPlace}
-use Rattle.shelf.specs.Shelves.{slotWith, fileIn, held, holding}
+use Rattle.shelf.specs.Shelves.{fileRoom, slotBytes, slotsBytes, shelfBytes, emptyShelf, isPublisher, hasSlot}
+use Rattle.shelf.specs.Shelves.{slotPlace, slotWith, fileIn, held, holding}
 use Rattle.shelf.proofs.ReplacedLaws.{length-replaced, part-replaced, part-before, part-after}
 
 -- ---- places
@@ -41,9 +41,12 @@ slot p n = 4 * (p - 1) + n
 slot-below : (p n : ℕ) → Known p n → slot p n < 8
 slot-below p n k = ⊎-elim (λ a. omega arith) (λ a. omega arith) (k .one-or-two)
 
--- a slot lies within a shelf
+-- a slot lies among the slots, so within a shelf
+pub slot-in-slots : (p n : ℕ) → hasSlot p n ≡ true → slotPlace p n + slotBytes ≤ slotsBytes
+slot-in-slots p n e = let b = slot-below p n (known p n e) in omega arith
+
 pub slot-fits : (p n : ℕ) → hasSlot p n ≡ true → slotPlace p n + slotBytes ≤ shelfBytes
-slot-fits p n e = let b = slot-below p n (known p n e) in omega arith
+slot-fits p n e = omega (arith, slot-in-slots p n e)
 
 -- different numbers have different slots
 same-slot : (p n q m : ℕ) → Known p n → Known q m → slot p n ≡ slot q m → (p ≡ q) × (n ≡ m)
@@ -89,7 +92,7 @@ unfolding held
 held-none p n shelf e = ap (λ (b : Bool). cond b (fileIn (part (slotPlace p n) slotBytes shelf)) []) e
 
 -- of two shelves with the same slot, both hold the same file there
-held-alike : (p n : ℕ) (first second : List ℕ)
+pub held-alike : (p n : ℕ) (first second : List ℕ)
     → (hasSlot p n ≡ true → part (slotPlace p n) slotBytes first ≡ part (slotPlace p n) slotBytes second)
     → held p n first ≡ held p n second
 held-alike p n first second h = go (hasSlot p n) refl
@@ -148,7 +151,7 @@ zeros-part i n k =
     ∙ ap (take n) (drop-at (replicate i 0) (replicate n 0 ++ replicate k 0) i (length-replicate i 0))
     ∙ take-at (replicate n 0) (replicate k 0) n (length-replicate n 0)
 
-zeros-within : (i n m : ℕ) → i + n ≤ m → part i n (replicate m 0) ≡ replicate n 0
+pub zeros-within : (i n m : ℕ) → i + n ≤ m → part i n (replicate m 0) ≡ replicate n 0
 zeros-within i n m h =
     let e : m ≡ i + (n + (m - (i + n))) = omega arith in
     ap (λ (k : ℕ). part i n (replicate k 0)) e ∙ zeros-part i n (m - (i + n))

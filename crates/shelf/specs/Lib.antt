@@ -1,2 +1,3 @@
 pub mod Shelves
+pub mod Charges
 pub mod Calls

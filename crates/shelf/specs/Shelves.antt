@@ -1,6 +1,7 @@
 -- The key shelf of two publishers, numbered 1 and 2 (document 02, §8). Each publisher has its own key numbers 0 to 3. A
--- shelf is plain bytes: eight slots, first those of publisher 1, then those of publisher 2. A slot holds the length of
--- a key file, then the file, then zeros. The empty file stands for no key, so a slot of zeros holds none.
+-- shelf is plain bytes: eight slots, first those of publisher 1, then those of publisher 2, and then four bytes for the
+-- letters charged (§14). A slot holds the length of a key file, then the file, then zeros. The empty file stands for no
+-- key, so a slot of zeros holds none.
 use Prim.Native.Nat.{ℕ, _+_, _-_, _*_}
 use mathlib.Core.Bool.{Bool, cond, _&&_, _||_}
 use mathlib.Core.List.{List, [], _∷_, _++_}
@@ -16,9 +17,12 @@ fileRoom = 128
 abbrev pub slotBytes : ℕ
 slotBytes = 1 + fileRoom
 
--- the bytes of a shelf
+-- the bytes of the eight slots, and of a shelf
+abbrev pub slotsBytes : ℕ
+slotsBytes = 8 * slotBytes
+
 abbrev pub shelfBytes : ℕ
-shelfBytes = 8 * slotBytes
+shelfBytes = slotsBytes + 4
 
 unfoldable pub emptyShelf : List ℕ
 emptyShelf = replicate shelfBytes 0

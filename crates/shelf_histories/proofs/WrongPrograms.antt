@@ -3,9 +3,11 @@
 -- without its file, a clear that clears more than its number, 31 before 30 or on load and clear, and judging by another
 -- number's key.
 use Prim.Native.Nat.{ℕ, _≤_}
-use mathlib.Core.Path.{_≡_, refl, sym, ap, _∙_}
+use mathlib.Core.Path.{_≡_, refl, ap, _∙_}
+use mathlib.Core.Bool.{false}
 use mathlib.Core.List.{List, [], _∷_, _++_}
 use native.Mathlib.Omega.{arith}
+use lib.Dec.{eqb}
 use lib.ListN.{length, replicate}
 use Rattle.base.specs.Questions.{firstNo}
 use Rattle.base.specs.Lists.{overlaid}
@@ -14,7 +16,7 @@ use Rattle.key.specs.Keys.{keyAnswer}
 use Rattle.slip_verdict.proofs.WrongVerdicts.{plainKey, key-accepted}
 use Rattle.shelf.specs.Shelves.{slotBytes, shelfBytes, emptyShelf, slotWith, held}
 use Rattle.shelf.specs.Shelves.{holding, isHeld}
-use Rattle.shelf.specs.Calls.{Work, load, clear, judge, answerTo, Serves}
+use Rattle.shelf.specs.Calls.{Work, load, clear, judge, round, answerTo, acts, Serves}
 use Rattle.shelf.proofs.SlotLaws.{length-empty, held-empty, slot-holding, held-there, held-elsewhere}
 use Rattle.shelf.proofs.CallLaws.{left-alone, acted, load-30, load-answer, clear-30, clear-answer, judge-30, judge-31}
 use Rattle.shelf.proofs.CallLaws.{key-fits}
@@ -26,7 +28,13 @@ use Rattle.shelf_histories.proofs.HeldAfter.{held-after}
 leaves-30 : {p : ℕ} {work : Work} {shelf left : List ℕ} {answer : ℕ} → Serves p work shelf left answer
     → answerTo p work shelf ≡ 30 → (answer ≡ 30) × (left ≡ shelf)
 leaves-30 {p} {work} {shelf} s e =
-    (s .answer-is ∙ e, s .shelf-is ∙ left-alone p work shelf (λ z. let d = sym z ∙ e in omega arith))
+    (s .answer-is ∙ e, s .shelf-is ∙ left-alone p work shelf (ap (acts work) e ∙ idle work))
+  where
+    idle : (w : Work) → acts w 30 ≡ false
+    idle (load n file) = refl
+    idle (clear n) = refl
+    idle (judge n digest word) = refl
+    idle round = refl
 
 module _ (shelf : List ℕ) {left : List ℕ} {answer : ℕ} where
   -- number 4 of publisher 1 is not number 0 of publisher 2
@@ -55,7 +63,7 @@ module _ (shelf : List ℕ) {left : List ℕ} {answer : ℕ} where
   unfolding keyAnswer firstNo
   refusal-replaces-nothing s =
       let e = load-answer 1 0 shelf [] refl in
-      (s .answer-is ∙ e, s .shelf-is ∙ left-alone 1 (load 0 []) shelf (λ z. let d = sym z ∙ e in omega arith))
+      (s .answer-is ∙ e, s .shelf-is ∙ left-alone 1 (load 0 []) shelf (ap (λ (a : ℕ). eqb a 0) e))
 
 -- ---- 31 is for judging alone, and comes after 30
 
@@ -80,7 +88,10 @@ module _ {left : List ℕ} {answer : ℕ} where
 module _ (shelf : List ℕ) (room : shelfBytes ≤ length shelf) {left : List ℕ} {answer : ℕ}
     (s : Serves 1 (load 0 plainKey) shelf left answer) where
   left-is : left ≡ holding 1 0 plainKey shelf
-  left-is = s .shelf-is ∙ acted 1 (load 0 plainKey) shelf (load-answer 1 0 shelf plainKey refl ∙ key-accepted)
+  left-is =
+      s .shelf-is
+      ∙ acted 1 (load 0 plainKey) shelf
+      (ap (λ (a : ℕ). eqb a 0) (load-answer 1 0 shelf plainKey refl ∙ key-accepted))
 
   -- the length, the 83 bytes, and 45 zeros
   pub whole-slot : part 0 slotBytes left ≡ 83 ∷ (plainKey ++ replicate 45 0)

@@ -23,7 +23,7 @@ ghost use Rattle.word_crossing.specs.Crossings.{Crosses};
 ghost use Rattle.word_spread.specs.Spread.{Ends};
 ghost use Rattle.word_shorter.specs.Shorter.{Chose};
 ghost use Rattle.word_shortener.specs.Shortener.{Shortened};
-ghost use Rattle.shelf.specs.Calls.{load, clear, judge, Serves};
+ghost use Rattle.shelf.specs.Calls.{load, clear, judge, round, Serves};
 use field::Element;
 use handle_reducer::Handles;
 use pair::Pair;
@@ -369,7 +369,8 @@ pub extern "C" fn walnut_shelf_clear(
     shelf_calls::clear(shelf, publisher, number)
 }
 
-// The verdict by the key that the shelf holds. The shelf is unchanged.
+// The verdict by the key that the shelf holds, or 36 if the slip is not admitted. On 0 and on 14 the slip's letters are
+// charged to the publisher.
 #[no_mangle]
 pub extern "C" fn walnut_shelf_judge(
     shelf: &mut [u8; shelf_calls::SHELF_BYTES],
@@ -385,4 +386,15 @@ pub extern "C" fn walnut_shelf_judge(
         ⌝ }
 {
     shelf_calls::judge(shelf, publisher, number, digest, word)
+}
+
+// A new round, for both publishers.
+#[no_mangle]
+pub extern "C" fn walnut_shelf_round(
+    shelf: &mut [u8; shelf_calls::SHELF_BYTES],
+    publisher: usize,
+) -> u8
+    ensures { λ r. ⌜ Serves publisher round (now (shelf .entry)) (now (shelf .exit)) r ⌝ }
+{
+    shelf_calls::round(shelf, publisher)
 }

@@ -20,6 +20,7 @@ pub mod second_half;
 pub mod shelf_clear;
 pub mod shelf_judge;
 pub mod shelf_load;
+pub mod shelf_round;
 pub mod shorten;
 pub mod shorter;
 pub mod start;
@@ -35,7 +36,7 @@ use reference::Field;
 use crate::operation::Op;
 
 /// All of them, in the order of `walnut.h`.
-pub const ALL: [Op; 29] = [
+pub const ALL: [Op; 30] = [
     &product::Product,
     &reciprocal::Reciprocal,
     &start::Start,
@@ -65,6 +66,7 @@ pub const ALL: [Op; 29] = [
     &shelf_load::ShelfLoad,
     &shelf_clear::ShelfClear,
     &shelf_judge::ShelfJudge,
+    &shelf_round::ShelfRound,
 ];
 
 /// Each operation with each of its fields.
@@ -87,12 +89,12 @@ mod tests {
         assert_eq!(declared.collect::<Vec<_>>(), listed);
     }
 
-    /// The papers have the numbers 0 to 35 so far, and each is some operation's.
+    /// The papers have the numbers 0 to 36, and each is some operation's.
     #[test]
     fn every_number_is_given() {
         let given = |number: u8| ALL.iter().any(|operation| operation.facts().questions.contains(&number));
-        assert!((1..=35).all(given));
-        assert!(![0, 36].into_iter().any(given));
+        assert!((1..=36).all(given));
+        assert!(![0, 37].into_iter().any(given));
     }
 
     /// Over the larger field 7 and 17 cannot occur. All other numbers can.
@@ -124,7 +126,8 @@ mod tests {
         let pairs = [[4, 17], [6, 4], [26, 6], [9, 26], [14, 13]];
         assert_eq!(pairs.map(|faults| second_half.answer_to(&faults)), [17, 4, 6, 26, 13]);
         let judge = shelf_judge::ShelfJudge.facts();
-        assert_eq!([[31, 30], [1, 31], [8, 26]].map(|faults| judge.answer_to(&faults)), [30, 31, 26]);
+        let pairs = [[31, 30], [1, 31], [8, 26], [36, 13], [14, 36]];
+        assert_eq!(pairs.map(|faults| judge.answer_to(&faults)), [30, 31, 26, 13, 36]);
         assert_eq!(shelf_load::ShelfLoad.facts().answer_to(&[1, 30]), 30);
     }
 }

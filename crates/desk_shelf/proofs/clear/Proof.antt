@@ -6,9 +6,9 @@ use borrow.Author.Needs.{needs}
 use borrow.Author.Tests.{not-true, not-false}
 use lib.ListN.{length, take}
 use Rattle.shelf.specs.Calls.{clear}
-use Rattle.desk_shelf.specs.Serving.{isShelf, digitOf, EnoughToClear}
+use Rattle.desk_shelf.specs.Serving.{isShelf, digitOf, EnoughOfShelf}
 use Rattle.desk_shelf.proofs.ServingLaws.{bare-of, unread, serves-as}
-use Rattle.desk_shelf.proofs.EnoughShelf.{enough-to-clear}
+use Rattle.desk_shelf.proofs.EnoughShelf.{enough-of-shelf}
 use Rattle.desk_shelf.proofs.clear.Statement.{statement}
 use Rattle.desk_shelf.proofs.clear.Tie as tie
 
@@ -18,8 +18,8 @@ file-part c = c .before .before
 abbrev start : tie.After-digit-of2 → tie.Start
 start c = file-part c .before .before .before .before
 
-enough : (c : tie.After-digit-of2) → EnoughToClear (length (start c .args .old .now))
-enough c = enough-to-clear (length (start c .args .old .now)) (omega (arith, file-part c .before .part-arg .given .0))
+enough : (c : tie.After-digit-of2) → EnoughOfShelf (length (start c .args .old .now))
+enough c = enough-of-shelf (length (start c .args .old .now)) (omega (arith, file-part c .before .part-arg .given .0))
 
 returns : tie.Need-returns
 returns c =

@@ -1,9 +1,8 @@
 -- `shelf_calls::clear_in` meets its contract: 30, or the slot of the empty file in the number's place.
 use Prim.Native.Nat.{ℕ}
-use mathlib.Core.Path.{_≡_, sym, ap, _∙_}
+use mathlib.Core.Path.{_≡_, refl, sym, ap, _∙_}
 use mathlib.Core.Bool.{true}
 use mathlib.Core.List.{[]}
-use native.Mathlib.Omega.{arith}
 use borrow.Author.Needs.{needs}
 use borrow.Author.Tests.{not-true, not-false}
 use Rattle.shelf.specs.Shelves.{hasSlot, slotWith, replaced}
@@ -23,7 +22,7 @@ returns c =
     let a = start (c .before) .args in
     let none = sym (c .before .has-slot .ensures) ∙ not-true _ (c .if1 .taken) in
     refused (a .publisher) (clear (a .number)) (a .shelf .now) 30
-    (clear-30 (a .publisher) (a .number) (a .shelf .now) none) (omega arith)
+    (clear-30 (a .publisher) (a .number) (a .shelf .now) none) refl
 
 slot-place-requires : tie.Need-slot-place-requires
 slot-place-requires c κs = has c
@@ -35,6 +34,7 @@ returns-2 c =
     let a = start (s .before .before) .args in
     served (a .publisher) (clear (a .number)) (a .shelf .now)
     (clear-answer (a .publisher) (a .number) (a .shelf .now) (has (s .before)))
+    refl
     (h .hold .ensures ∙ ap (λ (at : ℕ). replaced at (slotWith []) (a .shelf .now)) (s .slot-place .ensures .0))
 
 pub clear-in-spec : {M : Type 1} → statement M

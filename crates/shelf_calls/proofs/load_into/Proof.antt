@@ -1,10 +1,9 @@
 -- `shelf_calls::load_into` meets its contract: 30, the key's refusal, or the slot of the key in the number's place.
 use Prim.Native.Nat.{ℕ}
-use mathlib.Core.Path.{_≡_, sym, ap, _∙_}
+use mathlib.Core.Path.{_≡_, refl, sym, ap, _∙_}
 use mathlib.Core.Bool.{true}
-use native.Mathlib.Omega.{arith}
 use borrow.Author.Needs.{needs}
-use borrow.Author.Tests.{not-true, not-false}
+use borrow.Author.Tests.{not-true, not-false, ne-eqb}
 use Rattle.key.specs.Keys.{keyAnswer}
 use Rattle.shelf.specs.Shelves.{hasSlot, slotWith, replaced}
 use Rattle.shelf.specs.Calls.{load}
@@ -26,7 +25,7 @@ returns c =
     let a = start (c .before) .args in
     let none = sym (c .before .has-slot .ensures) ∙ not-true _ (c .if1 .taken) in
     refused (a .publisher) (load (a .number) (a .key .now)) (a .shelf .now) 30
-    (load-30 (a .publisher) (a .number) (a .shelf .now) (a .key .now) none) (omega arith)
+    (load-30 (a .publisher) (a .number) (a .shelf .now) (a .key .now) none) refl
 
 returns-2 : tie.Need-returns-2
 returns-2 c =
@@ -34,7 +33,7 @@ returns-2 c =
     let a = start (r .before .before) .args in
     refused (a .publisher) (load (a .number) (a .key .now)) (a .shelf .now) (r .read-key .result .answer)
     (load-answer (a .publisher) (a .number) (a .shelf .now) (a .key .now) (has (r .before))
-    ∙ sym (r .read-key .ensures .answer-is)) (c .if2 .taken)
+    ∙ sym (r .read-key .ensures .answer-is)) (ne-eqb (r .read-key .result .answer) 0 (c .if2 .taken))
 
 slot-place-requires : tie.Need-slot-place-requires
 slot-place-requires c κs = has (c .before .before)
@@ -52,6 +51,7 @@ returns-3 c =
     let a = start (r .before .before) .args in
     served (a .publisher) (load (a .number) (a .key .now)) (a .shelf .now)
     (load-answer (a .publisher) (a .number) (a .shelf .now) (a .key .now) (has (r .before)) ∙ key-passed (s .before))
+    refl
     (h .hold .ensures
     ∙ ap (λ (at : ℕ). replaced at (slotWith (a .key .now)) (a .shelf .now)) (s .slot-place .ensures .0))
 

@@ -1,0 +1,4 @@
+pub mod ChargedAfter
+pub mod FairRounds
+pub mod OthersReach
+pub mod WrongCharges

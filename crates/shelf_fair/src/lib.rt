@@ -1,0 +1,1 @@
+// Fair use of the checking chip: what histories charge and admit, and no function.

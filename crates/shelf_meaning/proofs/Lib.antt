@@ -1,0 +1,2 @@
+pub mod AdmittedVerdicts
+pub mod OneAdmitted
