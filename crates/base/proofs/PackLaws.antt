@@ -1,14 +1,14 @@
 -- The steps of the loops that pack and unpack: digits are read one by one, written one by one from the last, and
 -- regrouped group by group.
-use Prim.Native.Nat.{ℕ, suc, _+_, _-_, _*_, _/_, _%_, _^_, _≤_, _<_}
-use mathlib.Core.Path.{_≡_, sym, ap, ap₂, _∙_, subst}
-use mathlib.Core.List.{List, _∷_, _++_}
+use Prim.Native.Nat.{ℕ, zero, suc, _+_, _-_, _*_, _/_, _%_, _^_, _≤_, _<_}
+use mathlib.Core.Path.{_≡_, refl, sym, ap, ap₂, _∙_, subst}
+use mathlib.Core.List.{List, [], _∷_, _++_}
 use native.Mathlib.Nat.{le-trans, lt-of-lt-of-le, suc-mul, mul-le-mul-right, pow-zero, pow-suc, pow-le-pow-right}
 use native.Mathlib.Nat.{div-one, div-div-eq-div-mul}
 use native.Mathlib.Numerals.{add-one}
 use native.Mathlib.Omega.{arith}
 use lib.ListN.{length, take, drop, getD, set, length-append, length-drop}
-use lib.Seq.{take-all, take-suc, take-add, drop-at, length-take-le, set-split}
+use lib.Seq.{take-all, take-suc, take-add, take-take, drop-drop, drop-at, length-take-le, set-split}
 use Rattle.base.specs.Lists.{overlaid}
 use Rattle.base.specs.Digits.{value, digits, part}
 use Rattle.base.specs.Packing.{Below}
@@ -58,6 +58,16 @@ spelled-none b number = sym (ap (λ (x : ℕ). number / x) (pow-zero b) ∙ div-
 
 pub length-part : (at n : ℕ) (xs : List ℕ) → at + n ≤ length xs → length (part at n xs) ≡ n
 length-part at n xs h = length-take-le n (drop at xs) (rw (length-drop at xs) (omega arith))
+
+-- a part of a part
+within : (k m n : ℕ) (xs : List ℕ) → k + m ≤ n → take m (drop k (take n xs)) ≡ take m (drop k xs)
+within zero m n xs h = take-take m n xs (omega arith)
+within (suc k) m zero xs h = absurd (omega arith)
+within (suc k) m (suc n) [] h = refl
+within (suc k) m (suc n) (x ∷ xs) h = within k m n xs (omega arith)
+
+pub part-part : (at n k m : ℕ) (xs : List ℕ) → k + m ≤ n → part k m (part at n xs) ≡ part (at + k) m xs
+part-part at n k m xs h = within k m n (drop at xs) h ∙ ap (take m) (drop-drop k at xs)
 
 -- if fewer than all groups are done, a whole group is left
 pub group-end : (k groups m : ℕ) → k < groups → k * m + m ≤ groups * m

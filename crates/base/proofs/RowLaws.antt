@@ -1,24 +1,25 @@
 -- Laws of rows of numbers packed into bytes, for any number b of bits: a row packed and unpacked, bytes unpacked and
 -- packed, rows one after another, and groups of eight numbers with the last numbers apart, as the code takes them.
 use Prim.Native.Nat.{ℕ, zero, suc, _+_, _-_, _*_, _/_, _%_, _^_, _≤_, _<_}
-use mathlib.Core.Path.{_≡_, sym, ap, ap₂, _∙_}
+use mathlib.Core.Path.{_≡_, sym, ap, ap₂, _∙_, subst}
 use mathlib.Core.List.{List, [], _∷_, _++_}
 use native.Mathlib.Nat.{pow-zero, pow-suc, suc-mul, zero-mul, mul-comm, mul-assoc, add-mul, mul-div-cancel}
 use native.Mathlib.Nat.{mul-mod-left, div-add-mod', div-lt-iff-lt-mul, mul-lt-mul-of-pos-right, mul-add-div-right}
-use native.Mathlib.Nat.{mul-add-mod-self-right, div-one, mul-right-comm, mul-le-mul, mul-one, zero-mod, mod-one}
+use native.Mathlib.Nat.{mul-add-mod-self-right, div-one, mul-right-comm, mul-le-mul, zero-mod, mod-one}
+use native.Mathlib.Nat.{add-zero, mod-eq-of-lt}
 use native.Mathlib.Omega.{arith}
 use lib.Dec.{eqb}
-use lib.Pow.{pow-add, pow-pos, pow-mono}
-use lib.ListN.{length, take, drop, getD, length-append, length-drop, take-append-drop}
-use lib.Seq.{length-take-le, take-at, drop-at}
+use lib.Pow.{pow-add, pow-pos, pow-mono, shr-lt}
+use lib.ListN.{length, take, drop, getD, length-append, length-drop, take-append-drop, List·getD-append}
+use lib.Seq.{length-take-le, take-at, drop-at, take-add, drop-drop, getD-drop, getD-append-add}
 use Rattle.base.specs.Lists.{every}
-use Rattle.base.specs.Digits.{value, digits, halves}
+use Rattle.base.specs.Digits.{value, digits, part, halves}
 use Rattle.base.specs.Packing.{Below, rowBytes, fillerBits, packedRow, unpackedRow, rowFiller}
 use Rattle.base.specs.steps.Regrouping.{Regroups, regrouped}
 use Rattle.base.proofs.ListLaws.{and-true}
 use Rattle.base.proofs.DigitLaws.{drop-below, length-digits, digits-below, value-append, value-below}
 use Rattle.base.proofs.DigitLaws.{value-digits-below, digits-value, digits-append, digits-join, digits-halves}
-use Rattle.base.proofs.PackLaws.{value-last}
+use Rattle.base.proofs.PackLaws.{below-part, length-part, value-last}
 
 -- n numbers of b bits have n * b bits
 pow-pow : (b n : ℕ) → (2 ^ b) ^ n ≡ 2 ^ (n * b)
@@ -213,23 +214,6 @@ module _ (b n : ℕ) where
         let k : n % 8 * b ≤ 8 * 8 = mul-le-mul h narrow in
         rw (pow-pow 8 (rowBytes b (n % 8))) (pow-mono {j = 64} (omega arith))
 
-    pub unpacks : (bytes : List ℕ) → Below 256 bytes → length bytes ≡ rowBytes b n
-        → Regroups bytes b 256 n 8 (2 ^ b) (n / 8) 1 (2 ^ fillerBits b n)
-    unpacks bytes below l =
-        let r : length bytes - n / 8 * b ≡ rowBytes b (n % 8) = omega (arith, last-row .0) in
-        record {
-          below = below;
-          source = omega (arith, last-row .0);
-          output = omega arith;
-          fits = eight-fits;
-          as-many = eight-many;
-          positive = pow-pos b;
-          a-byte = pow-mono narrow;
-          up-positive = omega arith;
-          down-positive = pow-pos (fillerBits b n);
-          rest = rw (r, mul-one) last-fits;
-        }
-
     pub packs : (xs : List ℕ) → Below (2 ^ b) xs → length xs ≡ n
         → Regroups xs 8 (2 ^ b) (rowBytes b n) b 256 (n / 8) (2 ^ fillerBits b n) 1
     packs xs below l =
@@ -247,20 +231,6 @@ module _ (b n : ℕ) where
           rest = rw (r, last-row .1, row-fills b (n % 8)) last-fits;
         }
 
-  pub unpacked-groups : (bytes : List ℕ) → Below 256 bytes → length bytes ≡ rowBytes b n
-      → regrouped bytes b 256 n 8 (2 ^ b) (n / 8) 1 (2 ^ fillerBits b n) ≡ unpackedRow b n bytes
-  unfolding regrouped unpackedRow
-  unpacked-groups bytes below l =
-      let at : ℕ = n / 8 * b in
-      let e : n / 8 * 8 + n % 8 ≡ n = omega arith in
-      let r : n - n / 8 * 8 ≡ n % 8 = omega arith in
-      let front : length (take at bytes) ≡ at = length-take-le at bytes (omega (arith, last-row .0)) in
-      let back : length (drop at bytes) ≡ rowBytes b (n % 8) = omega (arith, length-drop at bytes, last-row .0) in
-      rw (r, mul-one, last-row .1)
-      (sym (unpacked-append b (n / 8 * 8) (n % 8) (take at bytes) (drop at bytes)
-      (eight-fill ∙ ap (λ (k : ℕ). 8 * k) (sym front)) back (drop-below at bytes below)))
-      ∙ ap₂ (unpackedRow b) e (take-append-drop at bytes)
-
   pub packed-groups : (xs : List ℕ) → Below (2 ^ b) xs → length xs ≡ n
       → regrouped xs 8 (2 ^ b) (rowBytes b n) b 256 (n / 8) (2 ^ fillerBits b n) 1 ≡ packedRow b xs
   unfolding regrouped packedRow
@@ -273,3 +243,105 @@ module _ (b n : ℕ) where
       (sym (packed-append b (n / 8 * b) (take at xs) (drop at xs) (ap (λ (k : ℕ). k * b) front ∙ eight-fill)
       (drop-below at xs below)))
       ∙ ap (packedRow b) (take-append-drop at xs)
+
+-- ---- eight numbers from the middle of a row
+
+module _ (b : ℕ) where
+  -- the first m numbers, which fill k bytes, and the rest of the row
+  first-apart : (m n k : ℕ) (bytes : List ℕ) → Below 256 bytes → m * b ≡ 8 * k → length bytes ≡ rowBytes b (m + n)
+      → unpackedRow b (m + n) bytes ≡ digits (2 ^ b) m (value 256 (take k bytes)) ++ unpackedRow b n (drop k bytes)
+  first-apart m n k bytes below e l =
+      let r = rows-filler b m n k e .0 in
+      let front : length (take k bytes) ≡ k = length-take-le k bytes (omega arith) in
+      let back : length (drop k bytes) ≡ rowBytes b n = omega (arith, length-drop k bytes) in
+      ap (unpackedRow b (m + n)) (sym (take-append-drop k bytes))
+      ∙ unpacked-append b m n (take k bytes) (drop k bytes) (e ∙ ap (λ (j : ℕ). 8 * j) (sym front)) back
+      (drop-below k bytes below)
+
+  -- without the first m numbers
+  after-first : (m n k c : ℕ) (bytes : List ℕ) → Below 256 bytes → m * b ≡ 8 * k → length bytes ≡ rowBytes b (m + n)
+      → getD (unpackedRow b (m + n) bytes) (m + c) 0 ≡ getD (unpackedRow b n (drop k bytes)) c 0
+  after-first m n k c bytes below e l =
+      let first = digits (2 ^ b) m (value 256 (take k bytes)) in
+      ap (λ (xs : List ℕ). getD xs (m + c) 0) (first-apart m n k bytes below e l)
+      ∙ ap (λ (j : ℕ). getD (first ++ unpackedRow b n (drop k bytes)) (j + c) 0)
+      (sym (length-digits (2 ^ b) m (value 256 (take k bytes))))
+      ∙ getD-append-add first (unpackedRow b n (drop k bytes)) c 0
+
+  -- eight numbers fill b bytes and leave no filler
+  eight-row : (bytes : List ℕ) → unpackedRow b 8 bytes ≡ digits (2 ^ b) 8 (value 256 bytes)
+  unfolding unpackedRow
+  eight-row bytes =
+      let none : fillerBits b 8 ≡ 0 = omega arith in
+      ap (λ (k : ℕ). digits (2 ^ b) 8 (value 256 bytes / 2 ^ k)) none
+      ∙ ap (digits (2 ^ b) 8) (div-one (value 256 bytes))
+
+  -- number c of the eight numbers after the first 8 r
+  pub row-eight : (n r c : ℕ) (bytes : List ℕ) → Below 256 bytes → length bytes ≡ rowBytes b n → 8 * r + 8 ≤ n → c < 8
+      → getD (unpackedRow b n bytes) (8 * r + c) 0 ≡ getD (unpackedRow b 8 (part (r * b) b bytes)) c 0
+  row-eight n r c bytes below l h small =
+      let m : ℕ = n - (8 * r + 8) in
+      let size : n ≡ 8 * r + (8 + m) = omega arith in
+      let fill : 8 * r * b ≡ 8 * (r * b) = mul-assoc 8 r b in
+      let l' : length bytes ≡ rowBytes b (8 * r + (8 + m)) = l ∙ ap (rowBytes b) size in
+      let rest : List ℕ = drop (r * b) bytes in
+      let left : length rest ≡ rowBytes b (8 + m) =
+      omega (arith, length-drop (r * b) bytes, rows-filler b (8 * r) (8 + m) (r * b) fill .0) in
+      let eight = digits (2 ^ b) 8 (value 256 (take b rest)) in
+      ap (λ (k : ℕ). getD (unpackedRow b k bytes) (8 * r + c) 0) size
+      ∙ after-first (8 * r) (8 + m) (r * b) c bytes below fill l'
+      ∙ ap (λ (xs : List ℕ). getD xs c 0)
+      (first-apart 8 m b rest (drop-below (r * b) bytes below) (mul-comm 8 b ∙ mul-comm b 8) left)
+      ∙ List·getD-append eight (unpackedRow b m (drop b rest)) 0 c
+      (omega (arith, length-digits (2 ^ b) 8 (value 256 (take b rest))))
+      ∙ ap (λ (xs : List ℕ). getD xs c 0) (sym (eight-row (take b rest)))
+
+  -- one number is at the front of its byte
+  one-number : (xs : List ℕ) → length xs ≡ 1 → Below 256 xs → 0 < b → b ≤ 8
+      → getD (unpackedRow b 1 xs) 0 0 ≡ getD xs 0 0 / 2 ^ (8 - b)
+  unfolding unpackedRow digits value
+  one-number [] e h some narrow = absurd (omega arith)
+  one-number (x ∷ y ∷ xs) e h some narrow = absurd (omega arith)
+  one-number (x ∷ []) e h some narrow =
+      let v : x * 1 + 0 ≡ x = omega arith in
+      let k : fillerBits b 1 ≡ 8 - b = omega arith in
+      let whole : 8 ≡ b + (8 - b) = omega arith in
+      ap₂ (λ (w j : ℕ). w / 2 ^ j / (2 ^ b) ^ 0 % 2 ^ b) v k
+      ∙ ap (λ (p : ℕ). x / 2 ^ (8 - b) / p % 2 ^ b) (pow-zero (2 ^ b))
+      ∙ ap (λ (w : ℕ). w % 2 ^ b) (div-one (x / 2 ^ (8 - b)))
+      ∙ mod-eq-of-lt (shr-lt b (8 - b) (subst (λ (j : ℕ). x < 2 ^ j) whole (h 0)))
+
+  pub row-one : (g : ℕ) (bytes : List ℕ) → Below 256 bytes → length bytes ≡ rowBytes b (8 * g + 1) → 0 < b → b ≤ 8
+      → getD (unpackedRow b (8 * g + 1) bytes) (8 * g) 0 ≡ getD bytes (g * b) 0 / 2 ^ (8 - b)
+  row-one g bytes below l some narrow =
+      let fill : 8 * g * b ≡ 8 * (g * b) = mul-assoc 8 g b in
+      let left : length (drop (g * b) bytes) ≡ 1 =
+      omega (arith, length-drop (g * b) bytes, rows-filler b (8 * g) 1 (g * b) fill .0) in
+      ap (λ (k : ℕ). getD (unpackedRow b (8 * g + 1) bytes) k 0) (sym (add-zero (8 * g)))
+      ∙ after-first (8 * g) 1 (g * b) 0 bytes below fill l
+      ∙ one-number (drop (g * b) bytes) left (drop-below (g * b) bytes below) some narrow
+      ∙ ap (λ (x : ℕ). x / 2 ^ (8 - b))
+      (getD-drop (g * b) bytes 0 0 ∙ ap (λ (k : ℕ). getD bytes k 0) (add-zero (g * b)))
+
+  -- the b bytes before place e hold eight numbers: the last digits of the number that the eight bytes before e write
+  pub eight-before : (file : List ℕ) (e : ℕ) → Below 256 file → b ≤ 8 → 8 ≤ e → e ≤ length file
+      → digits (2 ^ b) 8 (value 256 (part (e - 8) 8 file)) ≡ unpackedRow b 8 (part (e - b) b file)
+  unfolding digits
+  eight-before file e below narrow h inside =
+      let i : ℕ = e - 8 in
+      let xs : List ℕ = take (8 - b) (drop i file) in
+      let ys : List ℕ = part (e - b) b file in
+      let eight : 8 ≡ 8 - b + b = omega arith in
+      let at : i + (8 - b) ≡ e - b = omega arith in
+      let room : e - b + b ≤ length file = omega arith in
+      let both : part i 8 file ≡ xs ++ ys =
+      ap (λ (k : ℕ). take k (drop i file)) eight ∙ take-add (8 - b) b (drop i file)
+      ∙ ap (λ (zs : List ℕ). xs ++ take b zs) (drop-drop (8 - b) i file ∙ ap (λ (k : ℕ). drop k file) at) in
+      let size : length ys ≡ b = length-part (e - b) b file room in
+      let below-ys : Below 256 ys = below-part 256 (e - b) b file below in
+      let p : 256 ^ length ys ≡ (2 ^ b) ^ 8 = ap (λ (k : ℕ). 256 ^ k) size ∙ eight-many b 8 narrow in
+      ap (λ (zs : List ℕ). digits (2 ^ b) 8 (value 256 zs)) both
+      ∙ ap (digits (2 ^ b) 8) (value-append 256 xs ys ∙ ap (λ (q : ℕ). value 256 xs * q + value 256 ys) p)
+      ∙ digits-join (2 ^ b) 0 8 (value 256 xs) (value 256 ys) (pow-pos b)
+      (subst (λ (q : ℕ). value 256 ys < q) p (value-below 256 ys below-ys))
+      ∙ sym (eight-row ys)

@@ -15,7 +15,6 @@ pub use rows::pack;
 pub use rows::pack_at;
 pub use rows::power;
 pub use rows::row_bytes;
-pub use rows::unpack;
 
 // Copies bytes of `from` to the front of `out`, as many as fit.
 pub fn put(out: &mut [u8], from: &[u8])

@@ -7,7 +7,7 @@ ghost use mathlib.Core.Path.{_≡_};
 ghost use lib.Dec.{eqb};
 ghost use Prim.Native.Nat.{_+_, _^_, _≤_};
 ghost use lib.ListN.{length};
-ghost use Rattle.base.specs.Packing.{Below, rowBytes, fillerBits, packedRow, unpackedRow, rowFiller};
+ghost use Rattle.base.specs.Packing.{Below, rowBytes, fillerBits, packedRow, rowFiller};
 ghost use Rattle.base.specs.steps.Regrouping.{Regroups, regrouped};
 ghost use Rattle.base.specs.steps.Laying.{Laid};
 
@@ -82,17 +82,6 @@ fn regroup(
     }
     let rest = number(&src[i..], base);
     spell(&mut dst[j..], to, rest * up / down);
-}
-
-// Unpacks a row, as many numbers as `row` has places, from exactly the bytes that these numbers need.
-pub fn unpack(bytes: &[u8], bits: usize, row: &mut [u8])
-    requires { ⌜ (bits ≤ 8) × (length (now bytes) ≡ rowBytes bits (length (now row))) ⌝ }
-    ensures { λ r. ⌜ now (row .exit) ≡ unpackedRow bits (length (now (row .entry))) (now (bytes .entry)) ⌝ }
-{
-    let n = row.len();
-    let size = power(bits);
-    let unit = filler_values(bits, n);
-    regroup(bytes, bits, 256, row, 8, size, n / 8, 1, unit);
 }
 
 // Packs a row into exactly the bytes that it needs.

@@ -1,6 +1,6 @@
 -- The entries that a key file holds of a matrix: a loop that reads them one by one, and a loop that fills a matrix with
 -- them one by one. The entries of that matrix are the given entries.
-use Prim.Native.Nat.{ℕ, zero, suc, _+_, _-_, _*_, _/_, _%_, _≤_, _<_}
+use Prim.Native.Nat.{ℕ, zero, suc, _+_, _-_, _*_, _/_, _%_, _<_}
 use mathlib.Core.Path.{_≡_, refl, sym, ap, ap₂, _∙_}
 use mathlib.Core.List.{List, [], _∷_, _++_}
 use native.Mathlib.Omega.{arith}
@@ -14,10 +14,7 @@ use Rattle.matrix.specs.Layout.{place, entry}
 use Rattle.matrix.proofs.LayoutLaws.{entry-matrixOf, by-entries}
 use Rattle.matrix.proofs.StoreLaws.{store-same, store-other}
 use Rattle.key.specs.Keys.{wholeMatrix, fileEntries}
-
--- entry k of the file, for k before the last
-abbrev pub fileEntry : List ℕ → ℕ → ℕ
-fileEntry m k = entry m (k / 8) (k % 8)
+use Rattle.key.specs.steps.Filling.{fileEntry, Filled}
 
 -- ---- entries read out
 
@@ -46,12 +43,6 @@ getD-zeros zero k = refl
 getD-zeros (suc n) zero = refl
 getD-zeros (suc n) (suc k) = getD-zeros n k
 
--- a matrix in which the first n entries are in their places, and zeros after them
-pub record Filled (es : List ℕ) (n : ℕ) (m : List ℕ) : Type 0 where
-  pub size : length m ≡ 64
-  pub placed : (k : ℕ) → k < n → fileEntry m k ≡ getD es k 0
-  pub zeros : (k : ℕ) → n ≤ k → k < 64 → fileEntry m k ≡ 0
-
 pub filled-none : (es : List ℕ) → Filled es 0 (replicate 64 0)
 unfolding entry
 filled-none es =
@@ -75,6 +66,16 @@ filled-more es m n e h f =
     own : (k : ℕ) → k < n + 1 → Dec (k ≡ n) → fileEntry (set m (place (n / 8) (n % 8)) (getD es n 0)) k ≡ getD es k 0
     own k b (yes e) = rw e (store-same m (n / 8) (n % 8) (getD es n 0) (omega arith) (omega arith) (f .size))
     own k b (no d) = other k (omega arith) d ∙ f .placed k (omega arith)
+
+-- one more entry of row r
+pub row-more : (es m : List ℕ) (r c : ℕ) {at x : ℕ} → at ≡ place r c → x ≡ getD es (8 * r + c) 0 → r < 7 → c < 8
+    → Filled es (8 * r + c) m
+    → Filled es (8 * r + (c + 1)) (set m at x)
+row-more es m r c {at} e v h g f =
+    let er : r ≡ (8 * r + c) / 8 = omega arith in
+    let ec : c ≡ (8 * r + c) % 8 = omega arith in
+    let more : 8 * r + c + 1 ≡ 8 * r + (c + 1) = omega arith in
+    rw (v, ← more) (filled-more es m (8 * r + c) (e ∙ ap₂ place er ec) (omega arith) f)
 
 module _ (es : List ℕ) (l : length es ≡ 57) where
   -- the matrix row by row, as in `wholeMatrix`

@@ -4,6 +4,7 @@ use Prim.Native.Nat.{ℕ, _≤_}
 use mathlib.Core.Path.{_≡_, refl, sym, ap, _∙_, subst}
 use mathlib.Core.Bool.{Bool, true, false, cond, _||_, false≢true}
 use mathlib.Core.List.{List}
+use native.Mathlib.Omega.{arith}
 use borrow.Author.Tests.{eqb-true}
 use lib.Dec.{eqb}
 use lib.ListN.{length}
@@ -19,7 +20,15 @@ pub file-bytes : (f : Field) → fileBytes (bits f) ≡ keyBytes f
 file-bytes Gf32 = refl
 file-bytes Gf256 = refl
 
--- a number b that equals a field's bits is at most 8, and `fileBytes b` is the field's file length
+-- an element has 5 bits or more
+wide : (f : Field) → 5 ≤ bits f
+wide Gf32 = omega arith
+wide Gf256 = omega arith
+
+-- a number b that equals a field's bits is 5 to 8, and `fileBytes b` is the field's file length
+pub told-wide : (f : Field) {b : ℕ} → b ≡ bits f → 5 ≤ b
+told-wide f e = subst (λ (b : ℕ). 5 ≤ b) (sym e) (wide f)
+
 pub told-narrow : (f : Field) {b : ℕ} → b ≡ bits f → b ≤ 8
 told-narrow f e = subst (λ (b : ℕ). b ≤ 8) (sym e) (narrow f)
 

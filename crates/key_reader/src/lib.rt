@@ -15,17 +15,16 @@ mod parts; // parts.rt: the parts of a key file, and its questions
 // The key that a file holds. The caller has already unpacked the T-values and the list.
 fn key_of(file: &[u8], f: Field, bits: usize, t_values: [u8; 8], labels: [u8; 8]) -> Key
     requires { ⌜
-        (bits ≤ 8) × (length (now file) ≡ fileBytes bits) × («t_values» ≡ tValues bits (now file))
+        (5 ≤ bits) × (bits ≤ 8) × (length (now file) ≡ fileBytes bits) × («t_values» ≡ tValues bits (now file))
         × (labels ≡ keyLabels bits (now file))
         ⌝ }
     ensures { λ r. ⌜ r ≡ keyParts f bits (now (file .entry)) ⌝ }
 {
     let at = key::first_place(bits);
-    let end = key::labels_place(bits);
     let after = key::second_place(bits);
-    let first = parts::matrix(&file[at..end], bits);
+    let first = parts::matrix_at(file, at, bits);
     let pair = Pair::with(first, labels);
-    let second = parts::matrix(&file[after..], bits);
+    let second = parts::matrix_at(file, after, bits);
     Key {
         field: f,
         t_values,

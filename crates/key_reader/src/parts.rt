@@ -3,50 +3,73 @@
 ghost use mathlib.Core.Path.{_≡_};
 ghost use mathlib.Core.Bool.{_&&_};
 ghost use lib.Dec.{eqb};
-ghost use Prim.Native.Nat.{_≤_};
+ghost use Prim.Native.Nat.{_+_, _-_, _<_, _≤_};
 ghost use lib.ListN.{length};
 ghost use Rattle.base.specs.Questions.{firstNo};
+ghost use Rattle.base.specs.Digits.{part};
 ghost use Rattle.base.specs.Packing.{rowBytes, unpackedRow};
 ghost use Rattle.key.specs.Keys.{tValues, keyLabels, entries, wholeMatrix, matrixFiller, firstBytes};
 ghost use Rattle.key.specs.steps.Places.{fileBytes};
+ghost use Rattle.key.specs.steps.Filling.{RowPut};
 ghost use Rattle.key.specs.Keys.{secondBytes, partQuestions};
 
-// Unpacks eight numbers of `bits` bits.
-fn eight(bytes: &[u8], bits: usize) -> [u8; 8]
-    requires { ⌜ (bits ≤ 8) × (length (now bytes) ≡ rowBytes bits 8) ⌝ }
-    ensures { λ r. ⌜ r ≡ unpackedRow bits 8 (now (bytes .entry)) ⌝ }
+// Unpacks the eight numbers of `bits` bits that end before place `end`. They are the last digits of the number that the
+// eight bytes before this place write.
+fn eight(file: &[u8], end: usize, bits: usize) -> [u8; 8]
+    requires { ⌜ (bits ≤ 8) × (8 ≤ end) × (end ≤ length (now file)) ⌝ }
+    ensures { λ r. ⌜ r ≡ unpackedRow bits 8 (part (end - bits) bits (now (file .entry))) ⌝ }
 {
     let mut all = [0u8; 8];
-    base::unpack(bytes, bits, &mut all);
+    let size = base::power(bits);
+    let number = base::eight_bytes(file, end - 8);
+    base::spell(&mut all, size, number);
     all
 }
 
 pub(crate) fn t_values(file: &[u8], bits: usize) -> [u8; 8]
-    requires { ⌜ (bits ≤ 8) × (length (now file) ≡ fileBytes bits) ⌝ }
+    requires { ⌜ (5 ≤ bits) × (bits ≤ 8) × (length (now file) ≡ fileBytes bits) ⌝ }
     ensures { λ r. ⌜ r ≡ tValues bits (now (file .entry)) ⌝ }
 {
-    let at = key::VALUES_PLACE;
     let end = key::first_place(bits);
-    eight(&file[at..end], bits)
+    eight(file, end, bits)
 }
 
 pub(crate) fn labels(file: &[u8], bits: usize) -> [u8; 8]
-    requires { ⌜ (bits ≤ 8) × (length (now file) ≡ fileBytes bits) ⌝ }
+    requires { ⌜ (5 ≤ bits) × (bits ≤ 8) × (length (now file) ≡ fileBytes bits) ⌝ }
     ensures { λ r. ⌜ r ≡ keyLabels bits (now (file .entry)) ⌝ }
 {
-    let at = key::labels_place(bits);
     let end = key::second_place(bits);
-    eight(&file[at..end], 3)
+    eight(file, end, 3)
 }
 
-// Unpacks a matrix from its bytes.
-pub(crate) fn matrix(bytes: &[u8], bits: usize) -> [u8; 64]
-    requires { ⌜ (bits ≤ 8) × (length (now bytes) ≡ rowBytes bits 57) ⌝ }
-    ensures { λ r. ⌜ r ≡ wholeMatrix (entries bits (now (bytes .entry))) ⌝ }
+// Puts eight entries of a file in row r of a matrix, one of the first seven rows.
+fn put_row(m: &mut [u8; 64], row: &[u8; 8], r: usize)
+    requires { ⌜ (length (now m) ≡ 64) × (r < 7) ⌝ }
+    ensures { λ _. ⌜ RowPut (now (row .entry)) r (now (m .entry)) (now (m .exit)) ⌝ }
 {
-    let mut all = [0u8; 57];
-    base::unpack(bytes, bits, &mut all);
-    key::whole_matrix(&all)
+    let mut c = 0;
+    while c < 8 {
+        m[matrix::place(r, c)] = row[c];
+        c += 1;
+    }
+}
+
+// Unpacks the matrix whose bytes begin at place `at`.
+pub(crate) fn matrix_at(file: &[u8], at: usize, bits: usize) -> [u8; 64]
+    requires { ⌜ (5 ≤ bits) × (bits ≤ 8) × (8 ≤ at) × (at + rowBytes bits 57 ≤ length (now file)) ⌝ }
+    ensures { λ r. ⌜ r ≡ wholeMatrix (entries bits (part at (rowBytes bits 57) (now (file .entry)))) ⌝ }
+{
+    let mut m = [0u8; 64];
+    let mut end = at;
+    let mut r = 0;
+    while r < 7 {
+        end += bits;
+        let row = eight(file, end, bits);
+        put_row(&mut m, &row, r);
+        r += 1;
+    }
+    m[matrix::place(7, 7)] = file[end] >> (8 - bits);
+    m
 }
 
 // Are all filler bits zero?

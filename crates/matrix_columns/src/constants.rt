@@ -10,7 +10,7 @@ ghost use Rattle.matrix_columns.specs.steps.Constants.{Multiples, Filled
 ghost use Rattle.matrix_columns.specs.steps.Constants.{Constants};
 
 // Stores the products of a number with 1, x, x^2, .., starting at place `at`.
-fn multiples(list: &mut [u64], at: usize, number: u8, bits: usize, modulus: u64)
+pub fn multiples(list: &mut [u64], at: usize, number: u8, bits: usize, modulus: u64)
     requires { ⌜ (at + 8 ≤ length (now list)) × Below 256 (now list) × (bits ≤ 8) × Degree bits modulus ⌝ }
     ensures { λ _. ⌜ Filled (polynomials bits modulus) bits number at bits (now (list .entry)) (now (list .exit)) ⌝ }
 {

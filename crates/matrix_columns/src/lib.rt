@@ -9,6 +9,7 @@ mod constants; // constants.rt: the constants of T-values and their reciprocals
 mod layout; // layout.rt: the columns of a matrix as numbers, and back
 
 pub use constants::constants_of;
+pub use constants::multiples;
 pub use constants::multiples_of;
 pub use layout::columns_of;
 pub use layout::matrix_of;

@@ -35,7 +35,7 @@ unfolding columnsMatrix
 entry-columns columns r c hr hc = entry-matrixOf (λ r c. lane r (getD columns (c + 1) 0)) r c hr hc
 
 -- x is f of a column, lane by lane
-abbrev Lanes : (ℕ → ℕ) → ℕ → ℕ → Type 0
+abbrev pub Lanes : (ℕ → ℕ) → ℕ → ℕ → Type 0
 Lanes f column x = (r : ℕ) → r < 8 → lane r x ≡ f (lane r column)
 
 -- If three columns change by the letter's share of its own column, every row is the row after the letter.
@@ -65,7 +65,7 @@ module _ (n p : ℕ) (s : Share) (g : ℕ) (columns columns′ : List ℕ) (x y 
           go (yes h) = inl h
           go (no h) = inr (omega arith)
 
-  columns-spread : columnsMatrix columns′ ≡ rowsOn (polynomials n p) s g (columnsMatrix columns)
+  pub columns-spread : columnsMatrix columns′ ≡ rowsOn (polynomials n p) s g (columnsMatrix columns)
   unfolding columnsMatrix
   columns-spread =
       matrixOf-ext (λ r c. lane r (getD columns′ (c + 1) 0))
@@ -111,6 +111,26 @@ stored columns a b c x y z ha hb hc ab ac bc =
 outside : (k g j : ℕ) → (k < g) ⊎ (g + 2 < k) → g ≤ j → j ≤ g + 2 → k ≡ j → ⊥
 outside k g j far l u e = ⊎-elim (λ (a : k < g). omega arith) (λ (a : g + 2 < k). omega arith) far
 
+-- Three stores from the column before a letter's own column to the column after it.
+pub stored-in-order : (columns : List ℕ) (g x y z : ℕ) → length columns ≡ 9 → g < 7
+    → let one = set columns g (bitXor (getD columns g 0) x) in
+    let two = set one (g + 1) y in
+    Spread x y z g columns (set two (g + 2) (bitXor (getD two (g + 2) 0) z))
+stored-in-order columns g x y z l h =
+    let s =
+    stored columns g (g + 1) (g + 2) x y z (omega arith) (omega arith) (omega arith) (omega arith) (omega arith)
+    (omega arith) in
+    record {
+      places = s .size;
+      left = s .first;
+      own = s .second;
+      right = s .third;
+      others = λ k far.
+          s .elsewhere k (outside k g g far (omega arith) (omega arith))
+          (outside k g (g + 1) far (omega arith) (omega arith))
+          (outside k g (g + 2) far (omega arith) (omega arith));
+    }
+
 -- The stores to a letter's own column and its two neighbours. A generator stores to the column before first, an inverse
 -- letter to the column after.
 pub three-stored : (columns : List ℕ) (g x p : ℕ) → length columns ≡ 9 → g < 7 → (inverse : Bool) (by : ℕ)
@@ -137,20 +157,7 @@ three-stored columns g x p l h true by e =
 three-stored columns g x p l h false by e =
     let last : g + 2 - by ≡ g + 2 = omega arith in
     let start : g + by ≡ g = omega arith in
-    let s =
-    stored columns g (g + 1) (g + 2) p p x (omega arith) (omega arith) (omega arith) (omega arith) (omega arith)
-    (omega arith) in
-    rw (last, start)
-    (record {
-      places = s .size;
-      left = s .first;
-      own = s .second;
-      right = s .third;
-      others = λ k far.
-          s .elsewhere k (outside k g g far (omega arith) (omega arith))
-          (outside k g (g + 1) far (omega arith) (omega arith))
-          (outside k g (g + 2) far (omega arith) (omega arith));
-    })
+    rw (last, start) (stored-in-order columns g p p x l h)
 
 -- One letter by its sign: the product of its own column and the number that it takes, and what each neighbour gains.
 module _ (n p : ℕ) (degree : Degree n p) (cs : List ℕ) (at t : ℕ) (constants : Multiples (polynomials n p) n cs at t)

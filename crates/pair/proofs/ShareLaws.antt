@@ -34,10 +34,10 @@ entry-after F s g m r row hg hr equal c hc =
     entry-matrixOf (λ i. rowAfter F s g (entry m i)) r c hr hc
     ∙ rowAfter-same F s g c (entry m r) row (equal c hc) (equal g hg)
 
-length-after : (F : Operations) (s : Share) (g : ℕ) (m : List ℕ) → length (rowsOn F s g m) ≡ 64
+pub length-after : (F : Operations) (s : Share) (g : ℕ) (m : List ℕ) → length (rowsOn F s g m) ≡ 64
 length-after F s g m = length-matrixOf (λ r. rowAfter F s g (entry m r))
 
-two-after : (F : Operations) (s t : Share) (g k : ℕ) (m : List ℕ) (r : ℕ) → g < 8 → k < 8 → r < 8 → (c : ℕ) → c < 8
+pub two-after : (F : Operations) (s t : Share) (g k : ℕ) (m : List ℕ) (r : ℕ) → g < 8 → k < 8 → r < 8 → (c : ℕ) → c < 8
     → entry (rowsOn F t k (rowsOn F s g m)) r c ≡ rowAfter F t k (rowAfter F s g (entry m r)) c
 two-after F s t g k m r hg hk hr =
     entry-after F t k (rowsOn F s g m) r (rowAfter F s g (entry m r)) hk hr

@@ -43,7 +43,7 @@ fn reciprocals_of(numbers: &[u8; 8], table: &[u8]) -> [u8; 8]
 
 // The constants of the T-values of the labels at the eight places. The caller lends the field's table, bits and
 // modulus.
-pub(crate) fn constants_by_place(
+pub fn constants_by_place(
     t_values: &[u8],
     labels: &[u8; 8],
     table: &[u8],

@@ -23,11 +23,11 @@ ghost use Rattle.pair.specs.steps.Columns.{Held, Carried, PackedCarried, WholeC
 
 mod held; // held.rt: a pair as the loop over letters holds it
 
-use held::constants_by_place;
+pub use held::constants_by_place;
 use held::pair_of;
 
 // Multiplies letters, one code to a byte, first to last, into the pair of the columns and the labels.
-fn run(
+pub fn run(
     columns: &mut [u64; 9],
     labels: &mut [u8; 8],
     constants: &[u64; 128],

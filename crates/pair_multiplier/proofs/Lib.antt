@@ -1,5 +1,6 @@
 pub mod MultiplierLaws
 pub mod LentLaws
+pub mod FollowLaws
 pub mod ChangeOfLayout
 pub mod WrongPrograms
 pub mod WrongLenders

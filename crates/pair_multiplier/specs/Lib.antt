@@ -1,2 +1,3 @@
 pub mod Multiplier
 pub mod Lent
+pub mod steps

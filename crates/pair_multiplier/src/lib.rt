@@ -12,17 +12,15 @@ ghost use mathlib.Core.Path.{_≡_};
 ghost use mathlib.Core.Bool.{true};
 ghost use Prim.Native.Nat.{_<_};
 ghost use lib.ListN.{length};
-ghost use Rattle.base.specs.Packing.{Below};
-ghost use Rattle.field.specs.Polynomial.{polynomials};
-ghost use Rattle.field.specs.steps.Reciprocals.{lookedUp, LentField};
-ghost use Rattle.field.specs.Fields.{operations, fieldOf};
+ghost use Rattle.field.specs.Fields.{bits, modulus, operations, fieldOf};
 ghost use Rattle.word.specs.Letters.{isLetter};
-ghost use Rattle.matrix_columns.specs.steps.Constants.{Multiples};
+ghost use Rattle.word.specs.Strands.{inverseList, areInverse, swapped};
 ghost use Rattle.pair.specs.Action.{letterOn};
 ghost use Rattle.pair.specs.steps.Columns.{takenBy};
 ghost use Rattle.pair.specs.PairQuestions.{zeroPair};
 ghost use Rattle.pair_multiplier.specs.Multiplier.{Multiplies};
 ghost use Rattle.pair_multiplier.specs.Lent.{Lends};
+ghost use Rattle.pair_multiplier.specs.steps.Placed.{Placed};
 
 // What the multiplier gives. The answer is the number of the first question answered no, or 0 if there is none. On a
 // refusal the pair is all zeros.
@@ -41,93 +39,90 @@ impl Multiplied {
     }
 }
 
-// The number that a letter with own column g takes, by the lent table of reciprocals. A generator takes the T-value of
-// the label at place g. An inverse letter takes the reciprocal of the T-value of the label at place g + 1.
-fn taken(t_values: &[u8], labels: &[u8; 8], negative: bool, g: usize, table: &[u8]) -> u8
-    requires { ⌜ (length (now «t_values») ≡ 8) × (g < 7) × (length (now table) < 256) ⌝ }
-    ensures { λ r.
-        ⌜
-        r ≡ takenBy (lookedUp (now (table .entry))) (now («t_values» .entry)) (now (labels .entry)) negative g
-        ⌝ }
+// The number of bits of an element.
+fn bits_of(f: Field) -> usize
+    ensures { λ r. ⌜ r ≡ bits f ⌝ }
+{
+    match f {
+        Field::Gf32 => SMALL_BITS,
+        Field::Gf256 => LARGE_BITS,
+    }
+}
+
+// The polynomial that products are reduced by.
+fn modulus_of(f: Field) -> u64
+    ensures { λ r. ⌜ r ≡ modulus f ⌝ }
+{
+    match f {
+        Field::Gf32 => SMALL_MODULUS,
+        Field::Gf256 => LARGE_MODULUS,
+    }
+}
+
+// The reciprocal of a number, by the field's table. A table is copied to the stack where it is named. So it is named
+// here, which only an inverse letter reaches.
+fn inverse_of(a: u8, f: Field) -> u8
+    ensures { λ r. ⌜ r ≡ operations f .inv a ⌝ }
+{
+    match f {
+        Field::Gf32 => {
+            let table = field::small_reciprocals();
+            inverse(a, &table)
+        }
+        Field::Gf256 => {
+            let table = field::large_reciprocals();
+            inverse(a, &table)
+        }
+    }
+}
+
+// The number that a letter with own column g takes. A generator takes the T-value of the label at place g. An inverse
+// letter takes the reciprocal of the T-value of the label at place g + 1.
+fn taken(t_values: &[u8], labels: &[u8; 8], negative: bool, g: usize, f: Field) -> u8
+    requires { ⌜ (length (now «t_values») ≡ 8) × (g < 7) ⌝ }
+    ensures { λ r. ⌜ r ≡ takenBy (operations f .inv) (now («t_values» .entry)) (now (labels .entry)) negative g ⌝ }
 {
     if negative {
         let value = value_of(t_values, labels[g + 1]);
-        inverse(value, table)
+        inverse_of(value, f)
     } else {
         value_of(t_values, labels[g])
     }
 }
 
-// The constants of the number that a letter with own column g takes.
-fn constants_taken(
-    t_values: &[u8],
-    labels: &[u8; 8],
-    negative: bool,
-    g: usize,
-    table: &[u8],
-    bits: usize,
-    modulus: u64,
-) -> [u64; 8]
-    requires { ⌜ (length (now «t_values») ≡ 8) × (g < 7) × LentField bits modulus (now table) ⌝ }
-    ensures { λ r.
-        ⌜
-        Below 256 r
-        × Multiples (polynomials bits modulus) bits r 0
-        (takenBy (polynomials bits modulus .inv) (now («t_values» .entry)) (now (labels .entry)) negative g)
-        ⌝ }
+// The positions after the labels at places g and g + 1 change places. Two positions change.
+fn follow(positions: &mut [u8; 8], labels: &[u8; 8], g: u8)
+    requires { ⌜ Placed (now labels) (now positions) × (g < 7) ⌝ }
+    ensures { λ _. ⌜ now (positions .exit) ≡ inverseList (swapped g (now (labels .entry))) ⌝ }
 {
-    let number = taken(t_values, labels, negative, g, table);
-    matrix_columns::multiples_of(number, bits, modulus)
+    let at = g as usize;
+    let own = labels[at] as usize;
+    let next = labels[at + 1] as usize;
+    positions[next] = g + 1;
+    positions[own] = g + 2;
 }
 
-// Multiplies one letter into a pair and asks no question. The caller lends the field's table, bits and modulus.
-fn after_letter(
-    pair: Pair,
-    t_values: &[u8; 8],
-    letter: u8,
-    table: &[u8],
-    bits: usize,
-    modulus: u64,
-) -> Pair
-    requires { ⌜ LentField bits modulus (now table) × (isLetter letter ≡ true) ⌝ }
-    ensures { λ r. ⌜ r ≡ letterOn (polynomials bits modulus) (now («t_values» .entry)) letter pair ⌝ }
+// Multiplies one letter into a pair and asks no question. The pair's lists are inverse to each other.
+fn after_letter(pair: Pair, t_values: &[u8; 8], letter: u8, f: Field) -> Pair
+    requires { ⌜ (areInverse (pair .labels) (pair .positions) ≡ true) × (isLetter letter ≡ true) ⌝ }
+    ensures { λ r. ⌜ r ≡ letterOn (operations f) (now («t_values» .entry)) letter pair ⌝ }
 {
     let matrix = pair.matrix;
     let mut labels = pair.labels;
+    let mut positions = pair.positions;
     let g = (letter % 8) as usize;
     let negative = 8 <= letter;
-    let constants = constants_taken(t_values, &labels, negative, g, table, bits, modulus);
+    let bits = bits_of(f);
+    let number = taken(t_values, &labels, negative, g, f);
+    let constants = matrix_columns::multiples_of(number, bits, modulus_of(f));
     let mut columns = matrix_columns::columns_of(&matrix);
+    follow(&mut positions, &labels, letter % 8);
     multiply_columns(&mut columns, &mut labels, &constants, 0, bits, g, negative);
     let after = matrix_columns::matrix_of(&columns);
-    Pair::with(after, labels)
-}
-
-// Asks the multiplier's questions, then multiplies the letter into the pair. On a refusal the pair is all zeros. The
-// caller lends the field's table, bits and modulus.
-fn multiply_over(
-    pair: Pair,
-    t_values: &[u8; 8],
-    letter: u8,
-    table: &[u8],
-    bits: usize,
-    modulus: u64,
-    f: Field,
-) -> Multiplied
-    requires { ⌜ LentField bits modulus (now table) × (operations f ≡ polynomials bits modulus) ⌝ }
-    ensures { λ r. ⌜ Multiplies f pair (now («t_values» .entry)) letter (r .answer) (r .pair) ⌝ }
-{
-    let refusal = pair::pair_answer(pair, t_values, &[], bits, f);
-    if refusal != 0 {
-        return Multiplied::refused(refusal);
-    }
-    if !word::is_letter(letter) {
-        return Multiplied::refused(12);
-    }
-    let after = after_letter(pair, t_values, letter, table, bits, modulus);
-    Multiplied {
-        answer: 0,
-        pair: after,
+    Pair {
+        matrix: after,
+        labels,
+        positions,
     }
 }
 
@@ -135,15 +130,17 @@ fn multiply_over(
 pub fn multiply(pair: Pair, t_values: &[u8; 8], letter: u8, f: Field) -> Multiplied
     ensures { λ r. ⌜ Multiplies f pair (now («t_values» .entry)) letter (r .answer) (r .pair) ⌝ }
 {
-    match f {
-        Field::Gf32 => {
-            let table = field::small_reciprocals();
-            multiply_over(pair, t_values, letter, &table, SMALL_BITS, SMALL_MODULUS, f)
-        }
-        Field::Gf256 => {
-            let table = field::large_reciprocals();
-            multiply_over(pair, t_values, letter, &table, LARGE_BITS, LARGE_MODULUS, f)
-        }
+    let refusal = pair::pair_answer(pair, t_values, &[], bits_of(f), f);
+    if refusal != 0 {
+        return Multiplied::refused(refusal);
+    }
+    if !word::is_letter(letter) {
+        return Multiplied::refused(12);
+    }
+    let after = after_letter(pair, t_values, letter, f);
+    Multiplied {
+        answer: 0,
+        pair: after,
     }
 }
 

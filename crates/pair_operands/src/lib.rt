@@ -1,8 +1,9 @@
 // Tests of T-values, entries and labels.
 ghost use mathlib.Core.Path.{_≡_};
-ghost use lib.Dec.{eqb, ltb};
+ghost use Prim.Native.Nat.{_^_, _<_};
+ghost use lib.Dec.{ltb};
 ghost use lib.ListN.{length};
-ghost use Rattle.base.specs.Lists.{every, count, values};
+ghost use Rattle.base.specs.Lists.{every, count};
 ghost use Rattle.word.specs.Strands.{isOrder, areInverse};
 ghost use Rattle.pair_operands.specs.Operands.{nonzero};
 ghost use Rattle.pair_operands.specs.steps.Fitting.{fit};
@@ -53,30 +54,32 @@ pub fn all_nonzero(xs: &[u8]) -> bool
     count(0, xs) == 0
 }
 
-// Does each of the numbers 0 to 7 occur exactly once?
-fn once_each(xs: &[u8]) -> bool
-    ensures { λ r. ⌜ r ≡ every (λ a. eqb (count a (now (xs .entry))) 1) (values (λ a. a) 8) ⌝ }
+// Byte a of this number counts label a: each of the labels 0 to 7 occurs once.
+const ONCE_EACH: u64 = 72340172838076673;
+
+fn one_at(place: usize) -> u64
+    requires { ⌜ place < 8 ⌝ }
+    ensures { λ r. ⌜ r ≡ 256 ^ place ⌝ }
 {
-    let mut a: u8 = 0;
-    while a < 8 {
-        let n = count(a, xs);
-        if n != 1 {
-            return false;
-        }
-        a += 1;
-    }
-    true
+    1 << (8 * place)
 }
 
-// Is the list 0 to 7, each once?
+// Is the list 0 to 7, each once? One number of 64 bits counts all labels, each in its own byte.
 pub fn is_order(labels: &[u8]) -> bool
+    requires { ⌜ length (now labels) ≡ 8 ⌝ }
     ensures { λ r. ⌜ r ≡ isOrder (now (labels .entry)) ⌝ }
 {
-    let below = all_below(labels, 8);
-    if !below {
-        return false;
+    let mut counts: u64 = 0;
+    let mut i = 0;
+    while i < 8 {
+        let label = labels[i];
+        if 8 <= label {
+            return false;
+        }
+        counts += one_at(label as usize);
+        i += 1;
     }
-    once_each(labels)
+    counts == ONCE_EACH
 }
 
 // Are a list and its positions inverse to each other? The test goes place by place: each label is below 8, and its

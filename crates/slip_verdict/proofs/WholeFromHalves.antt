@@ -7,7 +7,6 @@ use mathlib.Core.Path.{_≡_, refl, sym, ap, _∙_}
 use mathlib.Core.Bool.{true}
 use mathlib.Core.List.{List, _++_}
 use Rattle.base.specs.Questions.{firstNo}
-use Rattle.base.specs.Lists.{tally, every, eachOnce, valuesFrom}
 use Rattle.base.proofs.QuestionLaws.{all-passed, refused-there, both-passed, granted-zero}
 use Rattle.base.proofs.ListLaws.{and-left, and-right}
 use Rattle.base.proofs.DigitLaws.{below-all}
@@ -17,14 +16,13 @@ use Rattle.field.proofs.Fields.{binary}
 use Rattle.matrix.specs.Layout.{entry, Matrix}
 use Rattle.matrix.specs.Product.{matrixProduct}
 use Rattle.matrix.specs.Elimination.{invertible}
-use Rattle.matrix.proofs.ProductLaws.{product-elements, identity-elements}
+use Rattle.matrix.proofs.ProductLaws.{product-elements}
 use Rattle.matrix.proofs.Invertible.{identity-invertible, product-invertible}
-use Rattle.word.specs.Strands.{inOrder}
 use Rattle.pair_operands.specs.Operands.{elements}
 use Rattle.pair.specs.Action.{wordOn, start}
-use Rattle.pair.specs.Good.{TValues, GoodPair}
+use Rattle.pair.specs.Good.{TValues}
 use Rattle.pair.proofs.BraidRelations.{good-matrix}
-use Rattle.word.proofs.PositionLaws.{order-below, order-inverse}
+use Rattle.word.proofs.PositionLaws.{order-inverse}
 use Rattle.pair.proofs.WordLaws.{codes-good}
 use Rattle.pair.proofs.InvertibleWords.{word-invertible}
 use Rattle.key.specs.Keys.{keyField, keyLabels, firstBytes, secondBytes, entries, wholeMatrix, keyQuestions}
@@ -32,6 +30,7 @@ use Rattle.key.specs.Keys.{keyAnswer, keyOf}
 use Rattle.key.proofs.KeyFacts as key-facts
 use Rattle.slip_digest.specs.Digest.{digestQuestions, encoded}
 use Rattle.slip_digest.proofs.Encoded.{encoded-letters}
+use Rattle.slip_digest_braid.proofs.ShortBraid.{start-good}
 use Rattle.slip_verdict.specs.declared.Half.{Half}
 use Rattle.slip_verdict.specs.Verdict.{targetOver, verdict}
 use Rattle.slip_verdict.specs.Halves.{halfOf, MakesHalf, firstHalfQuestions, halfQuestions, copyQuestions}
@@ -39,18 +38,6 @@ use Rattle.slip_verdict.specs.Halves.{secondHalfQuestions}
 use Rattle.slip_verdict.proofs.HalfLaws.{Accepted, accepted-answers, past-half}
 
 -- ---- the target has an inverse
-
-start-good : (f : Field) → GoodPair (operations f) start
-unfolding start tally every eachOnce valuesFrom
-start-good f =
-    let m = identity-elements (binary f) in
-    record {
-      entries = m .size;
-      entry-below = m .below;
-      strands = refl;
-      label-below = order-below inOrder refl;
-      positions-are = refl;
-    }
 
 -- what a digest's braid reaches from the identity has an inverse, under T-values other than zero, and so has its
 -- product with a matrix that has one
@@ -63,8 +50,8 @@ unfolding start
 target-invertible f ts digest second tv m e =
     let reached = wordOn (operations f) ts (encoded digest) start in
     product-invertible (binary f) (reached .matrix) second
-    (good-matrix (codes-good (binary f) ts (encoded digest) start (start-good f))) m
-    (word-invertible (binary f) ts tv (encoded digest) (encoded-letters digest) start (start-good f)
+    (good-matrix (codes-good (binary f) ts (encoded digest) start (start-good (binary f)))) m
+    (word-invertible (binary f) ts tv (encoded digest) (encoded-letters digest) start (start-good (binary f))
     ∙ identity-invertible (binary f)) e
 
 -- the entries of a matrix, as they are tested

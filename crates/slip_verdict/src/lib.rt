@@ -8,9 +8,6 @@ ghost use Prim.Native.Nat.{_≤_};
 ghost use lib.ListN.{length};
 ghost use Rattle.base.specs.Questions.{firstNo};
 ghost use Rattle.word.specs.Words.{codes, wordAnswer};
-ghost use Rattle.field.specs.Fields.{operations};
-ghost use Rattle.pair.specs.Action.{wordOn, start};
-ghost use Rattle.slip_digest.specs.Digest.{encoded};
 ghost use Rattle.slip_verdict.specs.Verdict.{matrixQuestions, slipQuestions, verdict};
 ghost use Rattle.slip_verdict.specs.Halves.{halfOf, zeroHalf, MakesHalf, signedBy, secondHalfQuestions};
 
@@ -47,20 +44,6 @@ impl Halved {
     }
 }
 
-// The matrix reached from the identity by the braid of a digest.
-fn digest_matrix(t_values: &[u8; 8], digest: &[u8], f: Field) -> [u8; 64]
-    requires { ⌜ length (now digest) ≤ 64 ⌝ }
-    ensures { λ r.
-        ⌜
-        r ≡ wordOn (operations f) (now («t_values» .entry)) (encoded (now (digest .entry))) start .matrix
-        ⌝ }
-{
-    let mut codes = [0u8; 2560];
-    let n = slip_digest::encode_into(digest, &mut codes);
-    let reached = pair_carrying::carry_letters(Pair::start(), t_values, &codes[..n], f);
-    reached.matrix
-}
-
 // The half of a key and a digest: the target is the digest's matrix times that of Pub(S'), over the key's field.
 fn half_of(held: Key, digest: &[u8]) -> Half
     requires { ⌜ length (now digest) ≤ 64 ⌝ }
@@ -70,7 +53,7 @@ fn half_of(held: Key, digest: &[u8]) -> Half
     let t_values = held.t_values;
     let pair = held.pair;
     let second = held.second;
-    let first = digest_matrix(&t_values, digest, f);
+    let first = slip_digest_braid::digest_matrix(&t_values, digest, f);
     let target = matrix::matrix_product(&first, &second, f);
     Half {
         field: f,

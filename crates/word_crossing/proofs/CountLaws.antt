@@ -1,7 +1,7 @@
 -- Laws of the table that counts all pairs in one walk: one letter more, and the table after all letters. It then has,
 -- for every two labels, the number of letters that swap just these two.
 use Prim.Native.Nat.{ℕ, suc, _+_, _/_, _≤_, _<_}
-use mathlib.Core.Path.{_≡_, refl, sym, ap, ap₂, _∙_}
+use mathlib.Core.Path.{_≡_, refl, sym, ap, _∙_}
 use mathlib.Core.Bool.{Bool, true, false, cond, _&&_, _||_, Bool·beq}
 use mathlib.Core.List.{List, [], _∷_}
 use native.Mathlib.Numerals.{add-one}
@@ -11,16 +11,14 @@ use borrow.Author.Tests.{eq-eqb, ne-eqb, eqb-true, ltb-true}
 use lib.Dec.{eqb, ltb}
 use lib.ListN.{length, drop, getD, set, length-set, replicate}
 use lib.Seq.{drop-cons, drop-length, getD-set-same, getD-set-other}
-use lib.IntN.{pos, _-ℤ_}
 use Rattle.base.specs.Lists.{count, every, values, valuesFrom, tally}
 use Rattle.base.proofs.ListLaws.{tally-le, beq-true, every-values, every-all, and-left, and-right}
 use Rattle.word.specs.Letters.{isLetter, isPositive, isInverse, generator}
-use Rattle.word.specs.Exponent.{exponentSum}
 use Rattle.word.specs.Strands.{inOrder, swapped}
 use Rattle.word.proofs.LetterLaws.{Lettered, lettered-cons, letter-below, generator-below}
 use Rattle.word.proofs.StrandLaws.{length-swapped, swapped-below}
-use Rattle.word_crossing.specs.Crossings.{both, swaps, swapping, crossingsFrom, crossings}
-use Rattle.word_crossing.specs.steps.Counting.{slot, slotOf, slots, Labelled, Table, Counts, found}
+use Rattle.word_crossing.specs.Crossings.{both, swaps, swapping}
+use Rattle.word_crossing.specs.steps.Counting.{slot, slotOf, slots, Labelled, Table, Counts, finding}
 use Rattle.word_crossing.proofs.CrossingLaws.{share, tally-letter}
 
 -- ---- eight labels below 8
@@ -235,11 +233,11 @@ module _ {w labels counts : List ℕ} {i : ℕ} (h : Walking w labels counts i) 
       all : (k : ℕ) → getD counts k 0 ≡ count k (slots inOrder w)
       all k = omega (arith, h .rest k, ap (λ (v : List ℕ). count k (slots labels v)) end)
 
--- ---- the signed number
+-- ---- the letters that swap two labels
 
 module _ (a b : ℕ) (ha : a < 8) (hb : b < 8) (n : a ≡ b → ⊥) {w counts : List ℕ} (e : Lettered w)
     (t : Counts inOrder w counts) where
-  generators-are : getD counts (slot 0 a b) 0 + getD counts (slot 0 b a) 0 ≡ tally isPositive (swapping a b inOrder w)
+  pub generators-are : finding counts 0 a b ≡ tally isPositive (swapping a b inOrder w)
   generators-are =
       omega (
         arith,
@@ -248,7 +246,7 @@ module _ (a b : ℕ) (ha : a < 8) (hb : b < 8) (n : a ≡ b → ⊥) {w counts :
         counted-both a b ha hb n isPositive 0 positive-by-bit inOrder w order-labelled e,
       )
 
-  inverses-are : getD counts (slot 1 a b) 0 + getD counts (slot 1 b a) 0 ≡ tally isInverse (swapping a b inOrder w)
+  pub inverses-are : finding counts 1 a b ≡ tally isInverse (swapping a b inOrder w)
   inverses-are =
       omega (
         arith,
@@ -256,7 +254,3 @@ module _ (a b : ℕ) (ha : a < 8) (hb : b < 8) (n : a ≡ b → ⊥) {w counts :
         t .counted (slot 1 b a),
         counted-both a b ha hb n isInverse 1 inverse-by-bit inOrder w order-labelled e,
       )
-
-  pub number-is : found counts a b ≡ crossings a b w
-  unfolding crossings crossingsFrom exponentSum
-  number-is = ap₂ (λ (x y : ℕ). pos x -ℤ pos y) generators-are inverses-are

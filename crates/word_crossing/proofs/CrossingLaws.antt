@@ -45,7 +45,7 @@ crossings-symmetric labels a b w = ap exponentSum (swapping-exchanged a b w labe
 -- ---- a word in two parts
 
 module _ (a b : ℕ) where
-  swapping-append : (labels v w : List ℕ)
+  pub swapping-append : (labels v w : List ℕ)
       → swapping a b labels (v ++ w) ≡ swapping a b labels v ++ swapping a b (listAfter labels v) w
   unfolding swapping listAfter
   swapping-append labels [] w = refl

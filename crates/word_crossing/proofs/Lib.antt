@@ -2,6 +2,7 @@ pub mod SignedLaws
 pub mod CrossingLaws
 pub mod PartLaws
 pub mod CountLaws
+pub mod HalfLaws
 pub mod CrossingAnswer
 pub mod AllPairs
 pub mod PairLaws

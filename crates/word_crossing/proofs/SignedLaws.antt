@@ -1,4 +1,4 @@
--- The difference of two numbers: how large it is, and that the difference of numbers up to 20,000 fits 32 bits.
+-- The difference of two numbers: how large it is, and that the difference of numbers up to 40,000 fits 32 bits.
 use Prim.Native.Nat.{ℕ, zero, suc, _-_, _≤_, _<_, _^_}
 use mathlib.Core.Path.{_≡_, ap₂, _∙_}
 use mathlib.Core.Bool.{Bool, true, false, cond}
@@ -18,14 +18,14 @@ difference-within m (suc n) k a b = go (ltb m (suc n))
     go true = omega arith
     go false = omega arith
 
-small : (m n : ℕ) → m ≤ 20000 → n ≤ 20000 → SFits w32 (pos m -ℤ pos n)
-small m n a b = record { sfits = go (pos m -ℤ pos n) (difference-within m n 20000 a b) }
+small : (m n : ℕ) → m ≤ 40000 → n ≤ 40000 → SFits w32 (pos m -ℤ pos n)
+small m n a b = record { sfits = go (pos m -ℤ pos n) (difference-within m n 40000 a b) }
   where
-    go : (z : ℤ) → natAbs z ≤ 20000 → mag z < 2 ^ 31
+    go : (z : ℤ) → natAbs z ≤ 40000 → mag z < 2 ^ 31
     go (pos k) h = omega arith
     go (negsuc k) h = omega arith
 
-module _ (m n : ℕ) (a : m ≤ 20000) (b : n ≤ 20000) where
+module _ (m n : ℕ) (a : m ≤ 40000) (b : n ≤ 40000) where
   read : toZ w32 m -ℤ toZ w32 n ≡ pos m -ℤ pos n
   read = ap₂ (λ (x y : ℤ). x -ℤ y) (toZ-pos w32 {n = m} (omega arith)) (toZ-pos w32 {n = n} (omega arith))
 

@@ -90,8 +90,8 @@ pub fn crossings(word: &[u8], a: u8, b: u8) -> Crossing
     if !two_labels(a, b) {
         return Crossing::refused(27);
     }
-    let counts = walk::counted(word);
-    let number = walk::number(&counts, a, b);
+    let walked = walk::counted(word);
+    let number = walk::number(walked, a, b);
     Crossing {
         answer: 0,
         crossings: number,

@@ -1,16 +1,17 @@
-// Counts all pairs of labels in one walk over a word. The table has a counter for each sign and each two labels in
+// Counts all pairs of labels in one walk over a word. A table has a counter for each sign and each two labels in
 // order. Each letter increments exactly one counter, with no branch.
 use crate::pair_at;
 ghost use Prim.Native.Nat.{_+_, _≤_, _<_};
 ghost use mathlib.Core.Path.{_≡_};
 ghost use mathlib.Core.Bool.{true};
 ghost use lib.IntN.{pos, _-ℤ_};
-ghost use lib.ListN.{length};
+ghost use lib.ListN.{length, getD};
 ghost use Rattle.base.specs.Lists.{every};
 ghost use Rattle.word.specs.Letters.{isLetter};
-ghost use Rattle.word.specs.Strands.{inOrder};
+ghost use Rattle.word.specs.Strands.{isOrder};
 ghost use Rattle.word.specs.Words.{codes, wordAnswer};
-ghost use Rattle.word_crossing.specs.steps.Counting.{slot, OneCounted, Labelled, Table, Counts, found};
+ghost use Rattle.word_crossing.specs.steps.Counting.{slot, OneCounted, Labelled, Table, finding};
+ghost use Rattle.word_crossing.specs.steps.Halves.{Walks, Ready, FoundOf};
 ghost use Rattle.word_crossing.specs.Crossings.{allCrossings};
 
 // The place of a sign, 0 for a generator and 1 for an inverse, and two labels.
@@ -38,26 +39,48 @@ fn letter(labels: &mut [u8; 8], counts: &mut [u32; 128], code: u8)
     labels[at + 1] = own;
 }
 
-// Counts the letters of a row, first to last, from the starting list on.
-fn walk(codes: &[u8]) -> [u32; 128]
-    requires { ⌜ (length (now codes) ≤ 10000) × (every isLetter (now codes) ≡ true) ⌝ }
-    ensures { λ r. ⌜ Counts inOrder (now (codes .entry)) r ⌝ }
-{
-    let mut labels: [u8; 8] = [0, 1, 2, 3, 4, 5, 6, 7];
-    let mut counts = [0u32; 128];
-    let mut i = 0;
-    while i < codes.len() {
-        let code = codes[i];
-        letter(&mut labels, &mut counts, code);
-        i += 1;
-    }
-    counts
+// What a walk leaves: a table of the word's first half, a table of its second half, and the list between the halves.
+// Both tables start from the list 0 to 7, so labels of the second table are places of the list between the halves.
+pub(crate) struct Walked {
+    pub first: [u32; 128],
+    pub second: [u32; 128],
+    pub middle: [u8; 8],
 }
 
-// The table of an accepted word.
-pub(crate) fn counted(word: &[u8]) -> [u32; 128]
+// Counts the letters of a row, in two halves side by side. A letter waits for the labels that the letters before it
+// stored. The halves do not wait for each other.
+fn walk(codes: &[u8]) -> Walked
+    requires { ⌜ (length (now codes) ≤ 10000) × (every isLetter (now codes) ≡ true) ⌝ }
+    ensures { λ r. ⌜ Walks (now (codes .entry)) (r .first) (r .second) (r .middle) ⌝ }
+{
+    let half = codes.len() / 2;
+    let mut middle: [u8; 8] = [0, 1, 2, 3, 4, 5, 6, 7];
+    let mut labels: [u8; 8] = [0, 1, 2, 3, 4, 5, 6, 7];
+    let mut first = [0u32; 128];
+    let mut second = [0u32; 128];
+    let mut i = 0;
+    while i < half {
+        let code = codes[i];
+        let other = codes[half + i];
+        letter(&mut middle, &mut first, code);
+        letter(&mut labels, &mut second, other);
+        i += 1;
+    }
+    if half + half < codes.len() {
+        let code = codes[half + half];
+        letter(&mut labels, &mut second, code);
+    }
+    Walked {
+        first,
+        second,
+        middle,
+    }
+}
+
+// The walk of an accepted word.
+pub(crate) fn counted(word: &[u8]) -> Walked
     requires { ⌜ wordAnswer (now word) ≡ 0 ⌝ }
-    ensures { λ r. ⌜ Counts inOrder (codes (now (word .entry))) r ⌝ }
+    ensures { λ r. ⌜ Walks (codes (now (word .entry))) (r .first) (r .second) (r .middle) ⌝ }
 {
     let n = word::stated(word);
     let mut row = [0u8; word::MAX_LETTERS];
@@ -65,9 +88,9 @@ pub(crate) fn counted(word: &[u8]) -> [u32; 128]
     walk(&row[..n])
 }
 
-// The difference of two numbers up to 20,000.
+// The difference of two numbers up to 40,000.
 fn less(a: u32, b: u32) -> i32
-    requires { ⌜ (a ≤ 20000) × (b ≤ 20000) ⌝ }
+    requires { ⌜ (a ≤ 40000) × (b ≤ 40000) ⌝ }
     ensures { λ r. ⌜ r ≡ pos a -ℤ pos b ⌝ }
 {
     let x = a as i32;
@@ -75,13 +98,41 @@ fn less(a: u32, b: u32) -> i32
     x - y
 }
 
-// The generators that swap two labels less the inverses that do. A letter finds the labels either way round.
-pub(crate) fn number(counts: &[u32; 128], a: u8, b: u8) -> i32
-    requires { ⌜ Table (now counts) × (a < 8) × (b < 8) ⌝ }
-    ensures { λ r. ⌜ r ≡ found (now (counts .entry)) a b ⌝ }
+// The place of a label in a list of 0 to 7, each once.
+fn place_of(labels: &[u8; 8], a: u8) -> u8
+    requires { ⌜ (length (now labels) ≡ 8) × (isOrder (now labels) ≡ true) × (a < 8) ⌝ }
+    ensures { λ r. ⌜ (getD (now (labels .entry)) r 0 ≡ a) × (r < 8) ⌝ }
 {
-    let generators = counts[slot(0, a, b)] + counts[slot(0, b, a)];
-    let inverses = counts[slot(1, a, b)] + counts[slot(1, b, a)];
+    let mut i: u8 = 0;
+    while i < 7 {
+        if labels[i as usize] == a {
+            return i;
+        }
+        i += 1;
+    }
+    i
+}
+
+// The letters of a sign that find two labels, either way round.
+fn finding(counts: &[u32; 128], sign: u8, a: u8, b: u8) -> u32
+    requires { ⌜ Table (now counts) × (sign < 2) × (a < 8) × (b < 8) ⌝ }
+    ensures { λ r. ⌜ (r ≡ finding (now (counts .entry)) sign a b) × (r ≤ 20000) ⌝ }
+{
+    counts[slot(sign, a, b)] + counts[slot(sign, b, a)]
+}
+
+// The generators that swap two labels less the inverses that do, of the word that was walked.
+pub(crate) fn number(walked: Walked, a: u8, b: u8) -> i32
+    requires { ⌜ Ready (walked .first) (walked .second) (walked .middle) × (a < 8) × (b < 8) ⌝ }
+    ensures { λ r. ⌜ FoundOf (walked .first) (walked .second) (walked .middle) a b r ⌝ }
+{
+    let middle = walked.middle;
+    let p = place_of(&middle, a);
+    let q = place_of(&middle, b);
+    let first = walked.first;
+    let second = walked.second;
+    let generators = finding(&first, 0, a, b) + finding(&second, 0, p, q);
+    let inverses = finding(&first, 1, a, b) + finding(&second, 1, p, q);
     less(generators, inverses)
 }
 
@@ -90,12 +141,12 @@ pub(crate) fn numbers(word: &[u8]) -> [i32; 28]
     requires { ⌜ wordAnswer (now word) ≡ 0 ⌝ }
     ensures { λ r. ⌜ r ≡ allCrossings (codes (now (word .entry))) ⌝ }
 {
-    let counts = counted(word);
+    let walked = counted(word);
     let mut numbers = [0i32; 28];
     let mut k = 0;
     while k < 28 {
         let two = pair_at(k);
-        numbers[k] = number(&counts, two.smaller, two.larger);
+        numbers[k] = number(walked, two.smaller, two.larger);
         k += 1;
     }
     numbers

@@ -6,7 +6,8 @@ use borrow.Author.Needs.{needs}
 use lib.ListN.{length, getD, length-set}
 use Rattle.matrix.specs.Layout.{entry}
 use Rattle.base.proofs.ListLaws.{one-more}
-use Rattle.key.proofs.EntryLaws.{fileEntry, entries-put}
+use Rattle.key.specs.steps.Filling.{fileEntry}
+use Rattle.key.proofs.EntryLaws.{entries-put}
 use Rattle.key.proofs.file_entries.Statement.{statement}
 use Rattle.key.proofs.file_entries.Tie as tie
 

@@ -4,7 +4,8 @@ use Prim.Native.Nat.{ℕ, _-_, _≤_}
 use mathlib.Core.Path.{_≡_, subst}
 use native.Mathlib.Omega.{arith}
 use borrow.Author.Needs.{needs}
-use Rattle.key.proofs.EntryLaws.{Filled, filled-none, filled-more, whole-put}
+use Rattle.key.specs.steps.Filling.{Filled}
+use Rattle.key.proofs.EntryLaws.{filled-none, filled-more, whole-put}
 use Rattle.key.proofs.whole_matrix.Statement.{statement}
 use Rattle.key.proofs.whole_matrix.Tie as tie
 

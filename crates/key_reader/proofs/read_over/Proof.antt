@@ -14,7 +14,7 @@ use Rattle.key.specs.declared.Key.{Key}
 use Rattle.key.specs.Keys.{keyField, entries, firstBytes, secondBytes, wholeMatrix, bothInvertible}
 use Rattle.key.specs.steps.Places.{fileBytes}
 use Rattle.key.specs.Keys.{partQuestions, keyQuestionsOver, keyAnswer, keyParts, keyOf}
-use Rattle.key.proofs.Widths.{told-narrow, told-bytes, eitherLength, length-passes}
+use Rattle.key.proofs.Widths.{told-wide, told-narrow, told-bytes, eitherLength, length-passes}
 use Rattle.key.proofs.KeyFacts.{reads-refused, reads-accepted}
 use borrow.Author.Needs.{needs}
 use Rattle.key_reader.proofs.read_over.Statement.{statement}
@@ -46,8 +46,10 @@ field b = start b .args .f
 abbrev file : tie.After-bits-of → List ℕ
 file b = start b .args .file .now
 
-sized : (b : tie.After-bits-of) → (b .bits-of .result ≤ 8) × (length (file b) ≡ fileBytes (b .bits-of .result))
-sized b = (told-narrow (field b) (b .bits-of .ensures), told-bytes (field b) (b .bits-of .ensures) (start b .pre .1))
+sized : (b : tie.After-bits-of) → let n = b .bits-of .result in (5 ≤ n) × (n ≤ 8) × (length (file b) ≡ fileBytes n)
+sized b =
+    let e = b .bits-of .ensures in
+    (told-wide (field b) e, told-narrow (field b) e, told-bytes (field b) e (start b .pre .1))
 
 abbrev bits-at : tie.After-answer → tie.After-bits-of
 bits-at a = a .before .before .before .before .before
@@ -94,7 +96,7 @@ answer-requires : tie.Need-answer-requires
 answer-requires c κs =
     let o = c .before .before in
     let s = sized (o .before .before) in
-    (s .0, s .1, o .before .t-values .ensures, o .labels .ensures)
+    (s .1, s .2, o .before .t-values .ensures, o .labels .ensures)
 
 returns : tie.Need-returns
 returns c =
@@ -111,7 +113,7 @@ key-of-requires : tie.Need-key-of-requires
 key-of-requires c κs =
     let o = c .before .before .before .before in
     let s = sized (o .before .before) in
-    (s .0, s .1, o .before .t-values .ensures, o .labels .ensures)
+    (s .0, s .1, s .2, o .before .t-values .ensures, o .labels .ensures)
 
 returns-2 : tie.Need-returns-2
 returns-2 c =

@@ -1,7 +1,8 @@
 -- `pair_multiplier::taken` meets its contract: each sign reads its own label.
+use Prim.Native.Nat.{ℕ}
 use mathlib.Core.Path.{ap, _∙_}
 use borrow.Author.Needs.{needs}
-use Rattle.field.specs.steps.Reciprocals.{lookedUp}
+use Rattle.field.specs.Fields.{operations}
 use Rattle.pair.specs.Action.{tValue}
 use Rattle.pair.specs.steps.Columns.{takenBy}
 use Rattle.pair_multiplier.proofs.taken.Statement.{statement}
@@ -11,10 +12,10 @@ returns : tie.Need-returns
 unfolding takenBy tValue
 returns c =
     let value = c .before in
-    let s = value .before .before .before .before .before in
+    let s = value .before .before .before .before in
     let a = s .args in
     rw (value .before .before .if1 .taken)
-    (c .inverse .ensures ∙ ap (lookedUp (a .table .now)) (value .value-of .ensures))
+    (c .inverse-of .ensures ∙ ap (λ (x : ℕ). operations (a .f) .inv x) (value .value-of .ensures))
 
 returns-2 : tie.Need-returns-2
 unfolding takenBy tValue

@@ -11,7 +11,7 @@ use mir.Syntax.{w32}
 use mir.Facts.{toZ-ofZ}
 use Rattle.word.specs.Words.{wordAnswer}
 use Rattle.word.proofs.ReadLaws.{accepted-word}
-use Rattle.word_crossing.proofs.CountLaws.{number-is}
+use Rattle.word_crossing.proofs.HalfLaws.{walks-ready, number-of}
 use Rattle.word_crossing.proofs.CrossingAnswer.{twoLabels, word-before-27, labels-27, none-failed, refused}
 use Rattle.word_crossing.proofs.CrossingAnswer.{answered, first-below, second-below, different}
 use Rattle.word_crossing.proofs.crossings.Statement.{statement}
@@ -60,25 +60,24 @@ returns-2 c =
 
 number-requires : tie.Need-number-requires
 number-requires c κs =
-    let e = c .before .before in
+    let e = c .before in
     let s = at-2 e in (
-      c .before .counted .ensures .table,
+      walks-ready (c .counted .ensures),
       first-below (a s) (b s) (labels-passed e),
       second-below (a s) (b s) (labels-passed e),
     )
 
 returns-3 : tie.Need-returns-3
 returns-3 c =
-    let k = c .before .before in
+    let k = c .before in
     let e = k .before in
     let s = at-2 e in
     let t = labels-passed e in
     let z = word-passed (e .before .before) in
     answered (word s) (a s) (b s) (none-failed (word s) (a s) (b s) z t)
     (toZ-ofZ {w = w32} (record { sfits = c .number .ok })
-    ∙ c .number .ensures
-    ∙ number-is (a s) (b s) (first-below (a s) (b s) t) (second-below (a s) (b s) t) (different (a s) (b s) t)
-    (accepted-word (word s) z .lettered) (k .counted .ensures))
+    ∙ number-of (a s) (b s) (first-below (a s) (b s) t) (second-below (a s) (b s) t) (different (a s) (b s) t)
+    (accepted-word (word s) z .lettered) (k .counted .ensures) (c .number .ensures))
 
 pub crossings-spec : {M : Type 1} → statement M
 crossings-spec =

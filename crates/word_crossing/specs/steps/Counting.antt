@@ -3,7 +3,6 @@
 use Prim.Native.Nat.{ℕ, _+_, _*_, _/_, _≤_, _<_}
 use mathlib.Core.Path.{_≡_}
 use mathlib.Core.List.{List, [], _∷_}
-use lib.IntN.{ℤ, pos, _-ℤ_}
 use lib.ListN.{length, getD, set}
 use Rattle.base.specs.Lists.{count}
 use Rattle.word.specs.Letters.{generator}
@@ -44,8 +43,6 @@ OneCounted c labels counts labels′ counts′ =
     (labels′ ≡ swapped (generator c) labels)
     × (counts′ ≡ set counts (slotOf labels c) (getD counts (slotOf labels c) 0 + 1))
 
--- the number of two labels in a table: the generators that find them, either way round, less the inverses
-abbrev pub found : List ℕ → ℕ → ℕ → ℤ
-found counts a b =
-    pos (getD counts (slot 0 a b) 0 + getD counts (slot 0 b a) 0) -ℤ pos
-    (getD counts (slot 1 a b) 0 + getD counts (slot 1 b a) 0)
+-- the letters of a sign that find two labels, either way round
+abbrev pub finding : List ℕ → ℕ → ℕ → ℕ → ℕ
+finding counts sign a b = getD counts (slot sign a b) 0 + getD counts (slot sign b a) 0

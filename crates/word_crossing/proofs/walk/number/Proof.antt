@@ -1,61 +1,93 @@
--- `word_crossing::walk::number` meets its contract.
+-- `word_crossing::walk::number` meets its contract: both tables are asked, the second for the places of the labels.
 use Prim.Native.Nat.{ℕ, _+_}
 use mathlib.Core.Path.{ap₂, _∙_}
 use native.Mathlib.Omega.{arith}
 use lib.IntN.{pos, _-ℤ_}
-use lib.ListN.{getD}
 use mir.Syntax.{w32}
 use mir.Facts.{toZ-ofZ}
-use borrow.Author.Needs.{needs}
 use Rattle.word_crossing.proofs.walk.number.Statement.{statement}
 use Rattle.word_crossing.proofs.walk.number.Tie as tie
 
+-- the place of the second label, and before it that of the first, and the start
+abbrev second : tie.After-first2 → tie.After-place-of2
+second c = c .before .before .before
+
+abbrev first : tie.After-first2 → tie.After-place-of
+first c = second c .before .before
+
+abbrev start : tie.After-first2 → tie.Start
+start c = first c .before .before .before
+
+place-of-requires : tie.Need-place-of-requires
+place-of-requires c κs = let pre = c .before .before .pre in (pre .0 .strands, pre .0 .order, pre .1)
+
+place-of-requires-2 : tie.Need-place-of-requires-2
+place-of-requires-2 c κs =
+    let pre = c .before .before .before .before .pre in (pre .0 .strands, pre .0 .order, pre .2)
+
+finding-requires : tie.Need-finding-requires
+finding-requires c κs = let pre = start c .pre in (pre .0 .first-table, omega arith, pre .1, pre .2)
+
+finding-requires-2 : tie.Need-finding-requires-2
+finding-requires-2 c κs =
+    let f = c .before .before in
+    (start f .pre .0 .second-table, omega arith, first f .place-of .ensures .1, second f .place-of2 .ensures .1)
+
 add-generators : tie.Need-add-generators
-add-generators c =
-    let few = c .before .before .before .before .pre .0 .few in
-    record { fits = omega (arith, few (c .before .before .before .slot .result), few (c .before .slot2 .result)) }
+add-generators c = record { fits = omega (arith, c .finding2 .ensures .1, c .before .before .finding .ensures .1) }
+
+finding-requires-3 : tie.Need-finding-requires-3
+finding-requires-3 c κs =
+    let pre = start (c .before .before .before .before) .pre in (pre .0 .first-table, omega arith, pre .1, pre .2)
+
+finding-requires-4 : tie.Need-finding-requires-4
+finding-requires-4 c κs =
+    let f = c .before .before .before .before .before .before in
+    (start f .pre .0 .second-table, omega arith, first f .place-of .ensures .1, second f .place-of2 .ensures .1)
 
 add-inverses : tie.Need-add-inverses
-add-inverses c =
-    let few = c .before .before .before .before .before .before .before .before .pre .0 .few in
-    record { fits = omega (arith, few (c .before .before .before .slot3 .result), few (c .before .slot4 .result)) }
+add-inverses c = record { fits = omega (arith, c .finding4 .ensures .1, c .before .before .finding3 .ensures .1) }
 
 less-requires : tie.Need-less-requires
 less-requires c κs =
-    let d = c .before .before .before .before in
-    let few = d .before .before .before .before .pre .0 .few in (
-      omega (arith, few (d .before .before .before .slot .result), few (d .before .slot2 .result)),
-      omega (arith, few (c .before .before .before .slot3 .result), few (c .before .slot4 .result)),
+    let g = c .before .before .before .before in (
+      omega (arith, g .finding2 .ensures .1, g .before .before .finding .ensures .1),
+      omega (arith, c .finding4 .ensures .1, c .before .before .finding3 .ensures .1),
     )
 
 returns : tie.Need-returns
 returns c =
-    let e = c .before in
-    let d = e .before .before .before .before in
-    let at = d .before .before .before .before .args .counts .now in
-    let sum : ℕ → ℕ → ℕ = λ (j k : ℕ). getD at j 0 + getD at k 0 in
-    toZ-ofZ {w = w32} (record { sfits = c .less .ok })
-    ∙ c .less .ensures
-    ∙ ap₂ (λ (m n : ℕ). pos m -ℤ pos n) (ap₂ sum (d .before .before .before .slot .ensures) (d .before .slot2 .ensures))
-    (ap₂ sum (e .before .before .before .slot3 .ensures) (e .before .slot4 .ensures))
+    let d = c .before in
+    let g = d .before .before .before .before in
+    let f = g .before .before .before in
+    let p = first f .place-of in
+    let q = second f .place-of2 in
+    record {
+      p = p .result;
+      q = q .result;
+      p-below = p .ensures .1;
+      q-below = q .ensures .1;
+      p-holds = p .ensures .0;
+      q-holds = q .ensures .0;
+      number-is =
+          toZ-ofZ {w = w32} (record { sfits = c .less .ok })
+          ∙ c .less .ensures
+          ∙ ap₂ (λ (m n : ℕ). pos m -ℤ pos n)
+          (ap₂ _+_ (g .before .before .finding .ensures .0) (g .finding2 .ensures .0))
+          (ap₂ _+_ (d .before .before .finding3 .ensures .0) (d .finding4 .ensures .0));
+    }
 
 pub number-spec : {M : Type 1} → statement M
 number-spec =
     tie.close
     (tie.spec
-    (λ c κs. search needs)
-    (λ c. search needs)
-    (λ c. search needs)
-    (λ c κs. search needs)
-    (λ c. search needs)
-    (λ c. search needs)
+    place-of-requires
+    place-of-requires-2
+    finding-requires
+    finding-requires-2
     add-generators
-    (λ c κs. search needs)
-    (λ c. search needs)
-    (λ c. search needs)
-    (λ c κs. search needs)
-    (λ c. search needs)
-    (λ c. search needs)
+    finding-requires-3
+    finding-requires-4
     add-inverses
     less-requires
     returns)

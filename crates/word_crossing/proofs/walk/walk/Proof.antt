@@ -1,51 +1,87 @@
--- `word_crossing::walk::walk` meets its contract. The loop's invariant: what is counted so far, with what the letters
--- from i on count from the labels so far, is what all letters count.
-use Prim.Native.Nat.{_-_}
-use mathlib.Core.Path.{refl}
+-- `word_crossing::walk::walk` meets its contract. The loop's invariant: i letters of each half are counted, and the
+-- front's other letters lead to the list that the whole front leaves.
+use Prim.Native.Nat.{ℕ, _+_, _-_, _/_, _≤_}
+use mathlib.Core.List.{List}
 use native.Mathlib.Omega.{arith}
 use lib.ListN.{length}
 use Rattle.base.specs.Lists.{valuesFrom}
 use Rattle.base.proofs.ListLaws.{every-getD}
 use Rattle.word.specs.Letters.{isLetter}
-use Rattle.word_crossing.proofs.CountLaws.{order-labelled, none-counted, Walking, walking-table, walked-on}
-use Rattle.word_crossing.proofs.CountLaws.{walked}
+use Rattle.word_crossing.proofs.HalfLaws.{Halving, halving-first, halving-next, halved, halved-odd}
+use Rattle.word_crossing.proofs.HalfLaws.{first-table, second-table}
 use Rattle.word_crossing.proofs.walk.walk.Statement.{statement}
 use Rattle.word_crossing.proofs.walk.walk.Tie as tie
 
 abbrev Inv-loop : tie.InvT-loop
-Inv-loop codes labels₀ counts₀ i₀ labels counts i = Walking codes labels counts i
+Inv-loop codes half middle₀ labels₀ first₀ second₀ i₀ middle labels first second i =
+    Halving codes half middle labels first second i
 
 abbrev μ-loop : tie.MeasureT-loop
-μ-loop codes labels₀ counts₀ i₀ labels counts i = length codes - i
+μ-loop codes half middle₀ labels₀ first₀ second₀ i₀ middle labels first second i = half - i
+
+module _ (s : tie.Start Inv-loop μ-loop) where
+  abbrev codes : List ℕ
+  codes = s .args .codes .now
+
+  abbrev half : ℕ
+  half = length codes / 2
+
+  room : half + half ≤ length codes
+  room = omega arith
 
 loop-holds : tie.Need-loop-holds Inv-loop μ-loop
 unfolding valuesFrom
 loop-holds c =
-    record {
-      within = omega arith;
-      labelled = order-labelled;
-      size = refl;
-      rest = none-counted (c .before .args .codes .now);
-    }
+    let s = c .before in halving-first (codes s) (half s) (s .pre .0) (s .pre .1) (room s)
 
 letter-requires : tie.Need-letter-requires Inv-loop μ-loop
 letter-requires c κs =
-    let l = c .before .before .before .before .loop in
-    let s = c .before .before .before .before .before .before in (
-      l .inv .labelled,
-      walking-table (l .inv) (s .pre .0),
-      every-getD isLetter (s .args .codes .now) (s .pre .1) (l .i) (omega arith),
+    let l = c .before .before .before .before .before .loop in
+    let s = c .before .before .before .before .before .before .before in (
+      l .inv .front .labelled,
+      first-table (codes s) (half s) (s .pre .0) (s .pre .1) (room s) (l .inv),
+      every-getD isLetter (codes s) (s .pre .1) (l .i) (omega arith),
+    )
+
+letter-requires-2 : tie.Need-letter-requires-2 Inv-loop μ-loop
+letter-requires-2 c κs =
+    let m = c .before .before .before in
+    let l = m .before .before .before .before .before .loop in
+    let s = m .before .before .before .before .before .before .before in (
+      l .inv .back .labelled,
+      second-table (codes s) (half s) (s .pre .0) (s .pre .1) (room s) (l .inv),
+      every-getD isLetter (codes s) (s .pre .1) (half s + l .i) (omega arith),
     )
 
 loop-again : tie.Need-loop-again Inv-loop μ-loop
 loop-again c =
+    let m = c .before .before .before in
+    let l = m .before .before .before .before .before .before .loop in
+    let s = m .before .before .before .before .before .before .before .before in
+    halving-next (codes s) (half s) (s .pre .0) (s .pre .1) (room s) (l .inv) (omega arith) (m .letter .ensures)
+    (c .letter2 .ensures)
+
+letter-requires-3 : tie.Need-letter-requires-3 Inv-loop μ-loop
+letter-requires-3 c κs =
     let l = c .before .before .before .before .before .loop in
-    let s = c .before .before .before .before .before .before .before in
-    let letter = every-getD isLetter (s .args .codes .now) (s .pre .1) (l .i) (omega arith) in
-    walked-on (l .inv) (omega arith) letter (c .letter .ensures .0) (c .letter .ensures .1)
+    let s = c .before .before .before .before .before .before .before in (
+      l .inv .back .labelled,
+      second-table (codes s) (half s) (s .pre .0) (s .pre .1) (room s) (l .inv),
+      every-getD isLetter (codes s) (s .pre .1) (half s + half s) (omega arith),
+    )
 
 returns : tie.Need-returns Inv-loop μ-loop
-returns c = walked (c .before .loop .inv) (c .before .before .before .pre .0) (omega arith)
+returns c =
+    let l = c .before .before .before .before .before .before .loop in
+    let s = c .before .before .before .before .before .before .before .before in
+    halved-odd (codes s) (half s) (s .pre .0) (s .pre .1) (room s) (l .inv) (omega arith) (omega arith) (omega arith)
+    (c .letter3 .ensures)
+
+returns-2 : tie.Need-returns-2 Inv-loop μ-loop
+returns-2 c =
+    let l = c .before .before .loop in
+    let s = c .before .before .before .before in
+    halved (codes s) (half s) (s .pre .0) (s .pre .1) (room s) (l .inv) (omega arith) (omega arith)
 
 pub walk-spec : {M : Type 1} → statement M
 walk-spec =
@@ -55,8 +91,16 @@ walk-spec =
     μ-loop
     loop-holds
     (λ c. omega arith)
+    (λ c. omega arith)
+    (λ c. omega arith)
     letter-requires
+    letter-requires-2
     (λ c. omega arith)
     (λ c. omega arith)
     loop-again
-    returns)
+    (λ c. omega arith)
+    (λ c. omega arith)
+    (λ c. omega arith)
+    letter-requires-3
+    returns
+    returns-2)
