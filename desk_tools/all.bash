@@ -1,137 +1,299 @@
-# Sourced by ./walnut: `shorten --all`, which shortens every slip of a folder. One run of the program shortens some
-# hundred slips. A bad slip is reported and does not stop the run.
+# Sourced by ./walnut: `judge --all` and `shorten --all`, on every slip of a folder. One run of a program takes many
+# slips. A bad slip is reported and does not stop the run.
+
+# The files of the slips by KIND/NAME, and what a slip lacks by NAME. Texts of answers, reasons that were found before,
+# and lengths of keys are kept.
+declare -A part=() lacks=() texts=() reasons=() key_bytes=() refusals=()
+names=()
 
 # The counts of the summary.
-declare -A refusals=()
-slips=0 opened=0 unread=0 unwritten=0 unjudged=0 before=0 after=0 ended=yes on_disk=yes
+slips=0 opened=0 unread=0 unwritten=0 unjudged=0 before=0 after=0 ended=yes on_disk=yes left_out=no
 
-# progress ALL: shows how many of all slips are done. no_progress removes the line. Both act on a terminal only.
-progress() { [ -t 2 ] && printf '\r%s: %s of %s slips' "$name" "$slips" "$1" >&2; }
-no_progress() { [ -t 2 ] && printf '\r\033[K' >&2; }
+# progress shows how many slips are done, once a second after the first second. no_progress removes the line. Both act
+# on a terminal only.
+progress() {
+    [ "$SECONDS" -gt "$shown" ] && [ -t 2 ] || return 0
+    shown=$SECONDS
+    printf '%s: %s of %s slips\033[K\r' "$name" "$slips" "${#names[@]}" >&2
+}
+no_progress() { [ ! -t 2 ] || printf '\033[K' >&2; }
 
-# slip NAME: reads the program's lines about one slip from standard input, and reports them.
+# quoted TEXT: sets $quoted to the text in quotes. A line end in the text does not end the line.
+quoted() {
+    case $1 in
+        *[[:cntrl:]]*) quoted=${1@Q} ;;
+        *) quoted="'$1'" ;;
+    esac
+}
+
+# ---- the slips of the folder
+
+# listed: finds the files of the slips, and sets $names. The ends of the names may have capitals. If two files differ in
+# that alone, one is left out, and not the one in small letters.
+listed() {
+    local LC_ALL=C each end kind slip found=() all
+    shopt -s nullglob nocaseglob
+    all=("$folder"/*.key "$folder"/*.digest "$folder"/*.sig)
+    shopt -u nullglob nocaseglob
+    for each in "${all[@]}"; do
+        end=${each##*.}
+        kind=${end,,} slip=${each##*/}
+        slip=${slip%.*}
+        [ "$kind" = key ] || found+=("$slip")
+        if [ -z "${part[$kind/$slip]-}" ]; then
+            part[$kind/$slip]=$each
+        elif [ "$end" = "$kind" ]; then
+            leave_out "${part[$kind/$slip]}"
+            part[$kind/$slip]=$each
+        else
+            leave_out "$each"
+        fi
+    done
+    [ ${#found[@]} -eq 0 ] || mapfile -d '' -t names < <(printf '%s\0' "${found[@]}" | LC_ALL=C sort -zu)
+}
+
+leave_out() {
+    quoted "$1"
+    say "$quoted is left out: another file differs from it only in capitals. Rename or remove one of them"
+    left_out=yes
+}
+
+# lacking NAME: sets $lack to what the slip lacks, or to nothing.
+lacking() {
+    local kind file
+    lack=
+    for kind in key digest sig; do
+        file=${part[$kind/$1]-}
+        [ -n "$file" ] || [ "$kind" != key ] || file=$key
+        [ ! -f "$file" ] || continue
+        quoted "${file:-$folder/$1.$kind}"
+        if [ -z "$file" ]; then
+            lack+="; $quoted is missing"
+            [ "$kind" != key ] || lack+=", and no KEY is given"
+        else
+            lack+="; $quoted is not a regular file"
+        fi
+    done
+    lack=${lack#; }
+}
+
+# ---- what is said about a slip
+
+# told NAME ANSWER WORDS: the line of a slip.
+told() {
+    no_progress
+    case $1 in
+        *[[:cntrl:]]*) put "${1@Q}: $2: $3" ;;
+        *) put "$1: $2: $3" ;;
+    esac
+}
+
+# The texts of all answers, from answers.txt.
+read_texts() {
+    local number text rest
+    while IFS='|' read -r number text rest; do
+        text=${text# }
+        texts[${number%% *}]=${text% }
+    done < <(grep '^[0-9]* |' "$root/answers.txt")
+}
+
+# reason ANSWER KEY DIGEST SIGNATURE: sets $reason to the file that a refusal is about, and to the place in it.
+reason() {
+    local file many=s
+    case $1 in
+        [1-7] | 26)
+            reason=${reasons[$1/$2]-} file=$2
+            [ -z "$reason" ] || return 0
+            place_in_key "$1" "$2"
+            ;;
+        8) file=$3 && place_in_digest "$2" "$3" ;;
+        9 | 1[0-3]) file=$4 && place_in_word "$1" "$4" ;;
+        *)
+            quoted "$2" && reason="the key is $quoted"
+            quoted "$3" && reason+=", the digest is $quoted"
+            quoted "$4" && reason+=", and the signature is $quoted"
+            return 0
+            ;;
+    esac || bytes=0 hex= place="it is not there now"
+    quoted "$file"
+    [ "$bytes" -ne 1 ] || many=
+    reason="$quoted, $bytes byte$many; $place"
+    if [ "$bytes" -ge 4 ] && [[ ${hex:0:96} =~ ^(\ 3[0-9]|\ [46][1-6]|\ 0[9a-d]|\ 20)+$ ]]; then
+        reason+="; it looks like hexadecimal text: 'xxd -r -p' converts such text to bytes"
+    fi
+    case $1 in [1-7] | 26) reasons[$1/$2]=$reason ;; esac
+}
+
+# place_in_digest KEY DIGEST: a refused digest.
+place_in_digest() {
+    [ -n "${key_bytes[$1]-}" ] || key_bytes[$1]=$(size "$1") || key_bytes[$1]=0
+    place="this key needs a digest of ${digest_bytes[${key_bytes[$1]}]-$(digest_sizes)} bytes"
+    read_hex "$2" 65
+}
+
+# unread_of FILE..: sets $reason to the files that may not be read. The program has said why it could not read a file.
+unread_of() {
+    local file
+    reason=
+    for file in "$@"; do
+        quoted "$file"
+        [ -r "$file" ] || reason+="; you may not read $quoted"
+    done
+    reason=${reason#; }
+    [ -n "$reason" ] || reason="a file could not be read, see the messages"
+}
+
+# slip NAME: reports a slip. If it lacks nothing, the program's lines about it come on standard input.
 slip() {
-    local line
-    IFS= read -r line || return 1
+    local line files=("${part[key/$1]-$key}" "${part[digest/$1]-}" "${part[sig/$1]-}")
+    reason=${lacks[$1]-}
+    if [ -n "$reason" ]; then
+        line='no answer'
+    else
+        IFS= read -r line || return 1
+    fi
     case $line in
-        'no answer') unread=$((unread + 1)) ;;
-        'not written') opened=$((opened + 1)) unwritten=$((unwritten + 1)) ;;
+        'no answer')
+            [ -n "$reason" ] || unread_of "${files[@]}"
+            unread=$((unread + 1))
+            ;;
+        'not written')
+            [ "$verb" = shorten ] || return 1
+            reason="see the messages" opened=$((opened + 1)) unwritten=$((unwritten + 1))
+            ;;
         *)
             is_answer "$line" || return 1
-            if [ "$answer" != 0 ]; then
-                refusals[$answer]=$((${refusals[$answer]-0} + 1))
-            else
-                IFS= read -r line && [[ $line =~ $sizes ]] || return 1
-                opened=$((opened + 1)) before=$((before + BASH_REMATCH[3])) after=$((after + BASH_REMATCH[4]))
-                slips=$((slips + 1))
+            if [ "$answer" = 0 ]; then
+                "opened_$verb" "$1" || return 1
+                slips=$((slips + 1)) opened=$((opened + 1))
                 return 0
             fi
+            refusals[$answer]=$((${refusals[$answer]-0} + 1))
+            reason "$answer" "${files[@]}"
+            reason="${texts[$answer]-}: $reason"
             ;;
     esac
     slips=$((slips + 1))
-    no_progress
-    put "$1: $line"
-    # A fault of the key is reported once, in the summary.
-    case $line in
-        'answer '[1-7] | 'answer 26' | 'no'*) ;;
-        *) about_slip "$answer" "$key" "$folder/$1.digest" "$folder/$1.sig" ;;
-    esac
-    [ ! -f "$folder/$1.new" ] || say "an older '$1.new' is still there: do not send it"
-    return 0
+    told "$1" "$line" "$reason"
+    "shut_$verb" "$1"
 }
 
-# some ALL NAME..: shortens these slips by one run of the program. If NAME.new may not be replaced, the program gets a
-# name that it cannot write.
+# ---- the two commands: add_.. adds the arguments of a slip, run_.. runs the program, opened_.. reports a slip that
+# opened, and shut_.. says more about another one.
+
+add_judge() { arguments+=("${part[key/$1]-$key}" "${part[digest/$1]}" "${part[sig/$1]}"); }
+run_judge() { "$bin/slips" "$@"; }
+opened_judge() { told "$1" 'answer 0' 'the slip is good'; }
+shut_judge() { :; }
+
+# If NAME.new may not be replaced, the program gets a name that it cannot write.
+add_shorten() {
+    local new=$folder/$1.new
+    fault_of "$new" "${part[key/$1]-$key}" "${part[digest/$1]}" || { say "$fault"; new+=/.; }
+    arguments+=("${part[key/$1]-$key}" "${part[digest/$1]}" "${part[sig/$1]}" "$new")
+}
+run_shorten() { "$bin/new_word" shorten "$beside" "${numbers[@]}" "$@" 2>"$said"; }
+opened_shorten() {
+    local line
+    IFS= read -r line && [[ $line =~ $sizes ]] || return 1
+    before=$((before + BASH_REMATCH[3])) after=$((after + BASH_REMATCH[4]))
+}
+shut_shorten() {
+    quoted "$1.new"
+    [ ! -f "$folder/$1.new" ] || say "an older $quoted is still there: do not send it" || :
+}
+
+# some NAME..: runs the program once on those of these slips that lack nothing, and reports on all of them, in order.
 some() {
-    local all=$1 arguments=() each new
-    shift
+    local arguments=() each line done=0
     for each in "$@"; do
-        new=$folder/$each.new
-        fault_of "$new" "$key" || { say "$fault"; new+=/.; }
-        arguments+=("$folder/$each.digest" "$folder/$each.sig" "$new")
+        [ -n "${lacks[$each]-}" ] || "add_$verb" "$each"
     done
-    local done=0 line
     # The program's exit status comes as a last line, because `wait` of bash 5.2 sometimes gives a wrong status.
     {
         for each in "$@"; do
             slip "$each" || break
             done=$((done + 1))
-            [ $((slips % 20)) -ne 0 ] || progress "$all"
+            progress
         done
         IFS= read -r line && [ "$line" = 'ended 0' ] || { ended=no; cat >/dev/null; }
-    } < <("$bin/new_word" shorten "$beside" "${numbers[@]}" "$key" "${arguments[@]}" </dev/null 2>"$said"
+    } < <([ ${#arguments[@]} -eq 0 ] || "run_$verb" "${arguments[@]}" </dev/null
         echo "ended $?")
     no_progress
     # The names that cannot be written were reported before the run.
-    grep -v '\.new/\.: ' -- "$said" >&2
+    [ "$verb" = judge ] || grep -v '\.new/\.: ' -- "$said" >&2
     unjudged=$((unjudged + $# - done))
 }
 
 summary() {
     local refused=$((slips - opened - unread)) number
     put "$((slips + unjudged)) slips: $opened opened, $refused refused, $unread could not be read"
-    put "of the $opened opened, $unwritten could not be written; the others had $before bytes and have $after"
+    [ "$verb" = judge ] ||
+        put "of the $opened opened, $unwritten could not be written; the others had $before bytes and have $after"
     for number in $(printf '%s\n' "${!refusals[@]}" | sort -n); do
         put "refused with $number: ${refusals[$number]}"
         say_failed "$number"
-        case $number in [1-7] | 26) about_key "$number" "$key"; hex_hint "$key" ;; esac
         say_to_do "$number"
     done
     [ "$on_disk" = yes ] || say "the new files in '$folder' could not be saved to the disk: make room, and run it again"
     if [ "$unjudged" -ne 0 ] || [ "$ended" = no ]; then
-        say "$unjudged slips were not judged: the program did not run to its end. 'bash .ci/run' shows what fails"
+        say "$unjudged slips were not judged: the program did not run to its end. $mend"
         exit 3
     fi
     [ $((unread + unwritten)) -eq 0 ] || { say "some files could not be read or written, see above"; exit 1; }
-    [ "$on_disk" = yes ] || exit 1
+    [ "$on_disk,$left_out" = yes,no ] || exit 1
     [ "$refused" -eq 0 ] || exit 4
 }
 
-# The NAMEs of the folder's slips, each followed by a zero byte.
-slip_names() {
-    local each
-    shopt -s nullglob
-    for each in "$folder"/*.digest "$folder"/*.sig; do
-        each=${each##*/}
-        printf '%s\0' "${each%.*}"
-    done
+# most_bytes: the bytes of names that one run of a program takes. A shorter run of shorten says sooner what it did.
+most_bytes() {
+    local most
+    [ "$verb" = judge ] || { echo 50000 && return; }
+    most=$(getconf ARG_MAX 2>/dev/null) || most=131072
+    echo $(((most < 2097152 ? most : 2097152) / 2))
 }
 
-# shorten_all FOLDER KEY
-shorten_all() {
-    folder=$1 key=$2
-    [ ! -f "$1" ] || [ ! -d "$2" ] || say "the names seem to be in the wrong order; the order is FOLDER KEY"
+# every VERB PROGRAM FOLDER [KEY]: judges or shortens every slip of the folder.
+every() {
+    local some=() length=0 most each
+    verb=$1 folder=$3 key=${4-} shown=$((SECONDS + 1))
+    [ ! -f "$folder" ] || [ ! -d "$key" ] || say "the names seem to be in the wrong order; the order is FOLDER KEY"
     if [ ! -d "$folder" ] || [ ! -r "$folder" ]; then
         say "'$folder' is not a readable folder: correct the name"
         exit 1
     fi
-    if [ ! -f "$key" ] || [ ! -r "$key" ]; then
+    if [ $# -eq 4 ] && { [ ! -f "$key" ] || [ ! -r "$key" ]; }; then
         say "'$key' is not a readable file: correct the name, or fetch the key again"
         exit 1
     fi
-    need new_word
-    local names=() each
-    while IFS= read -r -d '' each; do
-        names+=("$each")
-    done < <(slip_names | LC_ALL=C sort -zu)
+    need "$2"
+    listed
     if [ ${#names[@]} -eq 0 ]; then
         say "'$folder' holds no NAME.digest and no NAME.sig: give the name of the folder with the slips"
         exit 1
     fi
-    beside_place "$folder/"
-    said=$(mktemp) || exit 1
-    trap 'rm -f -- "$beside" "$said"' EXIT
-    local some=() length=0
+    read_texts
+    [ "$verb" = judge ] || to_write
+    most=$(most_bytes)
     for each in "${names[@]}"; do
+        lacking "$each"
+        [ -z "$lack" ] || lacks[$each]=$lack
         some+=("$each")
-        length=$((length + 3 * (${#folder} + ${#each} + 9)))
-        if [ "$length" -gt 50000 ]; then
-            some "${#names[@]}" "${some[@]}"
+        length=$((length + ${#key} + 4 * (${#folder} + ${#each} + 17)))
+        if [ "$length" -gt "$most" ]; then
+            some "${some[@]}"
             some=() length=0
         fi
     done
-    [ ${#some[@]} -eq 0 ] || some "${#names[@]}" "${some[@]}"
+    [ ${#some[@]} -eq 0 ] || some "${some[@]}"
     # The program does not wait until each file is on the disk. This line waits for all of them, before the summary.
-    sync -f -- "$folder" || on_disk=no
+    [ "$verb" = judge ] || sync -f -- "$folder" || on_disk=no
     summary
+}
+
+# to_write: a name beside the new files, and a file for the program's messages.
+to_write() {
+    beside_place "$folder/"
+    said=$(mktemp) || exit 1
+    trap 'rm -f -- "$beside" "$said"' EXIT
 }

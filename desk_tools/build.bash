@@ -1,6 +1,6 @@
 # Sourced by ./walnut, ./library and the tests: proves and builds what a command needs, once for each state of the
-# sources. `need NAME..` builds these programs in $bin, `need programs` all programs, and `need library` the libraries
-# in $lib. The caller sets $root and $name.
+# sources. `need NAME..` builds these programs in $bin. In its list `programs`, as the first name, stands for all
+# programs, and `library` for the libraries in $lib. The caller sets $root and $name.
 bin=$root/target/bin
 lib=$root/target/library
 log=$root/target/walnut.log
@@ -13,9 +13,9 @@ if [ ${#programs[@]} -eq 0 ]; then
     return 1
 fi
 
-# used_by CRATE: the crates of this repository that a crate uses, and the crate itself.
+# used_by CRATE..: the crates of this repository that these crates use, and these crates.
 used_by() {
-    awk -v crate="$1" '
+    awk -v crates="$*" '
         { sub(/#.*/, "") }
         split($0, parts, ":") > 1 { uses[$1 = parts[1]] = parts[2]; all = all " " parts[1] }
         function add(one,    names, k, n) {
@@ -24,7 +24,11 @@ used_by() {
             n = split(uses[one], names, " ")
             for (k = 1; k <= n; k++) add(names[k])
         }
-        END { add(crate); for (one in seen) print one }' "$root/crates.txt" | LC_ALL=C sort
+        END {
+            n = split(crates, names, " ")
+            for (k = 1; k <= n; k++) add(names[k])
+            for (one in seen) print one
+        }' "$root/crates.txt" | LC_ALL=C sort
 }
 
 # For each need: a sum of its sources, a sum of what was built, and how to build it.
@@ -40,25 +44,26 @@ sources_of() {
 made_of() {
     case $1 in
         library) (cd "$lib" && cat libwalnut.so libwalnut.a walnut.h | sha256sum) 2>/dev/null ;;
-        *) sha256sum <"$bin/$1" 2>/dev/null ;;
+        *) sha256sum 2>/dev/null <"$bin/$1" ;;
     esac
 }
 version() { awk -v name="WALNUT_VERSION_$1" '$1 == "#define" && $2 == name { print $3 }' "$root/include/walnut.h"; }
 make_library() {
     local so
     so=libwalnut.so.$(version MAJOR)
-    proving walnut staticlib && mkdir -p "$lib" &&
+    proving staticlib walnut && mkdir -p "$lib" &&
         cp "$root/target/staticlib/libwalnut.a" "$root/include/walnut.h" "$lib/" &&
         gcc -shared -o "$lib/$so" -Wl,-soname,"$so" -Wl,--whole-archive "$lib/libwalnut.a" -Wl,--no-whole-archive &&
         ln -sfn "$so" "$lib/libwalnut.so"
 }
 
-# proving CRATE VERB: runs rt, with its lines in the log. On a terminal one line counts the crates.
+# proving VERB CRATE..: runs rt once for all these crates, with its lines in the log. On a terminal one line counts the
+# crates. rt waits for a group of RT_JOBS proofs before it starts the next group, so that many keep all cores busy.
 proving() {
     local crates done=0 last started=$SECONDS left
-    crates=$(used_by "$1" | wc -l)
+    crates=$(used_by "${@:2}" | wc -l)
     : >"$log"
-    (cd "$root" && exec rt "$2" "$1") >"$log" 2>&1 </dev/null 9>&- &
+    (cd "$root" && RT_JOBS=${RT_JOBS:-$((2 * $(nproc)))} exec rt "$@") >"$log" 2>&1 </dev/null 9>&- &
     while kill -0 $! 2>/dev/null; do
         sleep 0.5
         [ -t 2 ] || continue
@@ -77,31 +82,40 @@ proving() {
 # current NEED: succeeds if what is built was built from the present sources.
 current() { [ "$(cat "$root/target/walnut-$1.stamp" 2>/dev/null)" = "$(sources_of "$1"; made_of "$1")" ]; }
 
-# Only one build runs at a time.
+# build NEED..: only one build runs at a time. One run of rt proves all programs, so that it can prove crates side by
+# side.
 build() {
     mkdir -p "$root/target" && exec 9>"$root/target/walnut.lock" && flock 9 || return 1
-    current "$1" && return 0
-    local before
-    before=$(sources_of "$1")
-    echo "$name: proving and building: $1; this takes a few minutes, once" >&2
-    case $1 in
-        library) make_library ;;
-        *) proving "$1" check ;;
-    esac || return 1
-    { echo "$before"; made_of "$1"; } >"$root/target/walnut-$1.stamp"
+    local each behind=() checked=() before=()
+    for each in "$@"; do
+        current "$each" && continue
+        behind+=("$each") before+=("$(sources_of "$each")")
+        [ "$each" = library ] || checked+=("$each")
+    done
+    [ ${#behind[@]} -gt 0 ] || return 0
+    echo "$name: proving and building: ${behind[*]}; this takes a few minutes, once" >&2
+    if [ ${#checked[@]} -gt 0 ]; then
+        [ ${#checked[@]} -eq ${#behind[@]} ] || checked+=(walnut)
+        proving check "${checked[@]}" || return 1
+    fi
+    [[ " ${behind[*]} " != *" library "* ]] || make_library || return 1
+    for each in "${!behind[@]}"; do
+        { echo "${before[each]}"; made_of "${behind[each]}"; } >"$root/target/walnut-${behind[each]}.stamp"
+    done
 }
 
 need() {
-    local each
-    [ "$1" != programs ] || set -- "${programs[@]}"
+    local each behind=()
+    [ "$1" != programs ] || set -- "${programs[@]}" "${@:2}"
     for each in "$@"; do
-        current "$each" && continue
-        if ! build "$each"; then
-            tail -n 5 "$log" >&2 2>/dev/null
-            echo "$name: '$each' is not proved or not built, so there is no answer. All lines of the prover are in" \
-                "'$log'. Check that rt is installed; 'bash .ci/run' shows what fails" >&2
-            exit 3
-        fi
-        exec 9>&-
+        current "$each" || behind+=("$each")
     done
+    [ ${#behind[@]} -gt 0 ] || return 0
+    if ! build "${behind[@]}"; then
+        tail -n 5 "$log" >&2 2>/dev/null
+        echo "$name: '${behind[*]}' is not proved or not built, so there is no answer. All lines of the prover are in" \
+            "'$log'. Check that rt is installed; 'bash .ci/run' shows what fails" >&2
+        exit 3
+    fi
+    exec 9>&-
 }

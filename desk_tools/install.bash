@@ -1,5 +1,5 @@
 # Sourced by ./walnut: `install PREFIX` and `bundle FILE.tar.gz`. What they install needs no toolchain, no sources and no
-# cargo: only bash, coreutils and, for show, spell and draw, python3.
+# cargo: only bash, coreutils, awk, grep and sed, and python3 for what shows, spells or draws.
 
 # sum_of_sources: the first 16 digits of the sum of what is proved.
 sum_of_sources() { sum_of crates.txt crates include | cut -c1-16; }
@@ -7,18 +7,18 @@ sum_of_sources() { sum_of crates.txt crates include | cut -c1-16; }
 # installed_in PREFIX: the command, its programs, the library, the pages and the completion.
 installed_in() {
     local share=$1/share/walnut page
-    need programs
-    need library
+    need programs library
     "$root/library" "$1" >/dev/null || return 1
-    install -d "$1/bin" "$1/libexec/walnut" "$share/desk_tools/eyes" "$share/bindings/python" "$share/docs" \
+    install -d "$1/bin" "$1/libexec/walnut" "$share/desk_tools/eyes" "$share/bindings/python/walnut" "$share/docs/slip" \
         "$1/share/man/man1" "$1/share/man/man3" "$1/share/bash-completion/completions" &&
         install -m 755 "$root/walnut" "$root/desk" "$1/bin/" &&
         install -m 755 "${programs[@]/#/$bin/}" "$1/libexec/walnut/" &&
         install -m 644 "$root"/desk_tools/*.bash "$share/desk_tools/" &&
         install -m 644 "$root"/desk_tools/eyes/*.py "$share/desk_tools/eyes/" &&
-        install -m 644 "$root/bindings/python/walnut.py" "$share/bindings/python/" &&
+        install -m 644 "$root"/bindings/python/walnut/{__init__.py,py.typed} "$share/bindings/python/walnut/" &&
         install -m 644 "$root/answers.txt" "$share/" &&
         install -m 644 "$root/docs/DESK.md" "$share/docs/" &&
+        install -m 644 "$root"/docs/slip/* "$share/docs/slip/" &&
         install -m 644 "$root/desk_tools/completion" "$1/share/bash-completion/completions/walnut" || return 1
     for page in 1 3; do
         install -m 644 "$root/desk_tools/walnut.$page" "$1/share/man/man$page/" || return 1

@@ -1,5 +1,6 @@
 # Sourced by an installed walnut. Its programs and the library stand beside it, and it builds nothing.
 # The caller sets $root to the folder share/walnut, and $name.
+self=walnut mend="Install walnut again, or tell the maintainers"
 bin=$root/../../libexec/walnut
 lib=$root/../../lib
 

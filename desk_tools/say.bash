@@ -79,23 +79,122 @@ kind_hint() {
     local kind
     for kind in key stored word moves; do
         if [ "$kind" != "$1" ] && ! "is_$1" "$2" && "is_$kind" "$2"; then
-            say "'$2' has the length of another kind of file; try: ./walnut show $kind ${2@Q}"
+            say "'$2' has the length of another kind of file; try: $self show $kind ${2@Q}"
         fi
     done
+}
+
+# ---- where a refused file is wrong. These functions set $place, in the words of `show`, and $bytes, the file's length.
+# They fail if the file is not regular, or cannot be read.
+
+# read_hex FILE MOST: sets $hex to the file's first bytes, each as a space and two hexadecimal digits, and $bytes to its
+# length.
+read_hex() {
+    [ -f "$1" ] && hex=$(od -An -v -tx1 -w"$2" -N"$2" -- "$1" 2>/dev/null) || return 1
+    bytes=$((${#hex} / 3))
+    [ "$bytes" -lt "$2" ] || bytes=$(stat -L -c %s -- "$1")
+}
+
+# part_of FIRST BYTES: sets $part to the digits of these bytes of $hex.
+part_of() {
+    part=${hex:3 * $1:3 * $2}
+    part=${part// /}
+}
+
+# digits_of BITS FIRST BYTES: sets $digits to the eight numbers of so many bits in these bytes of $hex.
+digits_of() {
+    local k part
+    part_of "$2" "$3"
+    digits=()
+    for k in 7 6 5 4 3 2 1 0; do
+        digits+=($((16#0$part >> $1 * k & (1 << $1) - 1)))
+    done
+}
+
+# place_in_matrix ANSWER NAME FIRST BYTES: adds to $place what is wrong with the matrix in these bytes of $hex.
+place_in_matrix() {
+    local part last=$(($3 + $4 - 1))
+    part_of "$3" "$4"
+    if [ "$1" = 7 ] && ((16#0${part: -1} & 7)); then
+        place+="; byte $last: ${part: -2}, whose last 3 bits, the filler after the matrix of $2, must be 0"
+    elif [ "$1" = 26 ] && [[ ! $part =~ [^0] ]]; then
+        place+="; bytes $3 to $last: the matrix of $2 has no inverse; it is zero"
+    fi
+}
+
+# place_in_key ANSWER KEY: a refused key. After 3 bytes it has the T-values, a matrix, the list and a matrix.
+place_in_key() {
+    local bits=5 size label missing= part
+    place=
+    read_hex "$2" 129 || return 1
+    [ "$bytes" -ne 128 ] || bits=8
+    size=$((7 * bits + 1))
+    local first=$((3 + bits)) list=$((3 + bits + size)) second=$((6 + bits + size))
+    case $1 in
+        1) place="a key has $(key_sizes) bytes" ;;
+        2) part_of 0 1 && place="byte 0 states $((16#0$part)) strands, not 8" ;;
+        3)
+            part_of 1 2
+            place="bytes 1 and 2 state q = $((16#0$part)); a key of $bytes bytes needs q = ${elements[$bytes]-}"
+            ;;
+        4 | 5)
+            digits_of "$bits" 3 "$bits"
+            place="bytes 3 to $((first - 1)): the T-values of the labels 0 to 7 are ${digits[*]}"
+            ;;
+        6)
+            digits_of 3 "$list" 3
+            for label in 0 1 2 3 4 5 6 7; do
+                [[ " ${digits[*]} " == *" $label "* ]] || missing+=" $label"
+            done
+            place="bytes $list to $((list + 2)): the list is ${digits[*]}; missing:$missing"
+            ;;
+        7 | 26)
+            place_in_matrix "$1" 'Pub(S)' "$first" "$size"
+            place_in_matrix "$1" "Pub(S')" "$second" "$size"
+            place=${place#; }
+            [ -n "$place" ] ||
+                place="bytes $first to $((list - 1)) or bytes $second to $((second + size - 1)): a matrix has no inverse"
+            ;;
+    esac
+}
+
+# place_in_word ANSWER WORD: a refused word.
+place_in_word() {
+    local letters row byte half part many=s
+    place=
+    read_hex "$2" 5003 || return 1
+    part_of 0 2
+    letters=$((16#0$part))
+    case $1 in
+        9) place="a word has at least 2 bytes" ;;
+        12)
+            row=${hex:6}
+            row=${row%%[7f]*}
+            byte=$((2 + ${#row} / 3)) half=$((${#row} % 3 - 1))
+            part_of "$byte" 1
+            place="byte $byte: $part, so the letter at place $((2 * byte - 4 + half)) has the code"
+            place+=" $((16#0${part:half:1})); 7 and 15 are not letters"
+            ;;
+        13) place="byte $((bytes - 1)): ${hex: -2}, whose low half is unused and must be 0" ;;
+        *)
+            [ "$letters" -ne 1 ] || many=
+            place="its first two bytes state $letters letter$many, so it needs $((2 + (letters + 1) / 2)) bytes"
+            ;;
+    esac
 }
 
 # ---- which file an answer is about
 
 # about_key ANSWER KEY: a refused key.
 about_key() {
-    local n fault=
-    n=$(size "$2") || return 0
-    case $1 in
-        1) fault="a key has $(key_sizes) bytes; " ;;
-        2) fault="byte 0 states $(($(first_two "$2") / 256)) strands, not 8; " ;;
-        3) fault="bytes 1 and 2 state q = $(first_two "$2" 1); a key of $n bytes needs q = ${elements[$n]-}; " ;;
-    esac
-    say "the key is '$2', $(count "$n" byte); ${fault}for more: ./walnut show key ${2@Q}"
+    place_in_key "$@" || return 0
+    say "the key is '$2', $(count "$bytes" byte); $place; for more: $self show key ${2@Q}"
+}
+
+# about_word ANSWER WORD: a refused word.
+about_word() {
+    place_in_word "$@" || return 0
+    say "the word is '$2', $(count "$bytes" byte); $place"
 }
 
 # digest_told KEY-BYTES DIGEST: a refused digest, with a key of so many bytes.
@@ -134,19 +233,11 @@ about_part() {
 # about_spread ANSWER LENGTH: a refused length.
 about_spread() { say "the length is '$2'; a length is a whole number from 0 to 12, without a zero in front"; }
 
-# about_word ANSWER WORD: a refused word.
-about_word() {
-    case $1 in
-        12 | 13) about_part word "$2" "for more: ./walnut show word ${2@Q}" ;;
-        *) about_length word "$2" letter word_bytes ;;
-    esac
-}
-
 # about_moves ANSWER MOVES WORD: a refused move list.
 about_moves() {
     case $1 in
         18 | 19 | 20) about_length 'move list' "$2" move moves_bytes ;;
-        *) about_part 'move list' "$2" "to see which move fails: ./walnut show moves ${2@Q} ${3@Q}" ;;
+        *) about_part 'move list' "$2" "to see which move fails: $self show moves ${2@Q} ${3@Q}" ;;
     esac
 }
 
@@ -226,7 +317,7 @@ about_converted() {
 about_restore() {
     case $1 in
         28 | 10) about_stored_sizes "$2" ;;
-        *) about_part 'stored form' "$2" "for more: ./walnut show stored ${2@Q}" ;;
+        *) about_part 'stored form' "$2" "for more: $self show stored ${2@Q}" ;;
     esac
     hex_hint "$2"
     kind_hint stored "$2"
@@ -282,7 +373,7 @@ about_round() {
 # about_shelf ANSWER SHELF VERB PUBLISHER NUMBER FILE..: a refused call of a shelf. A new round has no number.
 about_shelf() {
     local answer=$1 shelf=$2 verb=$3 publisher=$4 number=${5-}
-    local more="for what it holds: ./walnut shelf ${2@Q} show"
+    local more="for what it holds: $self shelf ${2@Q} show"
     shift $(($# < 5 ? $# : 5))
     case $answer,$verb in
         30,round) say "the publisher is '$publisher'" ;;

@@ -7,7 +7,8 @@
  * walnut_text says what failed. On an answer other than 0 no memory of the caller changes, a yes or no is no, and all
  * other results are zero. Exception: walnut_shelf_judge charges a slip's letters on 14 too.
  *
- * POINTERS. A pointer with a length must not be null, even if the length is 0. An output must not overlap an input.
+ * POINTERS. A pointer with a length may be null if the length is 0, as the data of an empty std::vector is. Every other
+ * pointer must not be null. An output must not overlap an input.
  *
  * CALLS. The library is for Linux on x86-64 (System V calling convention). It allocates nothing and keeps nothing
  * between calls, so several threads may call it at the same time. A call needs up to WALNUT_STACK_BYTES of stack.
@@ -96,8 +97,11 @@ extern "C" {
 
 /* The version of this header and of its library. The first number is also the number after libwalnut.so. */
 #define WALNUT_VERSION_MAJOR 1
-#define WALNUT_VERSION_MINOR 0
+#define WALNUT_VERSION_MINOR 1
 #define WALNUT_VERSION_PATCH 0
+
+/* The same as one number, as walnut_version gives it: 10203 is 1.2.3. */
+#define WALNUT_VERSION (10000 * WALNUT_VERSION_MAJOR + 100 * WALNUT_VERSION_MINOR + WALNUT_VERSION_PATCH)
 
 /* Marks a function whose result must be used. A compiler that knows the mark warns if a caller drops the result. */
 #if defined(__GNUC__)
@@ -145,7 +149,7 @@ enum walnut_answer {
     WALNUT_ANSWER_PARTS = 33,
     WALNUT_ANSWER_NEW_WORD_FULL = 34,
     WALNUT_ANSWER_LENGTH_OR_LIST = 35,
-    WALNUT_ANSWER_ROUND_FULL = 36,
+    WALNUT_ANSWER_ROUND_FULL = 36
     /* answers.txt: end */
 };
 
@@ -274,6 +278,11 @@ typedef struct { uint8_t answer; walnut_half half; } walnut_halved;
 
 /* The keys of two publishers and their charged letters, as FILES says. All zeros are the empty shelf. */
 typedef struct { uint8_t bytes[WALNUT_SHELF_BYTES]; } walnut_shelf;
+
+/* Gives the version of the library that the program runs with, which may be another than WALNUT_VERSION of the header
+   that it was built with: 10,000 for each major version, 100 for each minor one, 1 for each patch. There is no answer.
+   Changes nothing. */
+WALNUT_MUST_USE uint32_t walnut_version(void);
 
 /* Multiplies two elements of the field that `large` names. Answers: 17, 0. Changes nothing. */
 WALNUT_MUST_USE walnut_element walnut_product(bool large, uint8_t a, uint8_t b);

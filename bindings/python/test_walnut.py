@@ -1,6 +1,7 @@
 """What the binding adds to the library: what verify raises, names and texts of answers, letters, moves, and what is no
 input. Results are the papers' slips, or follow from the layout of the files."""
 
+import ast
 import concurrent.futures
 import copy
 import os
@@ -394,10 +395,44 @@ class Values(Case):
             self.assertEqual(pickle.loads(pickle.dumps(value)), value)
 
     def test_a_library_that_is_not_there(self):
-        environment = {**os.environ, "WALNUT_LIB_DIR": os.devnull, "PYTHONPATH": os.path.dirname(walnut.__file__)}
+        folder = os.path.dirname(os.path.dirname(walnut.__file__))
+        environment = {**os.environ, "WALNUT_LIB_DIR": os.devnull, "PYTHONPATH": folder}
         run = subprocess.run([sys.executable, "-c", "import walnut"], env=environment, capture_output=True, text=True)
         self.assertNotEqual(run.returncode, 0)
         self.assertIn(f"libwalnut.so.1 was looked for in {os.devnull}, which WALNUT_LIB_DIR names", run.stderr)
+
+
+    def test_equal_values_have_no_hash(self):
+        key = plain_key(GF32)
+        for value in (Pair.start(), walnut.read_key(key), walnut.first_half(key, bytes(32)), Shelf()):
+            self.raised(TypeError, "unhashable", hash, value)
+
+
+class Package(Case):
+    def test_the_library_has_the_version_of_the_module(self):
+        parts = [int(part) for part in walnut.__version__.split(".")]
+        self.assertEqual(walnut.version(), 10000 * parts[0] + 100 * parts[1] + parts[2])
+
+    def test_all_names_what_the_module_defines(self):
+        with open(walnut.__file__, encoding="utf-8") as file:
+            body = ast.parse(file.read()).body
+        defined = {one.name for one in body if isinstance(one, (ast.FunctionDef, ast.ClassDef))}
+        targets = [target for one in body if isinstance(one, ast.Assign) for target in one.targets]
+        defined |= {name.id for target in targets for name in ast.walk(target) if isinstance(name, ast.Name)}
+        self.assertEqual(walnut.__all__, sorted(walnut.__all__))
+        self.assertEqual(set(walnut.__all__), {name for name in defined if not name.startswith("_")})
+
+    def test_it_is_typed(self):
+        """Whether the types are right is for mypy to say. Here every function has them."""
+        self.assertTrue(os.path.exists(os.path.join(os.path.dirname(walnut.__file__), "py.typed")))
+        with open(walnut.__file__, encoding="utf-8") as file:
+            functions = [one for one in ast.walk(ast.parse(file.read())) if isinstance(one, ast.FunctionDef)]
+        for function in functions:
+            given = function.args
+            taken = [*given.posonlyargs, *given.args, *given.kwonlyargs, given.vararg, given.kwarg]
+            bare = [one.arg for one in taken if one and one.annotation is None and one.arg not in ("self", "cls")]
+            self.assertEqual((function.name, bare), (function.name, []))
+            self.assertIsNotNone(function.returns, function.name)
 
 
 if __name__ == "__main__":

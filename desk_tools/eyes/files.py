@@ -39,19 +39,21 @@ def read(path, limit):
 
 
 def write(path, data):
-    """Writes the file under another name in its folder, and renames it when it is complete. ./walnut has checked that
-    the file may be replaced."""
-    beside = os.path.join(os.path.dirname(path), f".walnut-{os.getpid()}-{os.urandom(4).hex()}")
+    """Writes the file under the name beside it that ./walnut chose, and renames it when it is complete. ./walnut has
+    checked that the file may be replaced."""
+    beside, made = os.environ["WALNUT_BESIDE"], False
     try:
         with open(beside, "xb") as file:
+            made = True
             file.write(data)
             file.flush()
             os.fsync(file.fileno())
         os.replace(beside, path)
+        made = False
     except OSError as error:
         raise OSError(error.errno, error.strerror, path) from error
     finally:
-        if os.path.exists(beside):
+        if made:
             os.remove(beside)
 
 

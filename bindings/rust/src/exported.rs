@@ -67,8 +67,8 @@ pub struct Count {
     pub words: u32,
 }
 
-/// A matrix, with its entries as WALNUT_PLACE says, a list of labels, and the inverse list: positions[a] is the
-/// position of label a in the list, counted from 1. In a pair of the caller's own, positions[labels[i]] must be i + 1
+/// A matrix, with its entries as WALNUT_PLACE says, a list of labels, and the inverse list: `positions[a]` is the
+/// position of label a in the list, counted from 1. In a pair of the caller's own, `positions[labels[i]]` must be i + 1
 /// for each i from 0 to 7.
 #[repr(C)]
 #[derive(Clone, Copy, Debug, PartialEq, Eq)]
@@ -117,6 +117,7 @@ pub struct Shelf {
 }
 
 extern "C" {
+    pub fn walnut_version() -> u32;
     pub fn walnut_product(large: bool, a: u8, b: u8) -> Element;
     pub fn walnut_reciprocal(large: bool, a: u8) -> Element;
     pub fn walnut_start() -> Pair;

@@ -1,8 +1,6 @@
-//! Letters: as codes, and as the text `b1 b2^-1 ..`.
+//! Letters, and those of a word file.
 
-use std::error::Error;
-use std::fmt;
-use std::str::FromStr;
+use core::fmt;
 
 use crate::{read_word, Refusal};
 
@@ -17,6 +15,15 @@ impl Letter {
             Some(Letter(code))
         } else {
             None
+        }
+    }
+
+    /// The letter that a text names: `b1` to `b7`, or `b1^-1` to `b7^-1`.
+    pub fn of_text(text: &str) -> Option<Letter> {
+        let (name, inverse) = text.strip_suffix("^-1").map_or((text, 0), |name| (name, 8));
+        match name.as_bytes() {
+            [b'b', digit @ b'1'..=b'7'] => Some(Letter(digit - b'1' + inverse)),
+            _ => None,
         }
     }
 
@@ -46,32 +53,6 @@ impl fmt::Display for Letter {
     fn fmt(&self, to: &mut fmt::Formatter<'_>) -> fmt::Result {
         write!(to, "b{}{}", self.generator(), if self.is_inverse() { "^-1" } else { "" })
     }
-}
-
-/// What was given is the text of no letter: letters are b1 to b7 and b1^-1 to b7^-1.
-#[derive(Clone, Debug, PartialEq, Eq)]
-pub struct NoLetter(pub String);
-
-impl fmt::Display for NoLetter {
-    fn fmt(&self, to: &mut fmt::Formatter<'_>) -> fmt::Result {
-        write!(to, "{:?} is no letter: letters are b1 to b7 and b1^-1 to b7^-1", self.0)
-    }
-}
-
-impl Error for NoLetter {}
-
-impl FromStr for Letter {
-    type Err = NoLetter;
-
-    fn from_str(text: &str) -> Result<Letter, NoLetter> {
-        let mut letters = (0..15).filter_map(Letter::of_code);
-        letters.find(|letter| letter.to_string() == text).ok_or_else(|| NoLetter(text.to_string()))
-    }
-}
-
-/// The codes of letters as text, with spaces or line ends between them: what [`write_word`](crate::write_word) takes.
-pub fn codes(text: &str) -> Result<Vec<u8>, NoLetter> {
-    text.split_whitespace().map(|letter| letter.parse().map(Letter::code)).collect()
 }
 
 /// The letters of a word file, first to last.

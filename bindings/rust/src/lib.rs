@@ -6,21 +6,38 @@
 //! like stands in `walnut.h`, under FILES.
 //!
 //! Many words verify for one digest, so a word's bytes are no identity of a slip.
+//!
+//! The crate needs no std. The feature `alloc`, which is on by default, adds what needs an allocator: move lists, the
+//! codes of letters as text, and letters parsed with an error. Without it the crate needs core alone.
+
+#![no_std]
+#![cfg_attr(not(feature = "alloc"), allow(rustdoc::broken_intra_doc_links))]
+
+#[cfg(feature = "alloc")]
+extern crate alloc;
+#[cfg(test)]
+extern crate std;
 
 mod exported;
 mod letters;
 mod limits;
+#[cfg(feature = "alloc")]
 mod moves;
 mod refusal;
+#[cfg(feature = "alloc")]
+mod text;
 
 use exported::*;
 use refusal::granted;
 
 pub use exported::{Pair, Shelf};
-pub use letters::{codes, letters, Letter, Letters, NoLetter};
+pub use letters::{letters, Letter, Letters};
 pub use limits::*;
+#[cfg(feature = "alloc")]
 pub use moves::{Move, Moves};
 pub use refusal::Refusal;
+#[cfg(feature = "alloc")]
+pub use text::{codes, NoLetter};
 
 /// One of the two fields, with the sizes that go with it. A key knows its field.
 #[derive(Clone, Copy, Debug, PartialEq, Eq, Hash)]
@@ -91,6 +108,12 @@ pub struct Half {
 
 // In every function below the pointers come from references and slices that live through the call, each with its
 // own length, and what is written is lent uniquely. The exported functions take any bytes.
+
+/// The version of the library as one number: 10,000 for each major version, 100 for each minor one, 1 for each patch.
+pub fn version() -> u32 {
+    // SAFETY: nothing passes.
+    unsafe { walnut_version() }
+}
 
 /// The product of two elements of a field.
 pub fn product(field: Field, a: u8, b: u8) -> Result<u8, Refusal> {

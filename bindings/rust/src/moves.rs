@@ -1,5 +1,7 @@
 //! Move lists, move by move.
 
+use alloc::vec::Vec;
+
 use crate::{rewrite, Letter, Refusal, WORD_BYTES};
 
 /// A move: its place, counted from 0 in the word that the moves before it left, and its kind.

@@ -1,7 +1,7 @@
 //! Answers other than 0.
 
-use std::error::Error;
-use std::fmt;
+use core::error::Error;
+use core::fmt;
 
 /// What failed, for each number.
 fn text(number: u8) -> &'static str {
@@ -140,10 +140,10 @@ impl Refusal {
     }
 }
 
-/// The number alone.
+/// The number and what failed, so that an `unwrap` says it too.
 impl fmt::Debug for Refusal {
     fn fmt(&self, to: &mut fmt::Formatter<'_>) -> fmt::Result {
-        write!(to, "Refusal({})", self.0)
+        to.debug_tuple("Refusal").field(&self.0).field(&self.text()).finish()
     }
 }
 
@@ -168,6 +168,7 @@ pub(crate) fn granted<T>(answer: u8, value: T) -> Result<T, Refusal> {
 #[cfg(test)]
 mod tests {
     use super::*;
+    use std::string::ToString;
 
     #[test]
     fn an_unknown_number_is_a_refusal_too() {

@@ -28,6 +28,13 @@ fn sizes_go_together() {
     assert_eq!((WORD_BYTES, MOVES_BYTES), (2 + LETTERS / 2, 2 + 3 * MOVES));
 }
 
+/// 10,000 for each major version, 100 for each minor one, 1 for each patch.
+#[test]
+fn the_library_has_the_version_of_the_crate() {
+    let parts = env!("CARGO_PKG_VERSION").split('.').map(|part| part.parse::<u32>().unwrap());
+    assert_eq!(walnut::version(), parts.fold(0, |number, part| 100 * number + part));
+}
+
 #[test]
 fn verdicts_are_results() {
     for field in [Gf32, Gf256] {
@@ -72,7 +79,8 @@ fn refusals_are_errors_with_number_and_text() {
     assert!(error.to_string().starts_with("14: the matrices differ"));
     assert_eq!(Refusal::MATRICES_DIFFER.number(), 14);
     assert_eq!(Refusal::NO_INVERSE.number(), 26);
-    assert_eq!(format!("{:?}", Refusal::NO_INVERSE), "Refusal(26)");
+    let shown = format!("{:?}", Refusal::NO_INVERSE);
+    assert_eq!(shown, r#"Refusal(26, "a matrix of the key, or of a half, has no inverse")"#);
     // a name in a pattern
     assert!(matches!(walnut::reciprocal(Gf32, 0), Err(Refusal::ZERO)));
     assert!(matches!(walnut::product(Gf32, 32, 1), Err(Refusal::NO_ELEMENT)));
@@ -146,6 +154,7 @@ fn a_letter_is_its_code_its_text_and_its_parts() {
     assert_eq!(letters.len(), 14);
     for letter in letters {
         assert_eq!(letter.to_string().parse(), Ok(letter));
+        assert_eq!(Letter::of_text(&letter.to_string()), Some(letter));
         assert_eq!(letter.generator() - 1 + if letter.is_inverse() { 8 } else { 0 }, letter.code());
         assert_eq!(letter.inverse().generator(), letter.generator());
         assert_ne!(letter.inverse().is_inverse(), letter.is_inverse());

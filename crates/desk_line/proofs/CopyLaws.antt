@@ -2,7 +2,7 @@
 -- answer.
 use Prim.Native.Nat.{ℕ}
 use mathlib.Core.Path.{_≡_, sym, ap, subst, _∙_}
-use mathlib.Core.Bool.{true, false}
+use mathlib.Core.Bool.{Bool, true, false, _&&_}
 use mathlib.Core.List.{List}
 use native.Mathlib.Decide.{ℕ-discrete}
 use lib.ListN.{take}
@@ -13,7 +13,7 @@ use Rattle.slip_verdict.specs.Halves.{MakesHalf, secondHalfQuestions}
 use Rattle.slip_verdict.specs.Verdict.{verdict}
 use Rattle.slip_verdict.proofs.WholeFromHalves.{whole-is-its-halves, refused-by-the-first}
 use Rattle.desk_line.specs.Desk.{answerLine, filesLine, Tells}
-use Rattle.desk_line.specs.Copies.{copyAnswer, GivesVerdicts, noAnswerLine, copyLine}
+use Rattle.desk_line.specs.Copies.{copyAnswer, GivesVerdicts, noAnswerLine, copyLine, slipLine}
 use Rattle.desk_line.specs.declared.Got.{Got}
 
 module _ (made : Halved) (word : List ℕ) where
@@ -46,6 +46,18 @@ module _ (made : Halved) (got : Got) (word : List ℕ) where
       → Tells (copyLine made got word) bytes text
   unfolding copyLine
   copy-not-read e t = rw e t
+
+-- the line on one of several slips: all its files could be read, or one of them could not
+module _ (k d w : Got) (key digest word : List ℕ) where
+  pub slip-read : {read : Bool} {bytes : ℕ} {text : List ℕ} → read ≡ k .read && d .read && w .read → read ≡ true
+      → Tells (filesLine k d w key digest word) bytes text → Tells (slipLine k d w key digest word) bytes text
+  unfolding slipLine
+  slip-read e t s = rw (sym e ∙ t) s
+
+  pub slip-not-read : {read : Bool} {bytes : ℕ} {text : List ℕ} → read ≡ k .read && d .read && w .read → read ≡ false
+      → Tells noAnswerLine bytes text → Tells (slipLine k d w key digest word) bytes text
+  unfolding slipLine
+  slip-not-read e t s = rw (sym e ∙ t) s
 
 -- the line on a copy is the line on the slip in three files, where all three could be read
 pub copy-as-files : (made : Halved) (k d w : Got) (key digest word : List ℕ)

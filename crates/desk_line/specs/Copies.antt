@@ -10,7 +10,7 @@ use Rattle.text.specs.Texts.{line}
 use Rattle.slip_verdict.specs.declared.Halved.{Halved}
 use Rattle.slip_verdict.specs.Halves.{MakesHalf, secondHalfQuestions}
 use Rattle.slip_verdict.specs.Verdict.{verdict}
-use Rattle.desk_line.specs.Desk.{answerWord, answerLine}
+use Rattle.desk_line.specs.Desk.{answerWord, answerLine, filesLine}
 use Rattle.desk_line.specs.declared.Got.{Got}
 
 -- What key and digest give for all copies, of each of which the buffer's first bytes were read: could both be read, and
@@ -37,3 +37,8 @@ noAnswerLine = line ((110 ∷ 111 ∷ []) ∷ answerWord ∷ [])
 -- not be read. So each copy has its line.
 unfoldable pub copyLine : Halved → Got → List ℕ → List ℕ
 copyLine made got word = cond (got .read) (answerLine (copyAnswer made (take (got .bytes) word))) noAnswerLine
+
+-- The line on one of several slips, each in three files: the line on its files, or "no answer" if one of them could not
+-- be read. So each slip has its line.
+unfoldable pub slipLine : Got → Got → Got → List ℕ → List ℕ → List ℕ → List ℕ
+slipLine k d w key digest word = cond (k .read && d .read && w .read) (filesLine k d w key digest word) noAnswerLine

@@ -8,7 +8,8 @@ ghost use lib.ListN.{length, replicate};
 ghost use Rattle.base.specs.Digits.{value, part as partOf};
 ghost use Rattle.desk_line.specs.Desk.{cutVerdict, deskVerdict, answerLine, inputLine, filesLine, Tells};
 ghost use Rattle.desk_line.specs.Desk.{EnoughOfInput, EnoughOfFiles};
-ghost use Rattle.desk_line.specs.Copies.{FirstHalfOf, copyAnswer, GivesVerdicts, noAnswerLine, copyLine};
+ghost use Rattle.desk_line.specs.Copies.{FirstHalfOf, copyAnswer, GivesVerdicts, noAnswerLine};
+ghost use Rattle.desk_line.specs.Copies.{copyLine, slipLine};
 use slip_verdict::Halved;
 
 // The bytes of a key and of a digest, over GF(32) and over GF(256), and the most that a signature has.
@@ -191,6 +192,31 @@ pub fn files_line(
         return Line::none();
     }
     answer_line(slip_verdict::verify(k_read, d_read, w_read))
+}
+
+// The line on one of several slips in files. If one of its three files could not be read, the line is "no answer".
+pub fn slip_line(
+    key: &[u8; KEY_ROOM],
+    digest: &[u8; DIGEST_ROOM],
+    word: &[u8; WORD_ROOM],
+    k: Got,
+    d: Got,
+    w: Got,
+) -> Line
+    ensures { λ r.
+        ⌜
+        Tells (slipLine k d w (now (key .entry)) (now (digest .entry)) (now (word .entry))) (r .bytes) (r .text)
+        ⌝ }
+    ensures { λ _.
+        ⌜
+        EnoughOfFiles (length (now (key .entry))) (length (now (digest .entry))) (length (now (word .entry)))
+        ⌝ }
+{
+    let line = files_line(key, digest, word, k, d, w);
+    if !all_read(k, d, w) {
+        return Line::no_answer();
+    }
+    line
 }
 
 // What key and digest give for all copies of a slip: could both files be read, and the first half of the verdict on the

@@ -7,62 +7,6 @@ use desk_words::Made;
 ghost use Prim.Native.Nat.{_<_};
 ghost use Rattle.io.specs.Counts.{Counts};
 
-mod shelves; // shelves.rt: a key shelf in a file
-
-pub use shelves::key_shelf;
-
-// Writes the bytes to a new file. If it is the only new file, waits until they have reached the device.
-fn saved(fd: i32, bytes: &[u8], alone: bool) -> bool {
-    if !io::write_all(fd, bytes) {
-        return false;
-    }
-    !alone || libc::fsync(fd) == 0
-}
-
-// Writes the bytes to a new file at `beside`, and then gives it the name `new`. If a step fails, `new` is unchanged and
-// the file at `beside` is removed. If a file stood at `beside` before, it stays, and no file is made.
-fn put(beside: &[u8], new: &[u8], bytes: &[u8], alone: bool) -> bool {
-    let fd = os::create(beside);
-    if fd < 0 {
-        os::fail(new);
-        return false;
-    }
-    if !saved(fd, bytes, alone) {
-        os::fail(new);
-        libc::close(fd);
-        os::unlink(beside);
-        return false;
-    }
-    if libc::close(fd) != 0 {
-        os::fail(new);
-        os::unlink(beside);
-        return false;
-    }
-    if os::rename(beside, new) != 0 {
-        os::fail(new);
-        os::unlink(beside);
-        return false;
-    }
-    true
-}
-
-// Writes a new file like `put`. Both names are given by their places among the arguments.
-fn put_at(beside: usize, new: usize, bytes: &[u8], alone: bool) -> bool {
-    let mut first = io::buffer();
-    let n = os::arg(beside, &mut first);
-    if os::errno() != 0 {
-        os::fail(b"name of a file");
-        return false;
-    }
-    let mut second = io::buffer();
-    let m = os::arg(new, &mut second);
-    if os::errno() != 0 {
-        os::fail(b"name of a file");
-        return false;
-    }
-    put(&first[..n], &second[..m], bytes, alone)
-}
-
 // The number of letters of a word's file, or the number that a stored form states.
 fn letters(file: &[u8], stored: bool) -> usize {
     if stored && 2 <= file.len() {
@@ -85,10 +29,6 @@ fn sizes(old: &[u8], new: &[u8], from_stored: bool, to_stored: bool) {
     print::number(new.len());
 }
 
-fn tell(answer: u8) {
-    desk_io::tell(desk_line::answer_line(answer));
-}
-
 // What was made of a file goes to the file that argument `new` names, and its answer to standard output. Says whether a
 // file was written.
 fn placed(made: Made, new: usize, alone: bool) -> bool
@@ -101,11 +41,11 @@ fn placed(made: Made, new: usize, alone: bool) -> bool
     let answer = made.answer;
     let file = made.file;
     let bytes = made.bytes;
-    if answer == 0 && !put_at(2, new, &file[..bytes], alone) {
+    if answer == 0 && !desk_put::put_at(2, new, &file[..bytes], alone) {
         print::text(b"not written\n");
         return false;
     }
-    tell(answer);
+    desk_put::tell(answer);
     answer == 0
 }
 
@@ -129,30 +69,28 @@ fn number_at(at: usize) -> usize {
     desk_number::number_of(&name[..n])
 }
 
-// One slip: digest, signature and new signature are the three arguments from a place on.
-fn slip(key: &[u8; desk_line::KEY_ROOM], k: Got, at: usize, alone: bool, effort: u16)
-    requires { ⌜ at < 18446744073709551614 ⌝ }
-{
-    let mut digest = [0u8; desk_line::DIGEST_ROOM];
-    let mut word = [0u8; desk_line::WORD_ROOM];
-    let d = desk_io::file(at, &mut digest);
-    let w = desk_io::file(at + 1, &mut word);
-    let made = desk_words::shorten(key, &digest, &word, k, d, w, effort);
-    let n = w.bytes;
-    end(made, text::part(&word, 0, n), at + 2, alone, false, false);
-}
-
-// Shortens slips under one key: a name beside the new files, the effort, the key, then digest, signature and new
-// signature of each slip. Of many slips none is waited for.
-fn shorten(arguments: usize, effort: u16)
-    requires { ⌜ 7 < arguments ⌝ }
+// One slip: key, digest, signature and new signature are the four arguments from a place on.
+fn slip(at: usize, alone: bool, effort: u16)
+    requires { ⌜ at < 18446744073709551613 ⌝ }
 {
     let mut key = [0u8; desk_line::KEY_ROOM];
-    let k = desk_io::file(4, &mut key);
-    let n = (arguments - 2) / 3;
+    let mut digest = [0u8; desk_line::DIGEST_ROOM];
+    let mut word = [0u8; desk_line::WORD_ROOM];
+    let k = desk_io::file(at, &mut key);
+    let d = desk_io::file(at + 1, &mut digest);
+    let w = desk_io::file(at + 2, &mut word);
+    let made = desk_words::shorten(&key, &digest, &word, k, d, w, effort);
+    let n = w.bytes;
+    end(made, text::part(&word, 0, n), at + 3, alone, false, false);
+}
+
+// Shortens slips: a name beside the new files, the effort, then key, digest, signature and new signature of each slip.
+// Of many slips none is waited for.
+fn shorten(arguments: usize, effort: u16) {
+    let n = arguments / 4;
     let mut i = 1;
     while i < n {
-        slip(&key, k, 3 * i + 2, n == 2, effort);
+        slip(4 * i, n == 2, effort);
         i += 1;
     }
 }
@@ -247,14 +185,14 @@ fn convert(way: bool) {
     end(made, text::part(&word, 0, n), 5, true, false, false);
 }
 
-// The program: its verb, and the number of names that this verb takes. Of many slips each has three.
+// The program: its verb, and the number of names that this verb takes. Of many slips each has four.
 pub fn new_word() {
     let mut name = io::buffer();
     let m = os::arg(1, &mut name);
     let verb = &name[..m];
     let n = os::arg_count();
     let effort = number_at(3);
-    if base::equal(verb, b"shorten") && 7 < n && n % 3 == 2 && effort < desk_number::NONE {
+    if base::equal(verb, b"shorten") && 7 < n && n % 4 == 0 && effort < desk_number::NONE {
         shorten(n, effort as u16);
     } else if base::equal(verb, b"rewrite") && n == 6 {
         rewrite();

@@ -13,7 +13,7 @@ ghost use Rattle.slip_verdict.specs.Halves.{MakesHalf, secondHalfQuestions};
 ghost use Rattle.slip_cloaking.specs.Cloaking.{Cloaks};
 ghost use Rattle.move_rewriter.specs.Rewriter.{Rewrote};
 ghost use Rattle.handle_reducer.specs.Reducing.{TookHandles};
-ghost use Rattle.walnut.specs.Exported.{keyFrom, halfFrom};
+ghost use Rattle.walnut.specs.Exported.{version, keyFrom, halfFrom};
 ghost use Rattle.word_reduction.specs.Reducer.{WroteReduced};
 ghost use Rattle.word_stored.specs.Stored.{WroteStored, WroteRestored};
 ghost use Rattle.word_dialect.specs.Dialect.{toY, fromY, WroteConverted};
@@ -61,6 +61,14 @@ pub struct HalfForC {
 pub struct HalvedForC {
     pub answer: u8,
     pub half: HalfForC,
+}
+
+// The version of the library as one number: 10,000 for each major version, 100 for each minor one, 1 for each patch.
+#[no_mangle]
+pub extern "C" fn walnut_version() -> u32
+    ensures { λ r. ⌜ r ≡ version ⌝ }
+{
+    10100
 }
 
 #[no_mangle]

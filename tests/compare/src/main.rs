@@ -11,7 +11,8 @@
 //! say how many cases were compared for each operation and each program, and how many cloaking words were inserted.
 
 mod case;
-// the declarations of the Rust binding, which are private there
+// the declarations of the Rust binding, which are private there; the version is not compared
+#[allow(dead_code)]
 #[path = "../../../bindings/rust/src/exported.rs"]
 mod exported;
 mod fixed;

@@ -80,11 +80,13 @@ mod tests {
     use super::*;
     use crate::operation::Operation;
 
-    /// The list has every function that the Rust binding declares, in the same order.
+    /// The list has every function that the Rust binding declares, in the same order. Exception: the version is no
+    /// operation of the papers; the tests of the bindings compare it with the header's.
     #[test]
     fn every_export_is_listed() {
         let declared = include_str!("../../../bindings/rust/src/exported.rs");
         let declared = declared.split("pub fn walnut_").skip(1).map(|text| text.split('(').next());
+        let declared = declared.filter(|name| *name != Some("version"));
         let listed = ALL.map(|operation| Some(operation.facts().name));
         assert_eq!(declared.collect::<Vec<_>>(), listed);
     }

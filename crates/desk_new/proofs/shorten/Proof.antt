@@ -1,4 +1,4 @@
--- `desk_new::shorten` is safe and ends: three arguments a slip, so that no place is past the last. The measure is the
+-- `desk_new::shorten` is safe and ends: four arguments a slip, so that no place is past the last. The measure is the
 -- number of slips that are left.
 use Prim.Native.Nat.{_-_, _*_, _≤_}
 use borrow.Author.Needs.{needs}
@@ -6,10 +6,10 @@ use Rattle.desk_new.proofs.shorten.Statement.{statement}
 use Rattle.desk_new.proofs.shorten.Tie as tie
 
 abbrev Inv-loop : tie.InvT-loop
-Inv-loop arguments effort key k n i₀ i = 3 * n ≤ 18446744073709551613
+Inv-loop arguments effort n i₀ i = 4 * n ≤ 18446744073709551615
 
 abbrev μ-loop : tie.MeasureT-loop
-μ-loop arguments effort key k n i₀ i = n - i
+μ-loop arguments effort n i₀ i = n - i
 
 pub shorten-spec : {M : Type 1} → statement M
 shorten-spec =
@@ -17,10 +17,6 @@ shorten-spec =
     (tie.spec
     Inv-loop
     μ-loop
-    (λ c. search needs)
-    (λ c κs. search needs)
-    (λ c. search needs)
-    (λ c. search needs)
     (λ c. search needs)
     (λ c. search needs)
     (λ c κs. search needs)

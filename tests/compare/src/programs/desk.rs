@@ -1,5 +1,5 @@
 //! The program `desk`, in its three forms: a slip on standard input, a slip in three files, and several copies of a
-//! slip in files. Each line that it writes must have the reference's answer.
+//! slip in files; and the program `slips`, on the same files. Each line must have the reference's answer.
 
 use std::ffi::OsStr;
 use std::fs;
@@ -125,20 +125,22 @@ impl Desk<'_> {
         Ok(())
     }
 
-    /// Compares the slip in three files.
+    /// Compares the slip in three files, by both programs.
     fn on_files(&mut self, slip: &Slip) -> Checked {
         let parts = [&slip.key, &slip.digest, &slip.word].map(Vec::as_slice);
         let named = ["the key", "the digest", "the signature"].into_iter().zip(parts);
         let paths = named.map(|(name, part)| self.written(name, part)).collect::<Checked<Vec<_>>>()?;
         let answer = verify(parts[0], parts[1], parts[2]);
-        let output = self.on_paths(&paths)?;
-        held("desk on three files", &parts, &output, &[Some(answer)])?;
+        for program in ["desk", "slips"] {
+            let output = self.on_paths(program, &paths)?;
+            held(&format!("{program} on three files"), &parts, &output, &[Some(answer)])?;
+        }
         self.by_files.count(field_of_key(parts[0]), answer);
         Ok(())
     }
 
-    /// Compares several copies of a slip in files. `None` stands for a copy whose file does not exist. The program must
-    /// write a line for each copy, in order.
+    /// Compares several copies of a slip in files. For `slips` each copy is a slip. `None` stands for a copy whose file
+    /// does not exist. The programs must write a line for each copy, in order.
     fn on_copies(&mut self, key: &[u8], digest: &[u8], words: &[Option<Vec<u8>>]) -> Checked {
         let mut paths = vec![self.written("the key", key)?, self.written("the digest", digest)?];
         for (place, word) in words.iter().enumerate() {
@@ -149,10 +151,13 @@ impl Desk<'_> {
         }
         let judged = |word: &Option<Vec<u8>>| word.as_ref().map(|word| verify(key, digest, word));
         let answers: Vec<Option<u8>> = words.iter().map(judged).collect();
-        let output = self.on_paths(&paths)?;
+        let output = self.on_paths("desk", &paths)?;
         let parts: Vec<&[u8]> =
             [key, digest].into_iter().chain(words.iter().flatten().map(Vec::as_slice)).collect();
         held("desk on copies", &parts, &output, &answers)?;
+        let slips: Vec<PathBuf> =
+            paths[2..].iter().flat_map(|copy| [paths[0].clone(), paths[1].clone(), copy.clone()]).collect();
+        held("slips", &parts, &self.on_paths("slips", &slips)?, &answers)?;
         for answer in answers {
             match answer {
                 Some(answer) => self.by_copies.count(field_of_key(key), answer),
@@ -162,9 +167,9 @@ impl Desk<'_> {
         Ok(())
     }
 
-    fn on_paths(&self, paths: &[PathBuf]) -> Checked<Output> {
+    fn on_paths(&self, program: &str, paths: &[PathBuf]) -> Checked<Output> {
         let arguments: Vec<&OsStr> = paths.iter().map(|path| path.as_os_str()).collect();
-        ran(&self.programs.join("desk"), &arguments, &[])
+        ran(&self.programs.join(program), &arguments, &[])
     }
 
     /// Compares the slip on standard input and in three files.
@@ -176,7 +181,7 @@ impl Desk<'_> {
     /// Checks the program on files that cannot all be read, or on fewer than three files. It must write nothing to
     /// standard output, and an account to standard error.
     fn unanswered(&mut self, paths: &[PathBuf]) -> Checked {
-        let output = self.on_paths(paths)?;
+        let output = self.on_paths("desk", paths)?;
         if !output.stdout.is_empty() || output.stderr.is_empty() {
             let found = String::from_utf8_lossy(&output.stdout);
             return Err(format!(

@@ -1,6 +1,6 @@
-// A key shelf that a file holds. `desk_shelf` decides what is answered, and which shelf is written. The arguments are
-// the verb, a name beside the new file's place, the old file, the new file and the publisher. Load, clear and judge
-// take the key number and their files too.
+// Reads a key shelf in a file, and writes the new one. `desk_shelf` decides what is answered, and which shelf is
+// written. The arguments are the verb, a name beside the new file's place, the old file, the new file and the
+// publisher. Load, clear and judge take the key number and their files too.
 use desk_shelf::Served;
 
 // Is the shelf written? After judging, if a verdict changed it; after any other work, if the work was accepted.
@@ -25,11 +25,11 @@ fn end(served: Served, old: &[u8; desk_shelf::SHELF_ROOM], judges: bool) {
     let shelf = served.shelf;
     let before = text::part(old, 0, desk_shelf::SHELF_ROOM - 1);
     let same = base::equal(before, &shelf);
-    if is_written(judges, answer, same) && !crate::put_at(2, 4, &shelf, true) {
+    if is_written(judges, answer, same) && !desk_put::put_at(2, 4, &shelf, true) {
         print::text(b"not written\n");
         return;
     }
-    crate::tell(answer);
+    desk_put::tell(answer);
 }
 
 // Loads a key.

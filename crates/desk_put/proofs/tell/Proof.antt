@@ -1,9 +1,9 @@
--- `desk_new::tell` is safe: the line lies within its text.
+-- `desk_put::tell` is safe: the line lies within its text.
 use borrow.Author.Needs.{needs}
 use Rattle.io.proofs.Counting.{counts}
 use Rattle.text.proofs.TextLaws.{told-within}
-use Rattle.desk_new.proofs.tell.Statement.{statement}
-use Rattle.desk_new.proofs.tell.Tie as tie
+use Rattle.desk_put.proofs.tell.Statement.{statement}
+use Rattle.desk_put.proofs.tell.Tie as tie
 
 tell-requires : tie.Need-tell-requires
 tell-requires c κs = counts _ _ (told-within (c .answer-line .ensures))

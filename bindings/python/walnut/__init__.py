@@ -8,16 +8,27 @@ lists look like stands in walnut.h, under FILES.
 Many words verify for one digest, so a word's bytes are no identity of a slip.
 
 The shared library libwalnut.so.1 is looked for in the folder that the environment variable WALNUT_LIB_DIR names;
-without it beside this file, and then where the system looks for libraries.
+without it beside this file, and then where the system looks for libraries. Another library, and one of another version
+than this module, raises OSError.
 """
 
 import ctypes
 import enum
 import operator
 import os
-from typing import Any, Iterable, List, Optional, Tuple, Union
+from typing import Any, Iterable, List, Optional, Tuple, TypeVar, Union
 
-__version__ = "1.0.0"
+__version__ = "1.1.0"
+
+__all__ = [
+    "Answer", "Bytes", "DIGEST_BYTES", "Field", "GF256", "GF32", "Half", "KEY_BYTES", "Key", "LARGE_DIGEST_BYTES",
+    "LARGE_KEY_BYTES", "LETTERS", "Letter", "MOVES", "MOVES_BYTES", "Move", "Pair", "REMOVE", "Refusal", "SHELF_BYTES",
+    "SPREAD_LENGTH", "STACK_BYTES", "STORED_BYTES", "SWAP", "Shelf", "TEXTS", "TURN", "WORD_BYTES", "cloaks", "codes",
+    "crossings", "encode_digest", "file_entries", "first_half", "free_reduce", "from_y", "handle_reduce", "insert",
+    "letter_code", "letter_text", "place", "product", "read_key", "read_moves", "read_word", "reciprocal",
+    "replace_pair", "restore", "rewrite", "second_half", "shorten", "shorter", "spelled", "store", "text", "to_y",
+    "verdict", "verify", "version", "words_ending", "write_key", "write_moves", "write_word",
+]
 
 # walnut.h: begin; tools/interface writes these lines
 from ctypes import POINTER, Structure, c_bool, c_char_p, c_int32, c_size_t, c_uint16, c_uint32, c_uint8
@@ -139,6 +150,7 @@ class _Shelf(Structure):
 
 # of each exported function: what it gives, then what it takes
 _FUNCTIONS: Any = {
+    "walnut_version": (c_uint32,),
     "walnut_product": (_Element, c_bool, c_uint8, c_uint8),
     "walnut_reciprocal": (_Element, c_bool, c_uint8),
     "walnut_start": (_Pair,),
@@ -314,20 +326,45 @@ def _library() -> ctypes.CDLL:
     else:
         path = beside if os.path.exists(beside) else name
     try:
-        return ctypes.CDLL(path)
+        library = ctypes.CDLL(path)
     except OSError as error:
         folder = os.path.dirname(beside)
         looked = f"{named}, which WALNUT_LIB_DIR names" if named else f"{folder} and the system's folders"
         raise OSError(f"{name} was looked for in {looked}: {error}") from error
+    _declare(library, path)
+    return library
+
+
+_HELP = "build it by './library' and name its folder by WALNUT_LIB_DIR, or install the wheel, which has its own"
+
+
+def _declare(library: ctypes.CDLL, path: str) -> None:
+    """Gives the functions their types. Another library, an older one and a newer one are refused."""
+    for name, (result, *taken) in _FUNCTIONS.items():
+        function = getattr(library, name, None)
+        if function is None:
+            fault = f"it has no function {name}, so it is another library or an older one"
+            raise OSError(f"{path} does not fit walnut {__version__}: {fault}; {_HELP}")
+        function.restype, function.argtypes = result, taken
+        if name == "walnut_version":
+            _compare(function(), path)
+
+
+def _compare(found: int, path: str) -> None:
+    """The patch may be newer. Another minor version may have other functions and structs."""
+    major, minor, patch = map(int, __version__.split("."))
+    if not 10000 * major + 100 * minor + patch <= found < 10000 * major + 100 * (minor + 1):
+        shown = f"{found // 10000}.{found // 100 % 100}.{found % 100}"
+        fault = f"it has version {shown}, and {__version__} or a later patch of {major}.{minor} is needed"
+        raise OSError(f"{path} does not fit walnut {__version__}: {fault}; {_HELP}")
 
 
 _lib = _library()
-for _name, (_result, *_taken) in _FUNCTIONS.items():
-    _function = getattr(_lib, _name)
-    _function.restype, _function.argtypes = _result, _taken
+
+_Value = TypeVar("_Value")
 
 
-def _granted(answer: int, value: Any = None) -> Any:
+def _granted(answer: int, value: _Value) -> _Value:
     if answer:
         raise Refusal(answer)
     return value
@@ -554,15 +591,14 @@ class Pair:
     def multiply(self, field: Field, t_values: Bytes, letter: Letter) -> None:
         """Multiplies a letter into the pair, over a field. On a refusal the pair is as it was."""
         lent = self._lent()
-        _granted(_lib.walnut_multiply(lent, _large(field), _fixed(t_values, 8, "t_values"), letter_code(letter)))
+        code = letter_code(letter)
+        _granted(_lib.walnut_multiply(lent, _large(field), _fixed(t_values, 8, "t_values"), code), None)
         self.matrix, self.labels, self.positions = bytes(lent.matrix), bytes(lent.labels), bytes(lent.positions)
 
     def __eq__(self, other: object) -> bool:
         if not isinstance(other, Pair):
             return NotImplemented
         return vars(self) == vars(other)
-
-    __hash__ = None  # type: ignore[assignment]
 
     def __repr__(self) -> str:
         return f"walnut.Pair({_shown(self.matrix)}, {_shown(self.labels)}, {_shown(self.positions)})"
@@ -581,8 +617,6 @@ class Key:
         if not isinstance(other, Key):
             return NotImplemented
         return vars(self) == vars(other)
-
-    __hash__ = None  # type: ignore[assignment]
 
     def __repr__(self) -> str:
         return f"walnut.Key({self.field!r}, {_shown(self.t_values)}, {self.pair!r}, {_shown(self.second)})"
@@ -606,8 +640,6 @@ class Half:
         if not isinstance(other, Half):
             return NotImplemented
         return vars(self) == vars(other)
-
-    __hash__ = None  # type: ignore[assignment]
 
     def __repr__(self) -> str:
         return f"walnut.Half({self.field!r}, {_shown(self.t_values)}, {self.pair!r}, {_shown(self.target)})"
@@ -652,14 +684,12 @@ class Shelf:
         small = [_small(number, name) for number, name in zip(numbers, ("publisher", "number"))]
         answer = function(lent, *small, *_slices(**parts))
         self._bytes = bytes(lent)
-        _granted(answer)
+        _granted(answer, None)
 
     def __eq__(self, other: object) -> bool:
         if not isinstance(other, Shelf):
             return NotImplemented
         return vars(self) == vars(other)
-
-    __hash__ = None  # type: ignore[assignment]
 
     def __repr__(self) -> str:
         return f"walnut.Shelf({_shown(self._bytes)})"
@@ -670,6 +700,13 @@ def _shown(data: bytes) -> str:
 
 
 # ---- the operations
+
+
+def version() -> int:
+    """The version of the library as one number: 10,000 for each major version, 100 for each minor one, 1 for each
+    patch."""
+    number: int = _lib.walnut_version()
+    return number
 
 
 def product(field: Field, a: int, b: int) -> int:
@@ -796,12 +833,13 @@ def shorten(word: Bytes, effort: int = 5) -> bytes:
 def verify(key: Bytes, digest: Bytes, word: Bytes) -> None:
     """Returns nothing where the word is a signature of the digest under the key, over the key's field, and raises
     Refusal where not: with 14 if each file is right and the word is no signature."""
-    _granted(verdict(key, digest, word))
+    _granted(verdict(key, digest, word), None)
 
 
 def verdict(key: Bytes, digest: Bytes, word: Bytes) -> int:
     """The verdict's number: 0 where verify returns, else the refusal's. As a condition it is true on a failure."""
-    return _lib.walnut_verify(*_slices(key=key, digest=digest, word=word))
+    answer: int = _lib.walnut_verify(*_slices(key=key, digest=digest, word=word))
+    return answer
 
 
 def first_half(key: Bytes, digest: Bytes) -> Half:
@@ -817,7 +855,7 @@ def second_half(half: Half, word: Bytes) -> None:
     26 first."""
     if not isinstance(half, Half):
         raise TypeError(f"half: a Half is needed, not {type(half).__name__}")
-    _granted(_lib.walnut_second_half(half._lent(), *_slices(word=word)))
+    _granted(_lib.walnut_second_half(half._lent(), *_slices(word=word)), None)
 
 
 def cloaks(key: Bytes, labels: Bytes, word: Bytes) -> bool:
