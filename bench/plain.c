@@ -1,6 +1,5 @@
-/* The key reader, the verdict whole and by halves, cloaking, the lent multiplier, the rewriter, free reduction, taking
-   handles out, shortening, stored forms, the Y dialect, crossings and spreading in plain C, as one would write them by
-   hand: for the library's times to stand beside. */
+/* The library's operations in plain C, as one would write them by hand. The benchmark compares the library's times with
+   theirs. */
 #include <stdbool.h>
 #include <stddef.h>
 #include <stdint.h>
@@ -568,8 +567,8 @@ size_t plain_reduce(const uint8_t *word, size_t wn, uint8_t *out, size_t len)
 /* One place more than a word has letters. */
 #define ROOM (LETTERS + 1)
 
-/* Writes what stands for the codes between a handle's ends, from the last to the first, before a place. `first` is the
-   handle's first end. Gives the place where it begins. */
+/* Writes the codes that replace row[from..to] between a handle's ends, so that they end before place `at`. `first`
+   begins the handle. Returns where they begin. */
 static size_t conjugate(uint8_t *row, size_t from, size_t to, size_t at, uint8_t first)
 {
     uint8_t above = (uint8_t)(first + 1);
@@ -586,7 +585,7 @@ static size_t conjugate(uint8_t *row, size_t from, size_t to, size_t at, uint8_t
     return at;
 }
 
-/* The codes between two places that become three. */
+/* The number of codes in row[from..to] that become three codes each. */
 static size_t growing(const uint8_t *row, size_t from, size_t to, uint8_t first)
 {
     size_t many = 0;
@@ -595,9 +594,9 @@ static size_t growing(const uint8_t *row, size_t from, size_t to, uint8_t first)
     return many;
 }
 
-/* Takes handles out of n codes, in at most so many steps. What was looked through stands at the front of a row, the
-   rest at its end. The latest place of each generator is kept, one more than it is, 0 for none; and for each place the
-   latest before it of its generator. Gives the number of codes, or ROOM if a step would leave over 10,000. */
+/* Takes handles out of n codes, in at most `limit` steps. The codes already read stand at the front of `row`, the
+   others at its end. `latest` has the last place of each generator, plus 1; 0 is none. `before` has, for each place,
+   the one before it of its generator. Returns the number of codes, or ROOM if a step would leave over 10,000. */
 static size_t take_handles(uint8_t *codes, size_t n, unsigned limit, bool *left)
 {
     uint8_t row[ROOM];
@@ -635,7 +634,8 @@ static size_t take_handles(uint8_t *codes, size_t n, unsigned limit, bool *left)
     return l + ROOM - r;
 }
 
-/* The same, but each step begins again at the word's front and moves what follows the handle. */
+/* Takes handles out like take_handles. Each step searches from the word's front, and moves the codes after the
+   handle. */
 static size_t take_handles_again(uint8_t *codes, size_t n, unsigned limit, bool *left)
 {
     for (;;) {
@@ -663,7 +663,8 @@ static size_t take_handles_again(uint8_t *codes, size_t n, unsigned limit, bool 
     }
 }
 
-/* The bytes written, and twice the answer with 1 if a handle is left. `again` begins at the front for each step. */
+/* Returns the bytes written. *number is twice the answer, plus 1 if a handle is left. `again` chooses
+   take_handles_again. */
 size_t plain_handles(const uint8_t *word, size_t wn, uint16_t limit, bool again, uint8_t *out, size_t len,
                      uint32_t *number)
 {
@@ -680,7 +681,7 @@ size_t plain_handles(const uint8_t *word, size_t wn, uint16_t limit, bool again,
     return n == ROOM ? 0 : write_codes(codes, n, out);
 }
 
-/* How often the labels a and b cross: one walk counts all pairs, by the label at a letter's place and the next. 0 on a refusal. */
+/* How often the labels a and b cross, or 0 on a refusal. One walk counts the crossings of all pairs of labels. */
 int32_t plain_crossings(const uint8_t *word, size_t wn, uint8_t a, uint8_t b)
 {
     int32_t numbers[8][8] = {{0}};
@@ -806,7 +807,7 @@ uint32_t plain_words_ending(size_t length, const uint8_t *labels, size_t n)
 #define REACH 256
 
 /* Cancels letters that far swaps bring together. last[g + 1] is the place after the latest kept letter of generator g,
-   and before[i] what it was when letter i was kept. The letters left. */
+   and before[i] is its value from before letter i was kept. Returns the number of letters. */
 static size_t swap_cancel(uint8_t *codes, size_t n)
 {
     uint16_t last[9] = {0}, before[LETTERS];
@@ -870,8 +871,8 @@ static struct arc arc_through(const uint8_t *w, size_t n, size_t k, unsigned u)
     return arc;
 }
 
-/* What the first pass keeps of a letter of the part: the gap, with 8 for a strand that gives way to the left; 0 for the
-   strand's own letters. */
+/* Chooses how the strand passes one letter of the part. Returns 0 for the strand's own letter, otherwise the gap,
+   plus 8 if the strand gives way to the left. */
 static unsigned choose(uint8_t c, unsigned *q, uint8_t *costs, unsigned coin)
 {
     unsigned h = c & 7;
@@ -889,14 +890,13 @@ static unsigned choose(uint8_t c, unsigned *q, uint8_t *costs, unsigned coin)
     return g | left << 3;
 }
 
-/* The strand's place at a letter, from the one before. */
+/* Returns the strand's place at a letter. z is its place at the letter before. */
 static unsigned give_way(unsigned z, unsigned kept)
 {
     return z != (kept & 7) ? z : kept & 8 ? z - 1 : z + 1;
 }
 
-/* For each letter of the part that is not the strand's own: 8 times the new strand's place, and the gap; for an own one
-   0. */
+/* Fills `plan`: 0 for a letter of the strand itself, otherwise 8 times the strand's new place plus the gap. */
 static void plan_arc(const uint8_t *part, const struct arc *arc, unsigned from_end, unsigned coin, uint8_t *plan)
 {
     size_t m = arc->to - arc->from;
@@ -923,7 +923,7 @@ static void plan_arc(const uint8_t *part, const struct arc *arc, unsigned from_e
     }
 }
 
-/* Lays the strand anew; the letters of the new part, or more than the old one has. */
+/* Lays the strand anew. Returns the new part's length, or more than m if it exceeds m. */
 static size_t lay_arc(const uint8_t *part, const struct arc *arc, const uint8_t *plan, uint8_t *laid)
 {
     size_t m = arc->to - arc->from, k = 0;
@@ -944,7 +944,7 @@ static size_t lay_arc(const uint8_t *part, const struct arc *arc, const uint8_t 
     return k;
 }
 
-/* So many steps for each letter. The letters left. */
+/* Makes `effort` steps for each letter. Returns the number of letters that are left. */
 static size_t shorten_by_arcs(uint8_t *w, size_t n, unsigned effort)
 {
     uint8_t plan[2 * REACH], laid[2 * REACH];
@@ -967,7 +967,7 @@ static size_t shorten_by_arcs(uint8_t *w, size_t n, unsigned effort)
 }
 
 /* The shorter of two words: arcs on the word, and arcs on the word without handles if that has fewer letters to begin
-   with. Letters swap and cancel before and after. The bytes written; 0 on a refusal. */
+   with. Letters swap and cancel before and after. Returns the bytes written, 0 on a refusal. */
 size_t plain_shorten(const uint8_t *word, size_t wn, uint16_t effort, uint8_t *out, size_t len)
 {
     uint8_t first[LETTERS + 2], second[LETTERS + 2];

@@ -28,8 +28,8 @@ quoted() {
 
 # ---- the slips of the folder
 
-# listed: finds the files of the slips, and sets $names. The ends of the names may have capitals. If two files differ in
-# that alone, one is left out, and not the one in small letters.
+# listed: finds the files of the slips, and sets $names. The ends of the names may have capitals. If two files differ
+# only in capitals, the one in small letters is used.
 listed() {
     local LC_ALL=C each end kind slip found=() all
     shopt -s nullglob nocaseglob

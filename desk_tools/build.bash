@@ -58,7 +58,7 @@ make_library() {
 }
 
 # proving VERB CRATE..: runs rt once for all these crates, with its lines in the log. On a terminal one line counts the
-# crates. rt waits for a group of RT_JOBS proofs before it starts the next group, so that many keep all cores busy.
+# crates. rt proves in groups of RT_JOBS and waits for each group, so a large group keeps all cores busy.
 proving() {
     local crates done=0 last started=$SECONDS left
     crates=$(used_by "${@:2}" | wc -l)

@@ -26,7 +26,7 @@ installed_in() {
     version_line >"$share/installed"
 }
 
-# not_installed: ends the run, because an installed command has no sources to install from.
+# not_installed VERB: ends the run if this command is an installed one, which has no sources to install from.
 not_installed() {
     [ ! -f "$root/installed" ] || { say "this walnut is installed: run $1 in the folder of the sources"; exit 2; }
 }

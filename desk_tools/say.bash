@@ -380,7 +380,7 @@ about_shelf() {
         30,*) say "the publisher is '$publisher' and the key number is '$number'" ;;
         31,*) say "the shelf is '$shelf', the publisher is $publisher and the key number is $number; $more" ;;
         *,load) about_key "$answer" "$1" ;;
-        [1-7],* | 26,*) say "the key is damaged that '$shelf' holds for publisher $publisher under $number; $more" ;;
+        [1-7],* | 26,*) say "the key of publisher $publisher under number $number in '$shelf' is damaged; $more" ;;
         8,*) digest_told "$(held_bytes "$shelf" "$publisher" "$number")" "$1" ;;
         9,* | 1[0-3],*) about_word "$answer" "$2" ;;
         36,*) about_round "$shelf" "$publisher" "$2" ;;

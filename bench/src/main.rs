@@ -1,9 +1,10 @@
 //! Measures the time of the library and of the same work in plain Rust and plain C.
 //!
-//! `bench` prints the least time of several rounds for each, and the library's as a ratio to the others'.
-//! `bench again CASE WHO` only does the work, 10 times, in the function `again`, for a counter of instructions to
-//! watch (WHO 0 the library, 1 Rust, 2 C); it prints the case's name and the parts that were done. `bench cases` prints
-//! the cases' numbers. `bench saving` measures how much shortening saves, and how fast.
+//! `bench` prints the least time of several rounds for each of the three, and the library's time divided by each
+//! other time.
+//! `bench again CASE WHO` does the work of a case 10 times in the function `again`, so that a tool can count its
+//! instructions. WHO is 0 for the library, 1 for Rust, 2 for C. It prints the case's name and the number of parts that
+//! were done. `bench cases` prints the cases' numbers. `bench saving` measures how much shortening saves, and how fast.
 
 mod plain;
 mod plain_c;

@@ -1,6 +1,5 @@
-//! The key reader, the verdict whole and by halves, cloaking, the lent multiplier, the rewriter, free reduction,
-//! taking handles out, conversion, pair replacement, crossings and spreading in plain Rust, as one would write them by
-//! hand: for the library's times to stand beside.
+//! The library's operations in plain Rust, as one would write them by hand. The benchmark compares the library's times
+//! with theirs.
 
 use std::hint::black_box;
 use std::sync::OnceLock;
@@ -493,9 +492,9 @@ pub fn free_reduce(word: &[u8], out: &mut [u8]) -> Result<usize, u8> {
 /// One place more than a word has letters.
 const ROOM: usize = LETTERS + 1;
 
-/// A row of codes with a gap from `left` to `right`: what was looked through stands before it, the rest after it. The
-/// latest place of each generator is one more than it is, 0 for none; and each place has the latest before it of its
-/// generator.
+/// A row of codes with a gap from `left` to `right`. The codes already read stand before the gap, the others after it.
+/// `latest` has the last place of each generator, plus 1; 0 is none. `before` has, for each place, the one before it of
+/// its generator.
 struct Gap {
     row: [u8; ROOM],
     latest: [u16; 8],
@@ -510,7 +509,7 @@ fn slot(code: u8) -> usize {
 }
 
 impl Gap {
-    /// One more than the place where a handle begins that the next code ends; 0 if there is none.
+    /// If the next code ends a handle: the place where that handle begins, plus 1. Otherwise 0.
     fn begins(&self) -> usize {
         let code = self.row[self.right];
         let [less, own] = [slot(code) - 1, slot(code)].map(|slot| usize::from(self.latest[slot]));
@@ -521,7 +520,7 @@ impl Gap {
         }
     }
 
-    /// The next code is no handle's end.
+    /// Moves the next code before the gap. It ends no handle.
     fn keep(&mut self) {
         let code = self.row[self.right];
         self.before[self.left] = self.latest[slot(code)];
@@ -531,7 +530,7 @@ impl Gap {
         self.right += 1;
     }
 
-    /// Takes the handle out that the next code ends. Are there at most 10,000 codes then?
+    /// Takes out the handle that the next code ends. The result is whether at most 10,000 codes are left.
     fn step(&mut self, own: usize) -> bool {
         let first = self.row[own - 1];
         let above = first + 1;

@@ -1,5 +1,5 @@
-//! Random turns, another way to shorten a word, to hold arcs beside: at random places letters that cancel are removed,
-//! letters far apart swap, and three letters turn.
+//! Random turns, another way to shorten a word. The benchmark compares arcs with it. At random places, letters that
+//! cancel are removed, letters far apart swap, and three letters turn.
 
 use reference::testkit::Random;
 

@@ -85,7 +85,7 @@ pub enum Work {
         limit: u16,
         again: bool,
     },
-    /// A word that is stored, or a stored form that is restored.
+    /// A word that is stored.
     Storing {
         word: Vec<u8>,
     },
@@ -107,7 +107,7 @@ pub enum Work {
     Crossings {
         word: Vec<u8>,
     },
-    /// A slip judged by a key of a shelf, and keys loaded into a shelf, one after another.
+    /// A slip judged by a key of a shelf.
     Judging {
         shelf: [u8; SHELF_BYTES],
         slip: Slip,

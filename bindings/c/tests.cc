@@ -44,7 +44,7 @@ static bytes key()
     return file;
 }
 
-/* What reads one file, or writes one from another, takes null with the length 0 for each of them. */
+/* Each function on words accepts a null pointer with the length 0 for each file. */
 static void words()
 {
     bytes none, out(WALNUT_STORED_BYTES), word(2), parts(2);

@@ -2,7 +2,7 @@
 
 usage: wheel.py LIBRARY DIR    LIBRARY is the file libwalnut.so.1; the wheel is made in DIR
 
-Its name is printed. Equal inputs give equal bytes, and a wheel that is there already stays as it is.
+Prints the wheel's name. Equal inputs give equal bytes. An equal wheel in DIR is not written again.
 Exit status: 0 made; 1 not made; 2 wrong usage.
 """
 
@@ -32,7 +32,7 @@ def stated(name, pattern):
 
 
 def files(library):
-    """The wheel's files, in order, but for the list of them: (name, bytes)."""
+    """The wheel's name, its folder .dist-info, and its files in order without RECORD: (name, bytes)."""
     name, version = stated(["pyproject.toml"], "name"), stated(["walnut", "__init__.py"], "__version__")
     about = f"{name}-{version}.dist-info"
     metadata = [

@@ -1,5 +1,5 @@
 //! Links `libwalnut.a`, from the folder that the environment variable `WALNUT_LIB_DIR` names. If it is not set, the
-//! command pkg-config says where the library is, and whether it is recent enough.
+//! command pkg-config says where the library is, and whether its version fits.
 
 use std::env;
 use std::ffi::OsStr;

@@ -7,9 +7,9 @@ lists look like stands in walnut.h, under FILES.
 
 Many words verify for one digest, so a word's bytes are no identity of a slip.
 
-The shared library libwalnut.so.1 is looked for in the folder that the environment variable WALNUT_LIB_DIR names;
-without it beside this file, and then where the system looks for libraries. Another library, and one of another version
-than this module, raises OSError.
+Loads libwalnut.so.1 from the folder that the environment variable WALNUT_LIB_DIR names. If it is not set, loads it from
+beside this file, else from the system's folders. Another library or version raises OSError. Exception: the patch may be
+newer.
 """
 
 import ctypes
@@ -415,13 +415,12 @@ def _byte(number: int, name: str) -> int:
 
 
 def _label(number: int, name: str) -> int:
-    """A label as the library takes it: one over 255 is too large, as 255 is, and the library says so in its turn."""
+    """A label as a byte. One over 255 becomes 255, which the library refuses as too large."""
     return _byte(min(_index(number, name), 255), name)
 
 
 def _small(number: int, name: str) -> int:
-    """A publisher or a key number as the library takes it: one over 255 is too large, as 255 is, and the library says so
-    in its turn."""
+    """A publisher or a key number as a byte. One over 255 becomes 255, which the library refuses as too large."""
     return _label(number, name)
 
 
@@ -468,7 +467,7 @@ _CODES = {letter_text(code): code for code in range(15) if code != 7}
 
 
 def letter_code(letter: Letter) -> int:
-    """A letter's code, of its text; of a number that number, which the library may find to be no letter."""
+    """The code of a letter given as text. A number is returned as it is, and the library checks it."""
     if not isinstance(letter, str):
         return _byte(letter, "letter")
     if letter not in _CODES:
@@ -851,8 +850,7 @@ def first_half(key: Bytes, digest: Bytes) -> Half:
 
 
 def second_half(half: Half, word: Bytes) -> None:
-    """The second half: with what first_half gave, verify for this word. A half of the caller's own is asked 17, 4, 6 and
-    26 first."""
+    """Judges the word by a half, as verify does. A half that the caller made is first asked 17, 4, 6 and 26."""
     if not isinstance(half, Half):
         raise TypeError(f"half: a Half is needed, not {type(half).__name__}")
     _granted(_lib.walnut_second_half(half._lent(), *_slices(word=word)), None)

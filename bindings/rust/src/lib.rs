@@ -327,8 +327,8 @@ pub fn first_half(key: &[u8], digest: &[u8]) -> Result<Half, Refusal> {
     granted(halved.answer, Half { field, t_values: half.t_values, pair: half.pair, target: half.target })
 }
 
-/// The second half: with what [`first_half`] gave, [`verify`] for this word. A half of the caller's own is asked 17, 4,
-/// 6 and 26 first.
+/// Judges the word by a half that [`first_half`] gave, as [`verify`] does. A half that the caller made is first asked
+/// 17, 4, 6 and 26.
 pub fn second_half(half: &Half, word: &[u8]) -> Result<(), Refusal> {
     let Half { field, t_values, pair, target } = *half;
     let half = exported::Half { large: field.large(), t_values, pair, target };

@@ -1,6 +1,6 @@
 // Writes a new file by a verb of the desk. `desk_words` decides what is written. The first argument is the verb. The
 // second one is a name beside the new file's place: the file is written there, and takes its own name when it is whole.
-// Of each word one line tells its answer, after its file is in its place. If the answer is 0, a second line tells the
+// Prints a line with each word's answer, once its file is in its place. If the answer is 0, a second line has the
 // sizes.
 use desk_line::Got;
 use desk_words::Made;

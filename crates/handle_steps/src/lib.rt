@@ -1,4 +1,4 @@
-// Taking handles out of a row of codes, up to a limit of steps: no step's cost grows with the word.
+// Takes handles out of a row of codes, up to a limit of steps. A step touches only the letters of its handle.
 
 mod turns; // turns.rt: one turn, and all turns
 

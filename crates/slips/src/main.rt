@@ -1,6 +1,6 @@
 // Judges slips in files. Each slip has three arguments: key, digest and signature. Each slip gets a line, in order. Its
-// run: under the plain key a slip that opens, one that does not, one without a digest, and a slip of the larger field
-// under its own key.
+// test run: under the plain key a slip that opens, one that does not, one without a digest, and a slip of the larger
+// field under its own key.
 ghost use Prim.Native.Nat.{_<_};
 
 // Judges the slip whose files are the three arguments from a place on.
