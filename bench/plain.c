@@ -596,7 +596,8 @@ static size_t growing(const uint8_t *row, size_t from, size_t to, uint8_t first)
 
 /* Takes handles out of n codes, in at most `limit` steps. The codes already read stand at the front of `row`, the
    others at its end. `latest` has the last place of each generator, plus 1; 0 is none. `before` has, for each place,
-   the one before it of its generator. Returns the number of codes, or ROOM if a step would leave over 10,000. */
+   the last place before it that has the same generator, plus 1. Returns the number of codes, or ROOM if a step would
+   leave over 10,000. */
 static size_t take_handles(uint8_t *codes, size_t n, unsigned limit, bool *left)
 {
     uint8_t row[ROOM];

@@ -30,9 +30,9 @@
  *
  *     00 07 09 23 C5 E0                     7 letters: b1 b2^-1 b3 b4 b5^-1 b6 b7^-1, and half a byte 0
  *
- * Y WORD. A word in the Y generators y1 to y7 of source 000 has the form of a word, and the codes of y1 to y7 and of
- * their inverses are those of b1 to b7 and of theirs. Which braid it stands for depends on parts of 7, which are handed
- * over apart.
+ * Y WORD. A word in the Y generators y1 to y7 of source 000. Its file has the form of a word's file. A letter y_i has
+ * the code of b_i, and the inverse of y_i has the code of the inverse of b_i. Which braid it stands for depends on
+ * parts of 7, which are not in the file.
  *
  * STORED FORM of a word, with signs and generators apart. Three numbers of 2 bytes hold the number of letters, at most
  * 10,000, the bytes of signs and the bytes of generators. The signs follow, one bit a letter, 1 for an inverse. Then
@@ -43,8 +43,8 @@
  *                                           generators, 000 001 010 011 100 101 110 and three zero bits
  *
  * MOVE LIST. 2 bytes hold the number of moves, at most 4,096. Then come all places, 2 bytes each, and then all kinds, 1
- * byte each. A move list has 2 + 3 times the number of moves, so 2 to 12,290 bytes. A place counts letters from 0, in
- * the word that the earlier moves left.
+ * byte each. A move list has 2 bytes and 3 for each move, so 2 to 12,290 bytes. A place counts letters from 0, in the
+ * word that the earlier moves left.
  *
  *     kind 1         removes a letter and the inverse right after it
  *     kind 2         swaps two adjacent letters whose generators differ by at least 2
@@ -75,7 +75,8 @@
  * has its own key numbers, 0 to 3. A shelf has 1,036 bytes: eight slots of 129 bytes, first the four of publisher 1, and
  * 2 bytes each for the letters charged to publisher 1 and to publisher 2. A slot has 1 byte for the length of the key
  * file that it holds, 0 if it holds none, then the file, then zeros. All zeros are the empty shelf. Every content is a
- * shelf: a length over 128 counts as 128, and a file that is no key gets the key's answers when it is judged by.
+ * shelf: a length over 128 counts as 128. If a slot holds a file that is no key, a slip that is judged by it gets the
+ * answer of the key's questions.
  *
  *     number 2 of publisher 2 begins at byte 129 * (4 * (2 - 1) + 2) = 774
  *     the letters charged to publisher 2 are bytes 1034 and 1035
@@ -100,7 +101,7 @@ extern "C" {
 #define WALNUT_VERSION_MINOR 1
 #define WALNUT_VERSION_PATCH 0
 
-/* The same as one number, as walnut_version gives it: 10203 is 1.2.3. */
+/* The version as one number, as walnut_version gives it: 10203 is 1.2.3. */
 #define WALNUT_VERSION (10000 * WALNUT_VERSION_MAJOR + 100 * WALNUT_VERSION_MINOR + WALNUT_VERSION_PATCH)
 
 /* Marks a function whose result must be used. A compiler that knows the mark warns if a caller drops the result. */
@@ -279,9 +280,9 @@ typedef struct { uint8_t answer; walnut_half half; } walnut_halved;
 /* The keys of two publishers and their charged letters, as FILES says. All zeros are the empty shelf. */
 typedef struct { uint8_t bytes[WALNUT_SHELF_BYTES]; } walnut_shelf;
 
-/* Gives the version of the library that the program runs with, which may be another than WALNUT_VERSION of the header
-   that it was built with: 10,000 for each major version, 100 for each minor one, 1 for each patch. There is no answer.
-   Changes nothing. */
+/* Gives the version of the library that the program runs with: 10,000 for each major version, 100 for each minor one, 1
+   for each patch. It may differ from WALNUT_VERSION, which is that of the header that the program was built with. There
+   is no answer. Changes nothing. */
 WALNUT_MUST_USE uint32_t walnut_version(void);
 
 /* Multiplies two elements of the field that `large` names. Answers: 17, 0. Changes nothing. */
@@ -354,11 +355,12 @@ WALNUT_MUST_USE walnut_written walnut_replace_pair(const uint8_t *word, size_t n
 WALNUT_MUST_USE walnut_written walnut_rewrite(const uint8_t *word, size_t n, const uint8_t *moves, size_t m,
                                               uint8_t *out, size_t len);
 
-/* Takes handles out of a word file and writes the word that is left. A handle is b_i or its inverse, then letters, or
-   none, with neither b_i nor b_(i-1), of either sign, and then the inverse of the first letter. A step takes the handle
-   that ends earliest: it drops both ends and replaces each b_(i+1) between, so the word is the same braid. Work ends
-   after `limit` steps, or when no handle is left. The new word may be longer than the old one. Answers: 15, 9, 10, 11,
-   12, 13, then 32 if a step would leave over 10,000 letters, or 0. Changes the reported bytes of out, on 0 only. */
+/* Takes handles out of a word file and writes the word that is left. A handle begins with b_i or its inverse, and ends
+   with the inverse of that letter. No letter between these ends is b_i, b_(i-1) or an inverse of these two. A step
+   takes out the handle that ends earliest: it drops both ends and replaces each b_(i+1) between them, so the word is
+   the same braid. Work ends after `limit` steps, or when no handle is left. The new word may be longer than the old
+   one. Answers: 15, 9, 10, 11, 12, 13, then 32 if a step would leave over 10,000 letters, or 0. Changes the reported
+   bytes of out, on 0 only. */
 WALNUT_MUST_USE walnut_handles walnut_handle_reduce(const uint8_t *word, size_t n, uint16_t limit, uint8_t *out,
                                                     size_t len);
 
@@ -368,9 +370,9 @@ WALNUT_MUST_USE walnut_choice walnut_shorter(const uint8_t *a, size_t an, const 
 
 /* Writes a shorter word file that means what the word means: it carries every pair where the word does, and every slip
    gets the same verdict with it. It never has more letters than the word, and it is freely reduced. Which of the words
-   with this meaning it is, is left free; it depends on word and effort alone. The effort is the number of steps of the
-   search for each letter. 0 only swaps and cancels letters, 5 is usual, and more takes longer and saves little. Answers:
-   15, 9, 10, 11, 12, 13, 0. Changes the reported bytes of out, on 0 only. */
+   with this meaning it is, is not promised. The same word and effort always give the same bytes. The effort is the
+   number of steps of the search for each letter. 0 only swaps and cancels letters, 5 is usual, and more takes longer
+   and saves little. Answers: 15, 9, 10, 11, 12, 13, 0. Changes the reported bytes of out, on 0 only. */
 WALNUT_MUST_USE walnut_written walnut_shorten(const uint8_t *word, size_t n, uint16_t effort, uint8_t *out, size_t len);
 
 /* The verdict: is the word a signature of the digest under the key? Answers: 1 to 7, 26, 8 to 14, or 0 for yes. Changes
@@ -412,9 +414,9 @@ WALNUT_MUST_USE uint8_t walnut_shelf_clear(walnut_shelf *shelf, size_t publisher
 
 /* Judges a slip by the key under a publisher's key number, as walnut_verify does with that key's file, and charges its
    letters to the publisher. Answers: 30, 31, then 1 to 7 and 26 only for a slot that walnut_shelf_load did not make, 8
-   to 13, 36, 14, or 0 for yes. 36 is no verdict: with this slip, what publisher 1 is over 10,000 letters and what
-   publisher 2 is over 10,000 would sum to more than 10,000. Changes the 2 bytes of *shelf with the letters charged to
-   the publisher, on 0 and 14 only. */
+   to 13, 36, 14, or 0 for yes. 36 is no verdict. It means that with this slip the amounts by which the two publishers
+   are over 10,000 letters would sum to more than 10,000. Changes the 2 bytes of *shelf with the letters charged to the
+   publisher, on 0 and 14 only. */
 WALNUT_MUST_USE uint8_t walnut_shelf_judge(walnut_shelf *shelf, size_t publisher, size_t number, const uint8_t *digest,
                                            size_t dn, const uint8_t *word, size_t wn);
 

@@ -493,8 +493,8 @@ pub fn free_reduce(word: &[u8], out: &mut [u8]) -> Result<usize, u8> {
 const ROOM: usize = LETTERS + 1;
 
 /// A row of codes with a gap from `left` to `right`. The codes already read stand before the gap, the others after it.
-/// `latest` has the last place of each generator, plus 1; 0 is none. `before` has, for each place, the one before it of
-/// its generator.
+/// `latest` has the last place of each generator, plus 1; 0 is none. `before` has, for each place, the last place
+/// before it that has the same generator, plus 1.
 struct Gap {
     row: [u8; ROOM],
     latest: [u16; 8],
@@ -557,7 +557,7 @@ impl Gap {
     }
 }
 
-/// Takes handles out in at most so many steps: whether one is left, and the bytes written.
+/// Takes handles out in at most `limit` steps. Returns whether a handle is left, and the number of bytes written.
 pub fn handles(word: &[u8], mut limit: u16, out: &mut [u8]) -> Result<(bool, usize), u8> {
     if out.len() < WORD_BYTES {
         return Err(15);
@@ -580,7 +580,7 @@ pub fn handles(word: &[u8], mut limit: u16, out: &mut [u8]) -> Result<(bool, usi
     Ok((found, write_codes(&left, out)))
 }
 
-/// The bits of numbers of so many bits, packed into bytes, the most significant first and zeros at the end.
+/// Packs numbers of `bits` bits each into bytes. The most significant bit comes first, and zeros fill the last byte.
 fn pack_bits(numbers: impl Iterator<Item = u8>, bits: u32, out: &mut [u8]) {
     let (mut held, mut count, mut at) = (0u32, 0, 0);
     for number in numbers {

@@ -128,7 +128,8 @@ pub fn free_reduce(word: &[u8], out: &mut [u8]) -> usize {
     unsafe { plain_reduce(word.as_ptr(), word.len(), out.as_mut_ptr(), out.len()) }
 }
 
-/// Twice the answer with 1 if a handle is left, and the bytes written. `again` begins at the front for each step.
+/// Takes handles out of a word. Returns twice the answer, plus 1 if a handle is left, and the number of bytes written.
+/// If `again` is true, each step begins at the front of the word.
 pub fn handles(word: &[u8], limit: u16, again: bool, out: &mut [u8]) -> (u32, usize) {
     let (mut number, (file, len)) = (0, (out.as_mut_ptr(), out.len()));
     // SAFETY: see above.

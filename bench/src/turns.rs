@@ -21,7 +21,7 @@ fn turn(three: &[u8]) -> Option<[u8; 3]> {
     Some([next | c & 8, middle, next | a & 8])
 }
 
-/// A word after so many tries for each of its letters.
+/// A word after `tries` tries for each of its letters.
 pub fn turned(word: &[u8], tries: usize) -> Vec<u8> {
     let (random, mut word) = (&mut Random::seeded(1), word.to_vec());
     for _ in 0..tries * word.len() {

@@ -79,7 +79,8 @@ pub enum Work {
     Reduction {
         word: Vec<u8>,
     },
-    /// Words whose handles are taken out. The C begins at the front for each step, or works as the library does.
+    /// Words whose handles are taken out. If `again` is true, each step of the C code begins at the front of the word.
+    /// Otherwise the C code works as the library does.
     Handles {
         words: Vec<Vec<u8>>,
         limit: u16,
@@ -215,7 +216,7 @@ fn words_ending(who: Who, length: usize, labels: &[u8]) -> u32 {
     }
 }
 
-/// Takes handles out of a word: twice the answer with 1 if a handle is left, and the bytes written.
+/// Takes handles out of a word. Returns twice the answer, plus 1 if a handle is left, and the number of bytes written.
 fn handles(who: Who, word: &[u8], limit: u16, again: bool, out: &mut [u8]) -> (u32, usize) {
     let came = |came: Result<(bool, usize), u8>| match came {
         Ok((left, bytes)) => (u32::from(left), bytes),
@@ -454,7 +455,7 @@ fn signatures() -> Vec<Vec<u8>> {
     lines.filter(|line| !line.starts_with('#')).map(file).collect()
 }
 
-/// Handles of signatures, or of one other word, with as many steps as there may be.
+/// Takes handles out of signatures, or of one other word, with the largest limit of steps.
 fn taking(words: Vec<Vec<u8>>, again: bool) -> Work {
     Work::Handles { words, limit: u16::MAX, again }
 }
@@ -469,12 +470,12 @@ fn far_apart() -> Vec<u8> {
     word_file(&[vec![0; 5_000], [6, 14].repeat(2_500)].concat())
 }
 
-/// A word of so many letters to turn into the other dialect.
+/// A word of `letters` letters to turn into the other dialect.
 fn converting(random: &mut Random, to_y: bool, letters: usize) -> Work {
     Work::Converting { to_y, word: word_file(&random.word(letters)) }
 }
 
-/// A Y word of so many letters. The pair y1 y2⁻¹ stands in the middle, and row 26 replaces it.
+/// A Y word of `letters` letters. The pair y1 y2⁻¹ stands in the middle, and row 26 replaces it.
 fn replacing(random: &mut Random, letters: usize) -> Work {
     let (mut codes, place) = (random.word(letters), letters / 2);
     codes[place..place + 2].copy_from_slice(&[0, 9]);
@@ -493,7 +494,7 @@ fn judging(random: &mut Random, full: bool) -> Work {
     Work::Judging { shelf, slip }
 }
 
-/// Keys as keys are made, to be loaded.
+/// Keys like those of key generation, to be loaded.
 fn loading(random: &mut Random) -> Work {
     Work::Loading((0..KEYS).map(|_| accepted(random, Field::Gf32, &[]).key).collect())
 }

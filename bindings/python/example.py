@@ -150,7 +150,7 @@ print("publisher 3 starts a new round: answer", answer_of(shelf.round, 3))
 print("publisher 1 clears 0: answer", answer_of(shelf.clear, 1, 0))
 print("the shelf is empty again:", yes_or_no(shelf == walnut.Shelf(bytes(walnut.SHELF_BYTES))))
 
-# the same over the field with 256 elements
+# products, keys and verdicts over the field with 256 elements
 print("over 256 elements 128 x 2 =", walnut.product(GF256, 128, 2))
 print("16 x 2 =", walnut.product(GF256, 16, 2))
 print("the reciprocal of 3 is", walnut.reciprocal(GF256, 3))

@@ -423,7 +423,7 @@ class Package(Case):
         self.assertEqual(set(walnut.__all__), {name for name in defined if not name.startswith("_")})
 
     def test_it_is_typed(self):
-        """Whether the types are right is for mypy to say. Here every function has them."""
+        """Every function has types. Whether they are right is for mypy to say."""
         self.assertTrue(os.path.exists(os.path.join(os.path.dirname(walnut.__file__), "py.typed")))
         with open(walnut.__file__, encoding="utf-8") as file:
             functions = [one for one in ast.walk(ast.parse(file.read())) if isinstance(one, ast.FunctionDef)]

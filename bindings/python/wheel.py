@@ -69,7 +69,7 @@ def main(library, folder):
     try:
         with zipfile.ZipFile(beside, "w", zipfile.ZIP_DEFLATED) as wheel:
             for one, data in [*packed, record(about, packed)]:
-                # a time of its own would make other bytes each time
+                # with the present time the wheel would have other bytes each time
                 entry = zipfile.ZipInfo(one, (1980, 1, 1, 0, 0, 0))
                 entry.external_attr = (0o100755 if one.endswith(".so.1") else 0o100644) << 16
                 entry.compress_type = zipfile.ZIP_DEFLATED

@@ -241,7 +241,7 @@ def shown_at(wide, high, at):
 
 
 def svg(drawn, at):
-    """The picture of words, each with its crossing numbers. Of two words each has its number of letters above it."""
+    """The picture of words, each with its crossing numbers. Each of two words has its number of letters above it."""
     left, width, height = size(drawn, at)
     parts, high = [], 0
     for codes, counts in drawn:

@@ -220,8 +220,8 @@ def no_inverses(at, file, parts, t_values, labels):
 
 
 def show_shelf(path):
-    """A line for each key number, and one for the letters charged to each publisher. A damaged key is told with the
-    answer that it gets."""
+    """A line for each key number, and one for the letters charged to each publisher. The line of a
+    damaged key has the answer that it gets."""
     file, size = files.read(path, walnut.SHELF_BYTES)
     if size not in (0, walnut.SHELF_BYTES):
         told = f"it has {count(size, 'byte')}, and a shelf has {walnut.SHELF_BYTES}, or none if it is empty"

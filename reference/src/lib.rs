@@ -1,32 +1,32 @@
-//! A second, independent road to the operations of document 01 ("Loan-slip signatures: braid words, keys and
-//! moves") and of document 02's sections 1, 2, 4, 6, 7, 8, 9, 11, 13 and 14, to run beside another implementation.
+//! A second, independent implementation of the operations of document 01 ("Loan-slip signatures: braid words, keys and
+//! moves") and of document 02's sections 1, 2, 4, 6, 7, 8, 9, 11, 13 and 14. Tests compare the library with it.
 //!
 //! It is written to be plain, not fast, and uses another method wherever there is one:
 //!
 //! - the fields multiply the two bit strings as polynomials and divide by x^5 + x^2 + 1 or by
 //!   x^8 + x^4 + x^3 + x^2 + 1, without tables; a reciprocal is found by Euclid's algorithm on polynomials
 //!   ([`field`]);
-//! - whether a matrix has an inverse is asked of its determinant, worked out by expansion, without elimination
+//! - a matrix has an inverse if its determinant is not 0; the determinant is computed by expansion, without elimination
 //!   ([`matrix`]);
 //! - a letter acts on a pair as a whole coloured Burau matrix, by the general matrix product ([`pair`]);
 //! - files are packed and unpacked over an explicit string of bits ([`bits`]), where each part of a key of either
 //!   size has its place ([`key`]), and the signs and the generators of a stored form have strings of their own
 //!   ([`stored`]);
 //! - free reduction removes the first cancelling neighbours, again and again ([`reduce`]);
-//! - a step that takes a handle out looks for all handles of the whole word ([`handles`]);
+//! - each step of handle reduction looks for all handles of the whole word ([`handles`]);
 //! - an arc is split into its strand's places and the gaps of the other letters before it is laid anew ([`shortener`]);
-//!   this operation is not the papers', and its search is the same as the library's;
-//! - a move splices other letters into a run of letters, and the next one starts from what it left
+//!   the papers do not have this operation, and its search is the same as the library's;
+//! - a move replaces letters in a list of letters, and the next move works on the list that it left
 //!   ([`rewrite`](mod@rewrite));
 //! - how often two strands cross is found by following these two alone, without a list of labels ([`crossing`]);
-//! - how many words end in a list is counted by making every word of up to eight letters, and beyond that by powers of a
-//!   matrix ([`spread`]);
-//! - parts of 7 are the generators at which they end, and the relations of the Y dialect are signed numbers
-//!   ([`dialect`]);
-//! - the halves of a verdict work both sides out otherwise than the whole verdict: the target half byte by half byte,
-//!   and the signature's letters from the identity matrix ([`half`]);
-//! - a key shelf is a map from publisher and key number to a slot, without any place in bytes, and whether a slip is
-//!   admitted to the chip is asked after its verdict ([`shelf`]);
+//! - how many words end in a list is counted by making every word of up to eight letters, and for more letters by
+//!   powers of a matrix ([`spread`]);
+//! - parts of 7 are stored as the generators at which a part ends, and the relations of the Y dialect are written as
+//!   signed numbers ([`dialect`]);
+//! - the halves of a verdict compute both sides in another way than the whole verdict: the target half byte by half
+//!   byte, and the signature's letters from the identity matrix ([`half`]);
+//! - a key shelf is a map from publisher and key number to a slot, without any place in bytes, and the test whether a
+//!   slip is admitted to the chip comes after its verdict ([`shelf`]);
 //! - the questions stand in lists, in the paper's order, and the answer is the number of the first one
 //!   answered no ([`questions`]).
 //!

@@ -19,7 +19,7 @@ pub const SHELF_BYTES: usize = 8 * SLOT + 4;
 /// The letters that each publisher is sure of in a round.
 const SURE: usize = 10_000;
 
-/// The letters beyond these, for both publishers together.
+/// The further letters of a round, which the two publishers share.
 const SHARED: usize = 10_000;
 
 /// A slot of a shelf: the byte with the key file's length, and the 128 bytes after it.

@@ -175,19 +175,19 @@ fn the_sum_decides() {
         // 1 + 9,999, and 1 + 10,000
         ([10_001, 19_998], 2, 1, true),
         ([10_001, 19_999], 2, 1, false),
-        // the other has 10,000: all 10,000 beyond are there
+        // the other publisher has 10,000 letters, so all further 10,000 are free
         ([19_999, 10_000], 1, 1, true),
         ([20_000, 10_000], 1, 1, false),
-        // the other has 10,001: 9,999 are there
+        // the other publisher has 10,001 letters, so 9,999 of the further 10,000 are free
         ([19_998, 10_001], 1, 1, true),
         ([19_999, 10_001], 1, 1, false),
-        // the other took all of them: the publisher has its own 10,000
+        // the other publisher took all further 10,000, so the publisher has its own 10,000 alone
         ([9_999, 20_000], 1, 1, true),
         ([10_000, 20_000], 1, 1, false),
         ([20_000, 0], 2, 10_000, true),
         ([20_000, 1], 2, 10_000, false),
         ([20_000, 0], 1, 10_000, false),
-        // charges that no history makes: 65,535 + 1 and 65,535 + 10,000 are no small numbers
+        // charges that no history makes: 65,535 + 1 and 65,535 + 10,000 are not taken modulo 65,536
         ([65_535, 0], 1, 1, false),
         ([65_535, 0], 1, 10_000, false),
         ([65_535, 65_535], 2, 1, false),

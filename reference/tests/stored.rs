@@ -76,7 +76,7 @@ fn restoring_refusals_in_order() {
         (28, "00 01 00 01 00 02 00 00 00"), // two bytes of generators
         (28, "00 01 00 01 00 01 00"),       // a byte is missing
         (28, "00 01 00 01 00 01 00 00 00"), // a byte was added
-        (28, "00 01 00 01 00 01 FF FF FF"), // and the rows are wrong too
+        (28, "00 01 00 01 00 01 FF FF FF"), // a byte was added, and the rows are wrong
         (29, "00 01 00 01 00 01 00 E0"),    // generator 7
         (29, "00 01 00 01 00 01 01 00"),    // filler after the signs
         (29, "00 01 00 01 00 01 00 10"),    // filler after the generators

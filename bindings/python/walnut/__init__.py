@@ -1,9 +1,9 @@
 """Braid words, keys, E-multiplication and verdicts for WalnutDSA at strengths 128 and 256, over the proved library.
 
 Every function takes any bytes. It gives its value, or raises Refusal with the number of the first question that the
-input fails; verdict alone gives the number. A number that is no byte, or a fixed array of another length, is no input
-of the library's: it raises ValueError, and text where bytes are wanted raises TypeError. What keys, words and move
-lists look like stands in walnut.h, under FILES.
+input fails; verdict alone gives the number. The library takes bytes, and some arrays of a fixed
+length. So a number that is no byte, or an array of another length, raises ValueError. Text in place of bytes raises
+TypeError. What keys, words and move lists look like stands in walnut.h, under FILES.
 
 Many words verify for one digest, so a word's bytes are no identity of a slip.
 
@@ -193,7 +193,7 @@ Move = Tuple[int, int]
 
 
 class Field(enum.Enum):
-    """One of the two fields: as it is named to the library, the bytes of a key file over it, and of its digest."""
+    """One of the two fields: how the library takes it (`large`), and the bytes of its key files and of its digests."""
 
     GF32 = (False, KEY_BYTES, DIGEST_BYTES)
     GF256 = (True, LARGE_KEY_BYTES, LARGE_DIGEST_BYTES)
@@ -304,7 +304,7 @@ def text(answer: int) -> str:
 
 
 class Refusal(Exception):
-    """The input failed a question; `number` is the answer, never 0, also one that this module does not know."""
+    """The input failed a question. `number` is the answer: never 0, and possibly one that this module does not know."""
 
     def __init__(self, number: int) -> None:
         super().__init__(number)
@@ -376,7 +376,7 @@ _HINT = "; bytes.fromhex makes bytes of text in hexadecimal, and open(.., 'rb') 
 
 
 def _bytes(data: Bytes, name: str) -> bytes:
-    """Bytes, or numbers that are bytes, one after another; text is none, and neither is a number alone."""
+    """The bytes of bytes, or of a row of numbers that are bytes. Text and a single number raise TypeError."""
     if isinstance(data, (bytes, bytearray, memoryview)):
         return bytes(data)
     if isinstance(data, str) or not isinstance(data, Iterable):
@@ -425,7 +425,7 @@ def _small(number: int, name: str) -> int:
 
 
 def _large(field: Field) -> bool:
-    """A field as it is named to the library."""
+    """A field as the library takes it."""
     if not isinstance(field, Field):
         raise ValueError(f"{field!r} is no field: GF32 or GF256 is")
     return field.large
@@ -441,7 +441,7 @@ def _slices(**parts: Bytes) -> List[Any]:
 
 
 def _file_written(function: Any, room: int, **parts: Bytes) -> bytes:
-    """What a writer wrote to an output of so many bytes."""
+    """What a writer wrote to an output of `room` bytes."""
     out = (c_uint8 * room)()
     written = function(*_slices(**parts), out, room)
     return _granted(written.answer, bytes(out[: written.bytes]))
@@ -517,7 +517,8 @@ def read_moves(file: Bytes) -> List[Move]:
 
 
 def _moves_file(moves: Iterable[Move]) -> bytes:
-    """Of more moves than two bytes count it states 65,535, so that it is refused like any list that is too long."""
+    """The file of a move list. If there are more moves than two bytes can count, it states 65,535 moves. So it is
+    refused like any list that is too long."""
     if isinstance(moves, str) or not isinstance(moves, Iterable):
         raise TypeError(f"moves: a file's bytes or (place, kind) of each move are needed, not {type(moves).__name__}")
     listed = [_move(move) for move in moves]
@@ -798,7 +799,7 @@ def replace_pair(word: Bytes, place: int) -> bytes:
 
 
 def rewrite(word: Bytes, moves: Union[bytes, bytearray, memoryview, Iterable[Move]]) -> bytes:
-    """The word file that moves leave: the bytes of a move list's file, or (place, kind) of each move."""
+    """The word file that moves leave. `moves` is the bytes of a move list's file, or (place, kind) of each move."""
     file = moves if isinstance(moves, (bytes, bytearray, memoryview)) else _moves_file(moves)
     return _word_written(_lib.walnut_rewrite, word=word, moves=file)
 

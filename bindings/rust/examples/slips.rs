@@ -215,7 +215,7 @@ fn shelves(key: &[u8]) {
     println!("the shelf is empty again: {}", yes_or_no(shelf == Shelf::from([0; SHELF_BYTES])));
 }
 
-/// The same over the field with 256 elements.
+/// Products, keys and verdicts over the field with 256 elements.
 fn larger_field() -> Result<(), Refusal> {
     println!("over 256 elements 128 x 2 = {}", walnut::product(Gf256, 128, 2)?);
     println!("16 x 2 = {}", walnut::product(Gf256, 16, 2)?);

@@ -65,12 +65,12 @@ impl Field {
         }
     }
 
-    /// As it is named to the library.
+    /// The field as the library takes it: true for the field with 256 elements.
     fn large(self) -> bool {
         self == Field::Gf256
     }
 
-    /// As the library names it.
+    /// The field that the library names by this value.
     fn named(large: bool) -> Field {
         if large {
             Field::Gf256
@@ -106,8 +106,9 @@ pub struct Half {
     pub target: [u8; 64],
 }
 
-// In every function below the pointers come from references and slices that live through the call, each with its
-// own length, and what is written is lent uniquely. The exported functions take any bytes.
+// In every function below the pointers come from references and slices that live until the call returns. Each slice's
+// pointer is passed with its own length. Memory that the call writes is borrowed mutably. The exported functions take
+// any bytes.
 
 /// The version of the library as one number: 10,000 for each major version, 100 for each minor one, 1 for each patch.
 pub fn version() -> u32 {

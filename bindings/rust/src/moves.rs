@@ -59,8 +59,8 @@ impl Moves {
         &self.0
     }
 
-    /// The file: the number of moves, then all places, then all kinds. Of more moves than two bytes can count it
-    /// states 65,535, so that it is refused like any list of more than [`MOVES`](crate::MOVES).
+    /// The file: the number of moves, then all places, then all kinds. If there are more moves than two bytes can
+    /// count, the file states 65,535 moves. So it is refused like any list of more than [`MOVES`](crate::MOVES).
     pub fn file(&self) -> Vec<u8> {
         let number = u16::try_from(self.0.len()).unwrap_or(u16::MAX);
         let mut file = number.to_be_bytes().to_vec();

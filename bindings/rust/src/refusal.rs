@@ -48,8 +48,7 @@ fn text(number: u8) -> &'static str {
     }
 }
 
-/// The number of the first question that an input failed. Each has a name; one that this binding does not know has its
-/// number.
+/// The number of the first question that an input failed. Each number that this binding knows has a name below.
 #[derive(Clone, Copy, PartialEq, Eq, PartialOrd, Ord, Hash)]
 pub struct Refusal(u8);
 

@@ -7,7 +7,7 @@ use core::str::FromStr;
 
 use crate::Letter;
 
-/// What was given is the text of no letter: letters are b1 to b7 and b1^-1 to b7^-1.
+/// A text that names no letter. The letters are b1 to b7 and b1^-1 to b7^-1.
 #[derive(Clone, Debug, PartialEq, Eq)]
 pub struct NoLetter(pub String);
 

@@ -1,5 +1,5 @@
-//! What the binding adds to the library: names of answers, letters, moves, and what is lent on a refusal. Results are
-//! the papers' slips, or follow from the layout of the files.
+//! What the binding adds to the library: names of answers, letters, moves, and that a refusal leaves lent memory as it
+//! was. Results are the papers' slips, or follow from the layout of the files.
 
 use std::error::Error;
 

@@ -13,7 +13,7 @@ use Rattle.braid_arcs.specs.Arcs.{beside, Arc, none, other, Relaid}
 use Rattle.braid_arcs.proofs.ArcLaws.{arc-end, arc-on}
 use Rattle.arc_strand.specs.steps.Strand.{IsOther}
 use Rattle.arc_laying.specs.Plans.{PlacedAt, Placed, own, aside}
-use Rattle.arc_laying.specs.steps.Laying.{Laid}
+use Rattle.arc_laying.specs.steps.Laying.{LaidSoFar}
 
 more : (l : List ℕ) (k : ℕ) → k < length l → take (k + 1) l ≡ take k l ++ (getD l k 0 ∷ [])
 more l k h = rw (add-one k) (take-suc l k 0 h)
@@ -34,10 +34,10 @@ another : {under : Bool} {x y : ℕ} {l m : List ℕ} (d : ℕ) → Arc under x 
 another d a e g n = arc-on a (other d e g n (none (arc-end a)))
 
 module _ (under : Bool) (p : ℕ) (part out : List ℕ) (read written old new : ℕ)
-    (laid : Laid under p part out read written old new) where
+    (laid : LaidSoFar under p part out read written old new) where
   -- the strand's own letter is read
   pub reads-own : (y : ℕ) → read < length part → Arc under old (getD part read 0 ∷ []) y []
-      → Laid under p part out (read + 1) written y new
+      → LaidSoFar under p part out (read + 1) written y new
   reads-own y h a =
       record {
         others = laid .others;
@@ -47,7 +47,7 @@ module _ (under : Bool) (p : ℕ) (part out : List ℕ) (read written old new : 
 
   -- the strand's own letter is written
   pub writes-own : (z c : ℕ) → written < length out → Arc under new (c ∷ []) z []
-      → Laid under p part (set out written c) read (written + 1) old z
+      → LaidSoFar under p part (set out written c) read (written + 1) old z
   writes-own z c h a =
       record {
         others = laid .others;
@@ -58,7 +58,7 @@ module _ (under : Bool) (p : ℕ) (part out : List ℕ) (read written old new : 
   -- a letter of other strands is read and written
   pub crosses : (d : ℕ) → read < length part → written < length out → IsOther old (getD part read 0) d
       → (new ≡ generator d → ⊥)
-      → Laid under p part (set out written (beside d new)) (read + 1) (written + 1) old new
+      → LaidSoFar under p part (set out written (beside d new)) (read + 1) (written + 1) old new
   crosses d h k o n =
       record {
         others = laid .others ++ (d ∷ []);
@@ -111,6 +111,6 @@ both-parts P m n first rest k h = go (decLt k m)
     go (yes l) = first k l
     go (no l) = rest k (omega arith) h
 
--- before the first letter
-pub none-laid : (under : Bool) (p : ℕ) (part out : List ℕ) → p ≤ 7 → Laid under p part out 0 0 p p
+-- before the first letter, nothing is read and nothing is written
+pub none-laid : (under : Bool) (p : ℕ) (part out : List ℕ) → p ≤ 7 → LaidSoFar under p part out 0 0 p p
 none-laid under p part out h = record { others = []; was = none h; is = none h }

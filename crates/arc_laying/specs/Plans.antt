@@ -12,7 +12,8 @@ pub data Placed (under : Bool) (x c t : ℕ) : Type 0 where
   own : {y : ℕ} → Arc under x (c ∷ []) y [] → Placed under x c t
   aside : {d : ℕ} → Arc under x (c ∷ []) x (d ∷ []) → Arc under t (beside d t ∷ []) t (d ∷ []) → Placed under x c t
 
--- the letter at place k of a part that is an arc so far, of a strand from place p
+-- The part's first k letters are an arc of a strand from place p, and the plan has a right place for the letter after
+-- them.
 pub record PlacedAt (under : Bool) (p : ℕ) (part plan : List ℕ) (k : ℕ) : Type 0 where
   pub strand : ℕ
   pub others : List ℕ

@@ -13,10 +13,10 @@ ghost use Rattle.braid_arcs.specs.Arcs.{Relaid};
 ghost use Rattle.arc_strand.specs.steps.Strand.{IsOther};
 ghost use Rattle.word.specs.Letters.{generator};
 ghost use Rattle.arc_laying.specs.Plans.{Plan};
-ghost use Rattle.arc_laying.specs.steps.Laying.{Ready, Turned, Follows, Unfinished, GoesOn};
+ghost use Rattle.arc_laying.specs.steps.Laying.{BeforeTurn, AfterTurn, Follows, Unfinished, GoesOn};
 
-// How many letters of the old part are read and of the new part written, and where the strand stands in each. After a
-// refusal `written` is one more than the old part has letters.
+// How many letters of the old part are read, how many letters of the new part are written, and where the strand stands
+// in each part. After a refusal `written` is one more than the number of letters of the old part.
 pub(crate) struct Laying {
     read: usize,
     written: usize,
@@ -24,7 +24,7 @@ pub(crate) struct Laying {
     new: u8,
 }
 
-// The new part has one letter more than the old part has: a refusal.
+// A refusal: `written` becomes one more than n, the number of letters of the old part.
 fn refused(n: usize, s: Laying) -> Laying
     requires { ⌜ n < 65536 ⌝ }
     ensures { λ r. ⌜ (r .read ≡ s .read) × (r .written ≡ n + 1) ⌝ }
@@ -39,8 +39,8 @@ fn refused(n: usize, s: Laying) -> Laying
 
 // Writes one step of the strand towards place t.
 fn stepped(part: &[u8], p: u8, under: bool, out: &mut [u8], s: Laying, t: u8) -> Laying
-    requires { ⌜ Ready under p (now part) (now out) s × (s .new ≡ t → ⊥) ⌝ }
-    ensures { λ r. ⌜ Turned under p (now (part .entry)) (now (out .exit)) s r × (r .read ≡ s .read) ⌝ }
+    requires { ⌜ BeforeTurn under p (now part) (now out) s × (s .new ≡ t → ⊥) ⌝ }
+    ensures { λ r. ⌜ AfterTurn under p (now (part .entry)) (now (out .exit)) s r × (r .read ≡ s .read) ⌝ }
 {
     let read = s.read;
     let written = s.written;
@@ -70,16 +70,16 @@ fn stepped(part: &[u8], p: u8, under: bool, out: &mut [u8], s: Laying, t: u8) ->
     }
 }
 
-// Reads and writes the next letter of the old part, which is of two other strands. The letter is d if the strand stands
-// at place 0.
+// Reads and writes the next letter of the old part, which is a letter of two other strands. With the strand at place 0
+// it would be the letter d.
 fn crossed(part: &[u8], p: u8, under: bool, out: &mut [u8], s: Laying, d: u8) -> Laying
     requires { ⌜
-        Ready under p (now part) (now out) s
+        BeforeTurn under p (now part) (now out) s
         × (s .read < length (now part)) × IsOther (s .old) (getD (now part) (s .read) 0) d
         ⌝ }
     ensures { λ r.
         ⌜
-        Turned under p (now (part .entry)) (now (out .exit)) s r × (r .read ≤ s .read + 1)
+        AfterTurn under p (now (part .entry)) (now (out .exit)) s r × (r .read ≤ s .read + 1)
         × (r .written ≤ length (now (part .entry)) → s .new ≡ generator d → ⊥)
         ⌝ }
 {
@@ -105,12 +105,12 @@ fn crossed(part: &[u8], p: u8, under: bool, out: &mut [u8], s: Laying, d: u8) ->
 // One turn.
 fn turn(part: &[u8], p: u8, under: bool, plan: &[u8], out: &mut [u8], s: Laying) -> Laying
     requires { ⌜
-        Ready under p (now part) (now out) s
+        BeforeTurn under p (now part) (now out) s
         × (length (now part) ≤ length (now plan)) × Unfinished (length (now part)) s
         ⌝ }
     ensures { λ r.
         ⌜
-        Turned under p (now (part .entry)) (now (out .exit)) s r
+        AfterTurn under p (now (part .entry)) (now (out .exit)) s r
         × Follows under p (now (part .entry)) (now (plan .entry)) s r
         ⌝ }
 {
@@ -154,8 +154,9 @@ fn goes_on(n: usize, s: Laying) -> bool
     s.new != s.old
 }
 
-// Lays an arc anew: the strand comes to a letter of other strands at the place that the plan has for the letter.
-// Returns how many letters the new part has, or one more than the old part has on a refusal.
+// Lays an arc anew. At each letter of two other strands, the strand stands at the place that the plan has for this
+// letter. Returns the number of letters of the new part. On a refusal it returns one more than the number of letters of
+// the old part.
 pub fn lay(part: &[u8], p: u8, under: bool, plan: &[u8], out: &mut [u8]) -> usize
     requires { ⌜
         (p ≤ 7) × (length (now part) ≤ length (now plan)) × (length (now part) ≤ length (now out))

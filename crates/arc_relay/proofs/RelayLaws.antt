@@ -25,7 +25,7 @@ module _ (row : List ℕ) (n b e : ℕ) (h : b ≤ e) (k : e ≤ n) (l : n ≤ l
   old-length : length (part b (e - b) row) ≡ e - b
   old-length = length-take-le (e - b) (drop b row) (omega (arith, length-drop b row))
 
-  -- the letters from b to n change to `mid`, and begin with the new part and the letters from e to n
+  -- `mid` replaces the letters from b to n, and begins with the new part and then the letters from e to n
   pub is-replaced : (p m : ℕ) (under : Bool) (plan out mid : List ℕ) → m ≤ e - b → m ≤ length out
       → length mid ≡ length behind
       → take (length behind - (e - b - length (take m out))) mid ≡ take m out ++ drop (e - b) behind
@@ -71,7 +71,7 @@ relayed-relays {n} {b} {e} {r = r} {before = before} {after = after} (inr x) =
     then {v = take r after} (take b before) (part b (e - b) before) (x .new) (part e (n - e) before) whole (x .relaid)
     (rw (x .word) done)
 
--- and it has not more letters
+-- the word after relaying has not more letters
 pub relayed-fewer : {n b e p r : ℕ} {under : Bool} {plan before after : List ℕ}
     → Relayed n b e p under plan before after r
     → r ≤ n

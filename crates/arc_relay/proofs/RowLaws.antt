@@ -55,7 +55,8 @@ module _ (row new : List ℕ) (old : ℕ) (few : length new ≤ old) (in-row : o
         take-at (drop old row) (more ++ rest) (length (drop old row)) refl,
       )
 
-  -- as the code does it: p is the row with the new codes in front, and mid what stands for the codes after them
+  -- As the code does it: p is the row with the new codes in front, and `mid` is the rest of p, in which the codes after
+  -- the old ones have moved up.
   pub replaced-by : (p mid : List ℕ) → p ≡ overlaid (take (length row) new) row
       → mid ≡ overlaid (drop (old - length new) (take (length p - length new) (drop (length new) p)))
       (take (length p - length new) (drop (length new) p))
@@ -76,7 +77,7 @@ module _ (row new : List ℕ) (old : ℕ) (few : length new ≤ old) (in-row : o
       ap₂ (λ (u v : List ℕ). take (length row - (old - m)) (u ++ (v ++ drop (length p - m) (drop m p)))) first mid-is
       ∙ replaced (drop (length p - m) (drop m p))
 
--- a part of a row of n codes, in two
+-- a part of a row of n codes, cut in two
 pub split-part : (row : List ℕ) (b e n : ℕ) → b ≤ e → e ≤ n → n ≤ length row
     → take (n - b) (drop b row) ≡ part b (e - b) row ++ part e (n - e) row
 split-part row b e n h k l =

@@ -106,7 +106,7 @@ no-plan q = at (q .places 0 (omega arith))
     at : PlacedAt false 0 (1 ∷ []) (1 ∷ []) 0 → ⊥
     at s = go (subst (λ (x : ℕ). Placed false x 1 1) (no-letters (s .before)) (s .placed))
 
--- a program that takes this for a plan is wrong: nothing changes
+-- place 1 is no plan for b2, so nothing changes; a program that lays b2 anew by it is wrong
 pub no-plan-left : {after : List ℕ} {r : ℕ} → Relayed 1 0 1 0 false (1 ∷ []) (1 ∷ []) after r
     → (r ≡ 1) × (after ≡ 1 ∷ [])
 no-plan-left (inl e) = e

@@ -9,9 +9,9 @@ use Rattle.base.specs.Digits.{part}
 use Rattle.braid_arcs.specs.Arcs.{Relaid}
 use Rattle.arc_laying.specs.Plans.{Plan}
 
--- The letters from place b to place e are an arc of a strand that begins at place p, and the plan is a plan for this
--- arc. They are laid anew: a new part stands for them, and the letters after them move up. The new word is the first r
--- codes of the row.
+-- The letters at places b to e - 1 are an arc of a strand that begins at place p, and the plan is a plan for this arc.
+-- The arc is laid anew: a new part replaces it, and the letters after it move up. The new word is the first r codes of
+-- the row.
 pub record Replaced (n b e p : ℕ) (under : Bool) (plan before after : List ℕ) (r : ℕ) : Type 0 where
   pub inside : (b ≤ e) × (e ≤ n) × (n ≤ length before)
   pub new : List ℕ

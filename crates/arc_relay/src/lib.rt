@@ -26,7 +26,7 @@ fn move_up(part: &mut [u8], by: usize)
     }
 }
 
-// Replaces the first `old` codes of a part by new codes that are not more. The codes after them move up.
+// Replaces the first `old` codes of a part by new codes, at most as many. The codes after them move up.
 fn replace(part: &mut [u8], old: usize, new: &[u8])
     requires { ⌜ (length (now new) ≤ old) × (old ≤ length (now part)) ⌝ }
     ensures { λ _.
@@ -53,7 +53,7 @@ fn fits(n: usize, b: usize, e: usize, p: u8, row: usize, room: usize) -> bool
     e - b <= room
 }
 
-// Lays the letters from place b to place e anew, if they are an arc. Returns how many letters the word then has.
+// Lays the letters at places b to e - 1 anew, if they are an arc. Returns how many letters the word then has.
 fn relay_inside(
     codes: &mut [u8],
     n: usize,
@@ -78,8 +78,8 @@ fn relay_inside(
     n - (e - b - m)
 }
 
-// Lays the letters from place b to place e anew, if they are an arc of the strand that begins at place p. The plan has
-// the strand's place at each letter. `out` is working memory. Returns how many letters the word then has.
+// Lays the letters at places b to e - 1 anew, if they are an arc of the strand that begins at place p. The plan has the
+// strand's place at each letter. `out` is working memory. Returns how many letters the word then has.
 pub fn relay(
     codes: &mut [u8],
     n: usize,

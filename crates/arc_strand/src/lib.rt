@@ -46,7 +46,7 @@ pub fn passed(c: u8, x: u8, under: bool) -> u8
     x
 }
 
-// The letter c of two other strands, as it is if the strand stands at place 0. The answer is 0 if c is no such letter.
+// The letter c of two other strands, as it would be with the strand at place 0. The answer is 0 if c is no such letter.
 pub fn other(c: u8, x: u8) -> u8
     requires { ⌜ x ≤ 7 ⌝ }
     ensures { λ r. ⌜ (r ≡ 0) ⊎ IsOther x c r ⌝ }

@@ -124,7 +124,7 @@ digits-below b zero v p k = p
 digits-below b (suc n) v p zero = mod-lt (v / b ^ n) p
 digits-below b (suc n) v p (suc k) = digits-below b n v p k
 
--- ---- each is the inverse of the other
+-- ---- value and digits are inverse to each other
 
 value-digits : (b n v : ℕ) → 0 < b → value b (digits b n v) ≡ v % b ^ n
 unfolding value digits

@@ -102,7 +102,8 @@ module _ (f : ℕ → Bool) where
       (every-append (take k xs) (getD xs k 0 ∷ [])
       ∙ ap (λ (b : Bool). every f (take k xs) && b) (and-true (f (getD xs k 0))))
 
-  -- For a test that 0 passes: if at most one element comes after the first n, they all pass just if place n does.
+  -- For a test that 0 passes: if at most one element comes after the first n, `every` holds of these elements exactly
+  -- if place n passes.
   pub every-last : f 0 ≡ true → (xs : List ℕ) (n : ℕ) → length xs ≤ n + 1 → every f (drop n xs) ≡ f (getD xs n 0)
   unfolding every
   every-last z [] n h = ap (every f) (drop-nil n) ∙ sym z

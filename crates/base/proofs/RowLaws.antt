@@ -215,7 +215,7 @@ module _ (b n : ℕ) where
         rw (pow-pow 8 (rowBytes b (n % 8))) (pow-mono {j = 64} (omega arith))
 
     pub packs : (xs : List ℕ) → Below (2 ^ b) xs → length xs ≡ n
-        → Regroups xs 8 (2 ^ b) (rowBytes b n) b 256 (n / 8) (2 ^ fillerBits b n) 1
+        → Regroups xs 8 (2 ^ b) (rowBytes b n) b 256 (n / 8) (2 ^ fillerBits b n)
     packs xs below l =
         let r : length xs - n / 8 * 8 ≡ n % 8 = omega arith in
         record {
@@ -227,19 +227,18 @@ module _ (b n : ℕ) where
           positive = omega arith;
           a-byte = omega arith;
           up-positive = pow-pos (fillerBits b n);
-          down-positive = omega arith;
           rest = rw (r, last-row .1, row-fills b (n % 8)) last-fits;
         }
 
   pub packed-groups : (xs : List ℕ) → Below (2 ^ b) xs → length xs ≡ n
-      → regrouped xs 8 (2 ^ b) (rowBytes b n) b 256 (n / 8) (2 ^ fillerBits b n) 1 ≡ packedRow b xs
+      → regrouped xs 8 (2 ^ b) (rowBytes b n) b 256 (n / 8) (2 ^ fillerBits b n) ≡ packedRow b xs
   unfolding regrouped packedRow
   packed-groups xs below l =
       let at : ℕ = n / 8 * 8 in
       let r : rowBytes b n - n / 8 * b ≡ rowBytes b (n % 8) = omega (arith, last-row .0) in
       let front : length (take at xs) ≡ at = length-take-le at xs (omega arith) in
       let back : length (drop at xs) ≡ n % 8 = omega (arith, length-drop at xs) in
-      rw (r, div-one, last-row .1, ← back)
+      rw (r, last-row .1, ← back)
       (sym (packed-append b (n / 8 * b) (take at xs) (drop at xs) (ap (λ (k : ℕ). k * b) front ∙ eight-fill)
       (drop-below at xs below)))
       ∙ ap (packedRow b) (take-append-drop at xs)

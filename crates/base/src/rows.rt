@@ -50,7 +50,7 @@ pub fn filler_is_zero(bytes: &[u8], bits: usize, n: usize) -> bool
 }
 
 // Regroups digits. Each group of m digits to base `base` becomes n digits to base `to`. The number that the rest of the
-// source writes, times `up` and divided by `down`, is then written in the rest of the output.
+// source writes, times `up`, is then written in the rest of the output.
 fn regroup(
     src: &[u8],
     m: usize,
@@ -60,12 +60,11 @@ fn regroup(
     to: u64,
     groups: usize,
     up: u64,
-    down: u64,
 )
-    requires { ⌜ Regroups (now src) m base (length (now dst)) n to groups up down ⌝ }
+    requires { ⌜ Regroups (now src) m base (length (now dst)) n to groups up ⌝ }
     ensures { λ r.
         ⌜
-        now (dst .exit) ≡ regrouped (now (src .entry)) m base (length (now (dst .entry))) n to groups up down
+        now (dst .exit) ≡ regrouped (now (src .entry)) m base (length (now (dst .entry))) n to groups up
         ⌝ }
 {
     let mut i = 0;
@@ -81,7 +80,7 @@ fn regroup(
         k += 1;
     }
     let rest = number(&src[i..], base);
-    spell(&mut dst[j..], to, rest * up / down);
+    spell(&mut dst[j..], to, rest * up);
 }
 
 // Packs a row into exactly the bytes that it needs.
@@ -92,7 +91,7 @@ pub fn pack(row: &[u8], bits: usize, bytes: &mut [u8])
     let n = row.len();
     let size = power(bits);
     let unit = filler_values(bits, n);
-    regroup(row, 8, size, bytes, bits, 256, n / 8, unit, 1);
+    regroup(row, 8, size, bytes, bits, 256, n / 8, unit);
 }
 
 // Packs a row at place `at` of an output, and returns the place after the row.

@@ -1,7 +1,7 @@
--- A word in which arcs are laid anew is the same braid and not longer. Let `there` be the strand that comes from place
--- 0. A strand that has come to an arc's start and passes the arc is the same braid as the arc's other letters, passed
--- with the strand at place 0, and then the strand that comes to the arc's end. Two arcs with the same ends and other
--- letters are therefore the same braid.
+-- A word in which arcs are laid anew is the same braid and not longer. `there x` is the word in which the strand goes
+-- from place 0 to place x. For an arc from x to y, `there x` and then the arc are the same braid as the arc's other
+-- letters, with the strand at place 0, and then `there y`. So two arcs with the same ends and the same other letters
+-- are the same braid.
 use Prim.Native.Nat.{ℕ, zero, suc, _+_, _-_, _≤_, _<_}
 use mathlib.Core.Path.{_≡_, sym, subst}
 use mathlib.Core.Bool.{Bool, true}

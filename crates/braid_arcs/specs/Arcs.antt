@@ -17,13 +17,13 @@ rightward under x = cond under (x + 8) x
 abbrev pub leftward : Bool → ℕ → ℕ
 leftward under x = cond under x (x + 8)
 
--- A letter of two other strands, with the strand at place x. The letter is d if the strand stands before both of them,
--- and has the generator before d's if the strand stands behind both of them.
+-- A letter of two other strands, with the strand at place x. With the strand at place 0 it would be the letter d. It is
+-- d if the strand stands before both of them. It has the generator before d's if the strand stands behind both of them.
 abbrev pub beside : ℕ → ℕ → ℕ
 beside d x = cond (leb x (generator d)) d (d - 1)
 
 -- The part is an arc of a strand from place x to place y. The last list has the letters of the other strands, each as
--- it is if the strand stands at place 0. The strand is never between the two strands that such a letter crosses.
+-- it would be with the strand at place 0. The strand is never between the two strands that such a letter crosses.
 pub data Arc (under : Bool) : ℕ → List ℕ → ℕ → List ℕ → Type 0 where
   none : {x : ℕ} → x ≤ 7 → Arc under x [] x []
   right : {x y : ℕ} {part others : List ℕ} → x < 7 → Arc under (suc x) part y others
@@ -34,8 +34,8 @@ pub data Arc (under : Bool) : ℕ → List ℕ → ℕ → List ℕ → Type 0 w
       → Arc under x part y others
       → Arc under x (beside d x ∷ part) y (d ∷ others)
 
--- Both parts are arcs of one sign, from the same place to the same place, with the same other letters. The new part is
--- not longer.
+-- Both parts are arcs over the other strands, or both are arcs under them. They have the same start, the same end and
+-- the same other letters. The new part is not longer.
 pub record Relaid (under : Bool) (start : ℕ) (old new : List ℕ) : Type 0 where
   pub end : ℕ
   pub others : List ℕ
@@ -43,7 +43,7 @@ pub record Relaid (under : Bool) (start : ℕ) (old new : List ℕ) : Type 0 whe
   pub is : Arc under start new end others
   pub not-longer : length new ≤ length old
 
--- arcs are laid anew inside a word, one after another, from the first word to the second
+-- arcs laid anew inside a word, one after another, lead from the first word to the second
 pub data Relays : List ℕ → List ℕ → Type 0 where
   done : {w : List ℕ} → Relays w w
   then : {w v : List ℕ} {under : Bool} {start : ℕ} (front old new rest : List ℕ) → w ≡ front ++ (old ++ rest)

@@ -1,6 +1,6 @@
--- Words without handles. A word has no handle exactly if no two of its places are the ends of one. Such a word is
--- freely reduced, since two letters that cancel are a handle with nothing between. Nothing is claimed of which braids
--- such words are. Then: free reduction before or after the steps leaves the same braid.
+-- Words without handles. A word has no handle exactly if no two of its places are the ends of a handle. Such a word is
+-- freely reduced, because two letters that cancel are a handle with no letters between. This file does not say which
+-- braids such words are. Free reduction before or after the steps leaves the same braid.
 use Prim.Native.Nat.{ℕ, _+_, _-_, _<_}
 use mathlib.Core.Path.{_≡_, ap}
 use mathlib.Core.Bool.{true, false}

@@ -1,5 +1,6 @@
--- Laws of handles. Whether a handle goes from p to q depends on the letters up to q alone. So a front without handles
--- stays without when it is cut, and the next letter after such a front decides if the earliest handle ends there.
+-- Laws of handles. Whether a handle goes from p to q depends only on the letters up to q. So a front of a word without
+-- handles has no handle. After a front without handles, the next letter decides whether the earliest handle ends with
+-- it.
 use Prim.Native.Nat.{ℕ, _+_, _-_, _≤_, _<_}
 use mathlib.Core.Path.{_≡_, refl, sym, ap, _∙_}
 use mathlib.Core.Bool.{Bool, true, false, cond, _&&_}
@@ -15,12 +16,12 @@ use Rattle.base.specs.Lists.{firstFrom, every}
 use Rattle.base.proofs.ListLaws.{every-getD, every-from, true-false, not-true-false}
 use Rattle.word.specs.Letters.{inverse}
 use Rattle.braid_handles.specs.Handles.{between, avoids, isHandle, startOf, ends, earliestEnd, hasHandle}
-use Rattle.braid_handles.specs.Handles.{conjugated, without, stepped}
+use Rattle.braid_handles.specs.Handles.{conjugated, handleReduced, stepped}
 use Rattle.braid_handles.proofs.FirstPlaces.{found-passes, before-found, found-at, found-alike}
 
 -- ---- the letters between two places
 
--- they are letters of the front if the later place is not past it
+-- the letters between two places are letters of the front if the later place is not past the front
 between-front : (p q : ℕ) (u v : List ℕ) → p < q → q ≤ length u → between p q (u ++ v) ≡ between p q u
 between-front p q u v h l =
     ap (take (q - (p + 1))) (drop-append-le (p + 1) u v (omega arith))
@@ -64,7 +65,7 @@ module _ (u v : List ℕ) where
   start-front q l =
       found-alike (λ p. isHandle (u ++ v) p q) (λ p. isHandle u p q) 0 q (λ p a b. handle-front p q (omega arith) l)
 
-  -- a handle of the front is one of the whole, and back
+  -- a handle ends at a place of the front exactly if one ends there in the whole word
   ends-front : (q : ℕ) → q < length u → ends (u ++ v) q ≡ ends u q
   ends-front q l = ap (λ (k : ℕ). ltb k q) (start-front q l)
 
@@ -102,7 +103,7 @@ free-take k w e = free-front (take k w) (drop k w) (rw (take-append-drop k w) e)
 -- ---- the letter after a front without handles
 
 module _ (u : List ℕ) (c : ℕ) (v : List ℕ) where
-  -- whether a handle ends with it, and where that handle begins, does not depend on what comes after
+  -- whether a handle ends with the letter c, and where that handle begins, does not depend on the letters after c
   pub start-next : startOf (u ++ (c ∷ v)) (length u) ≡ startOf (u ++ (c ∷ [])) (length u)
   start-next =
       ap (λ (w : List ℕ). startOf w (length u)) (sym (append-snoc u c v))
@@ -131,7 +132,7 @@ module _ (u : List ℕ) (c : ℕ) (v : List ℕ) where
           lt-ltb (earliestEnd (u ++ (c ∷ v))) (length (u ++ (c ∷ v)))
           (omega (arith, earliest-next, length-append u (c ∷ v)))
 
-      -- and this is the step
+      -- the step takes out the handle that ends with this letter
       pub step-next : stepped (u ++ (c ∷ v))
           ≡ take (startOf (u ++ (c ∷ v)) (length u)) u
           ++ (conjugated (getD u (startOf (u ++ (c ∷ v)) (length u)) 0)
@@ -141,15 +142,15 @@ module _ (u : List ℕ) (c : ℕ) (v : List ℕ) where
           let w : List ℕ = u ++ (c ∷ v) in
           let p : ℕ = startOf w (length u) in
           let l : p < length u = ltb-true p (length u) e in
-          ap (λ (b : Bool). cond b (without (startOf w (earliestEnd w)) (earliestEnd w) w) w) handle-here
-          ∙ ap (λ (q : ℕ). without (startOf w q) q w) earliest-next
+          ap (λ (b : Bool). cond b (handleReduced (startOf w (earliestEnd w)) (earliestEnd w) w) w) handle-here
+          ∙ ap (λ (q : ℕ). handleReduced (startOf w q) q w) earliest-next
           ∙ (λ i. take-append-le p u (c ∷ v) (omega arith) i
           ++ (conjugated (List·getD-append u (c ∷ v) 0 p l i) (between-next p l i) ++ after-seam i))
         where
           after-seam : drop (length u + 1) (u ++ (c ∷ v)) ≡ v
           after-seam = drop-append-add u (c ∷ v) 1
 
-  -- if no handle ends with this letter, the front with it has none
+  -- if no handle ends with this letter, the front and this letter have no handle
   pub free-next : Free u → ends (u ++ (c ∷ [])) (length u) ≡ false → Free (u ++ (c ∷ []))
   free-next free e =
       ends-free (u ++ (c ∷ [])) (λ q l. go q l (decLt q (length u)))

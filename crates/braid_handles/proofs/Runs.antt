@@ -12,15 +12,15 @@ use lib.ListN.{length}
 use Rattle.base.specs.Questions.{firstNo}
 use Rattle.base.proofs.QuestionLaws.{passes, fails}
 use Rattle.word.specs.Words.{maxLetters}
-use Rattle.braid_handles.specs.Handles.{startOf, earliestEnd, replaced, conjugated, without, stepped}
-use Rattle.braid_handles.specs.Handles.{afterSteps, stepQuestions}
+use Rattle.braid_handles.specs.Handles.{startOf, earliestEnd, conjugatedLetter, conjugated, handleReduced}
+use Rattle.braid_handles.specs.Handles.{stepped, afterSteps, stepQuestions}
 use Rattle.braid_handles.proofs.HandleLaws.{Free}
 
 -- ---- a word without handles
 
 step-free : (w : List ℕ) → Free w → stepped w ≡ w
 unfolding stepped
-step-free w e = ap (λ (b : Bool). cond b (without (startOf w (earliestEnd w)) (earliestEnd w) w) w) e
+step-free w e = ap (λ (b : Bool). cond b (handleReduced (startOf w (earliestEnd w)) (earliestEnd w) w) w) e
 
 pub steps-free : (n : ℕ) (w : List ℕ) → Free w → afterSteps n w ≡ w
 unfolding afterSteps
@@ -89,5 +89,5 @@ pub conjugated-append : (c : ℕ) (x y : List ℕ) → conjugated c (x ++ y) ≡
 unfolding conjugated
 conjugated-append c [] y = refl
 conjugated-append c (d ∷ x) y =
-    ap (λ (t : List ℕ). replaced c d ++ t) (conjugated-append c x y)
-    ∙ sym (append-assoc (replaced c d) (conjugated c x) (conjugated c y))
+    ap (λ (t : List ℕ). conjugatedLetter c d ++ t) (conjugated-append c x y)
+    ∙ sym (append-assoc (conjugatedLetter c d) (conjugated c x) (conjugated c y))

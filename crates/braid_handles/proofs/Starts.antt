@@ -87,7 +87,7 @@ module _ (w : List ℕ) (letters : Lettered w) (q : ℕ) (l : q < length w) wher
       found-at (λ p. isHandle w p q) q p h e
       (λ j b. not-true-false (isHandle w j q) (λ t. later-none j p b h t e))
 
-  -- the start is the start of a handle
+  -- if a handle ends at q, `startOf` is the start of a handle
   pub start-handle : ends w q ≡ true → isHandle w (startOf w q) q ≡ true
   unfolding startOf
   start-handle e = found-passes (λ p. isHandle w p q) q (ltb-true (startOf w q) q e)
@@ -111,7 +111,7 @@ module _ (w : List ℕ) (letters : Lettered w) (q : ℕ) (l : q < length w) wher
               (handle-inside p h e (k - 1) (omega arith) (omega (arith, own .within)))
               (omega (arith, handle-generator p h e)))
 
-      -- no letter of the generator one less stands after it
+      -- no letter of the generator one less stands after the start of a handle
       latest-less : (p : ℕ) → p < q → isHandle w p q ≡ true → j ≤ p
       latest-less p h e = go (decLt p j)
         where
@@ -167,7 +167,7 @@ module _ (w : List ℕ) (letters : Lettered w) (q : ℕ) (l : q < length w) wher
           ∙ sym (inverse-twice (getD w p 0) (letter p (omega arith)))
           ∙ ap inverse (sym (handle-ends p h t))))
 
-      -- a handle ends at q exactly if it does by this test
+      -- a handle ends at q exactly if the test by the latest places says so
       pub ends-latest : ends w q ≡ begins
       ends-latest = go begins refl
         where

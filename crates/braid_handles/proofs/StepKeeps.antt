@@ -20,14 +20,14 @@ use Rattle.braid_same.specs.SameBraid.{SameBraid}
 use Rattle.braid_same.proofs.Laws.{same-lettered, same-none, same-then, same-turned, same-append, same-inside}
 use Rattle.braid_same.proofs.Relations.{cancelled, exchanged}
 use Rattle.braid_same.proofs.Turns.{cancelled-back, up-letter, turned-down}
-use Rattle.braid_handles.specs.Handles.{between, avoids, isHandle, startOf, earliestEnd, hasHandle, replaced}
-use Rattle.braid_handles.specs.Handles.{conjugated, without, stepped, afterSteps}
+use Rattle.braid_handles.specs.Handles.{between, avoids, isHandle, startOf, earliestEnd, hasHandle}
+use Rattle.braid_handles.specs.Handles.{conjugatedLetter, conjugated, handleReduced, stepped, afterSteps}
 use Rattle.braid_handles.proofs.Starts.{avoids-own, avoids-less, handle-ends, start-handle}
 use Rattle.braid_handles.proofs.HandleLaws.{earliest-ends}
 
 -- ---- the letter c passes one letter
 
--- a letter of c's next generator: between them stands c + 1 and its inverse
+-- a letter d of the generator after c's: c passes it, and d becomes d - 1 between the inverse of c + 1 and c + 1
 above-passes : (c d : ℕ) → isLetter c ≡ true → isLetter d ≡ true → generator d ≡ generator c + 1
     → SameBraid (c ∷ d ∷ []) (inverse (c + 1) ∷ (d - 1) ∷ (c + 1) ∷ c ∷ [])
 above-passes c d e e' a =
@@ -35,7 +35,7 @@ above-passes c d e e' a =
     (same-turned (same-inside [] (c ∷ d ∷ []) (cancelled-back (c + 1) (up-letter c d e e' a))))
     (same-inside (inverse (c + 1) ∷ []) [] (turned-down c d e e' a))
 
--- any other letter that may stand there is far from c
+-- any other letter that may stand between the ends is far from c
 others-apart : (c d : ℕ) → avoids c d ≡ true → (generator d ≡ generator c + 1 → ⊥) → Apart c d
 others-apart c d h n = go (decLe (generator c + 2) (generator d)) (decLe (generator d + 2) (generator c))
   where
@@ -50,7 +50,7 @@ others-apart c d h n = go (decLe (generator c + 2) (generator d)) (decLe (genera
         four (no x) (no y) = avoids-own c d h (omega arith)
 
 letter-passes : (c d : ℕ) → isLetter c ≡ true → isLetter d ≡ true → avoids c d ≡ true
-    → SameBraid (c ∷ d ∷ []) (replaced c d ++ (c ∷ []))
+    → SameBraid (c ∷ d ∷ []) (conjugatedLetter c d ++ (c ∷ []))
 letter-passes c d e e' h = go (eqb (generator d) (generator c + 1)) refl
   where
     go : (b : Bool) → eqb (generator d) (generator c + 1) ≡ b
@@ -69,7 +69,7 @@ passes c (d ∷ m) e l h =
     let (e', l') = lettered-cons d m l in
     let one = letter-passes c d e e' (and-left (avoids c d) (every (avoids c) m) h) in
     let rest = passes c m e l' (and-right (avoids c d) (every (avoids c) m) h) in
-    let x : List ℕ = replaced c d in
+    let x : List ℕ = conjugatedLetter c d in
     same-then (same-inside [] m one)
     (subst (λ (t : List ℕ). SameBraid t (x ++ conjugated c m ++ (c ∷ []))) (sym (append-assoc x (c ∷ []) m))
     (subst (λ (t : List ℕ). SameBraid (x ++ (c ∷ m)) t) (sym (append-assoc x (conjugated c m) (c ∷ [])))
@@ -113,16 +113,16 @@ lettered-between : (p q : ℕ) (w : List ℕ) → Lettered w → Lettered (betwe
 lettered-between p q w e = every-take isLetter (q - (p + 1)) (drop (p + 1) w) (every-drop isLetter (p + 1) w e)
 
 -- a handle from p to q taken out
-without-same : (p q : ℕ) (w : List ℕ) → Lettered w → p < q → q < length w → isHandle w p q ≡ true
-    → SameBraid w (without p q w)
+handle-reduced-same : (p q : ℕ) (w : List ℕ) → Lettered w → p < q → q < length w → isHandle w p q ≡ true
+    → SameBraid w (handleReduced p q w)
 unfolding isHandle
-without-same p q w e h l t =
+handle-reduced-same p q w e h l t =
     let c : ℕ = getD w p 0 in
     let m : List ℕ = between p q w in
     let same =
     handle-same c m (lettered-at w e p (omega arith)) (lettered-between p q w e)
     (and-right (eqb (getD w q 0) (inverse c)) (every (avoids c) m) t) in
-    subst (λ (v : List ℕ). SameBraid v (without p q w))
+    subst (λ (v : List ℕ). SameBraid v (handleReduced p q w))
     (ap (λ (d : ℕ). take p w ++ ((c ∷ m ++ (d ∷ [])) ++ drop (q + 1) w)) (sym (handle-ends w e q l p h t))
     ∙ handle-parts p q w h l)
     (same-inside (take p w) (drop (q + 1) w) same)
@@ -134,13 +134,13 @@ unfolding stepped
 step-same w e = go (hasHandle w) refl
   where
     go : (b : Bool) → hasHandle w ≡ b
-        → SameBraid w (cond b (without (startOf w (earliestEnd w)) (earliestEnd w) w) w)
+        → SameBraid w (cond b (handleReduced (startOf w (earliestEnd w)) (earliestEnd w) w) w)
     go false h = same-none w
     go true h =
         let q : ℕ = earliestEnd w in
         let l : q < length w = ltb-true q (length w) h in
         let t = earliest-ends w h in
-        without-same (startOf w q) q w e (ltb-true (startOf w q) q t) l (start-handle w e q l t)
+        handle-reduced-same (startOf w q) q w e (ltb-true (startOf w q) q t) l (start-handle w e q l t)
 
 pub steps-same : (n : ℕ) (w : List ℕ) → Lettered w → SameBraid w (afterSteps n w)
 unfolding afterSteps

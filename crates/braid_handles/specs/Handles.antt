@@ -1,5 +1,6 @@
 -- Handles of a word, and the steps that take them out (document 02, §9). A word is a list of codes, and places count
--- from 0. A handle is a letter; then letters, or none, of neither its generator nor the one before; then its inverse.
+-- from 0. A handle begins with a letter and ends with its inverse. No letter between the two has their generator or the
+-- generator before it.
 use Prim.Native.Nat.{ℕ, zero, suc, _+_, _-_}
 use mathlib.Core.Bool.{Bool, cond, not, _&&_}
 use mathlib.Core.List.{List, [], _∷_, _++_}
@@ -40,23 +41,24 @@ earliestEnd w = firstFrom (ends w) 0 (length w)
 abbrev pub hasHandle : List ℕ → Bool
 hasHandle w = ltb (earliestEnd w) (length w)
 
--- What stands for a letter d between the ends of a handle that begins with c. Code c + 1 is the next generator with the
--- sign of c, and d - 1 is c's generator with the sign of d.
-abbrev pub replaced : ℕ → ℕ → List ℕ
-replaced c d = cond (eqb (generator d) (generator c + 1)) (inverse (c + 1) ∷ (d - 1) ∷ (c + 1) ∷ []) (d ∷ [])
+-- What replaces a letter d between the ends of a handle that begins with c, which is b_i of sign e. A letter b_(i+1)
+-- becomes b_(i+1) of sign -e, b_i of its own sign, b_(i+1) of sign e. Any other letter stays. Code c + 1 is b_(i+1)
+-- with the sign of c, and d - 1 is b_i with the sign of d.
+abbrev pub conjugatedLetter : ℕ → ℕ → List ℕ
+conjugatedLetter c d = cond (eqb (generator d) (generator c + 1)) (inverse (c + 1) ∷ (d - 1) ∷ (c + 1) ∷ []) (d ∷ [])
 
--- what stands for all letters between the ends
+-- all letters between the ends of a handle that begins with c, each replaced
 unfoldable pub conjugated : ℕ → List ℕ → List ℕ
 conjugated c [] = []
-conjugated c (d ∷ m) = replaced c d ++ conjugated c m
+conjugated c (d ∷ m) = conjugatedLetter c d ++ conjugated c m
 
 -- the word without its handle from p to q: both ends are dropped, and the letters between are replaced
-abbrev pub without : ℕ → ℕ → List ℕ → List ℕ
-without p q w = take p w ++ (conjugated (getD w p 0) (between p q w) ++ drop (q + 1) w)
+abbrev pub handleReduced : ℕ → ℕ → List ℕ → List ℕ
+handleReduced p q w = take p w ++ (conjugated (getD w p 0) (between p q w) ++ drop (q + 1) w)
 
 -- A step takes out the handle that ends earliest. A word without handles stays as it is.
 unfoldable pub stepped : List ℕ → List ℕ
-stepped w = cond (hasHandle w) (without (startOf w (earliestEnd w)) (earliestEnd w) w) w
+stepped w = cond (hasHandle w) (handleReduced (startOf w (earliestEnd w)) (earliestEnd w) w) w
 
 -- the word after n steps
 unfoldable pub afterSteps : ℕ → List ℕ → List ℕ

@@ -1,5 +1,5 @@
--- A pair of letters and its replacement are the same braid, turned into Artin letters. If x m z does nothing, m does
--- what the inverse of x and then the inverse of z do.
+-- Turned into Artin letters, a pair of letters and its replacement are the same braid. A row x m z is the same braid as
+-- the empty word, so m is the same braid as the inverse of x and then the inverse of z.
 use Prim.Native.Nat.{ℕ, _+_, _≤_, _<_}
 use mathlib.Core.Path.{_≡_, refl, sym, ap, ap₂, _∙_, subst}
 use mathlib.Core.Bool.{Bool, true, false, cond}
@@ -22,7 +22,7 @@ use Rattle.braid_relations.proofs.RowLaws.{appendix-parts, row-apart}
 use Rattle.braid_relations.proofs.YBraids.{undone-same, undone-before}
 use Rattle.braid_relations.proofs.AllKept.{Relation, all-relations}
 
--- if x m z does nothing, m does what the inverses of x and z do
+-- if x m z is the same braid as the empty word, m is the same braid as the inverse of x and then the inverse of z
 solved : (x m z : List ℕ) → Lettered x → Lettered z → SameBraid (x ++ (m ++ z)) []
     → SameBraid m (inverted x ++ inverted z)
 solved x m z ex ez s =

@@ -7,7 +7,7 @@ use mathlib.Core.List.{List, [], _∷_}
 use lib.ListN.{length}
 use Rattle.base.specs.Lists.{every, equal, valuesFrom, tally, eachOnce}
 use Rattle.base.proofs.ListLaws.{true-false, equal-of}
-use Rattle.field.specs.Polynomial.{timesX, horner, times, first, reciprocalOf}
+use Rattle.field.specs.Polynomial.{timesX, horner, times, firstOrZero, reciprocalOf}
 use Rattle.field.specs.Fields.{operations}
 use Rattle.field.specs.declared.Field.the-variants.{Gf32}
 use Rattle.matrix.specs.Layout.{place, rowOf, columnOf, entry, matrixOf}
@@ -38,14 +38,14 @@ unmoved row k =
 
 -- {4,1} {7,1} {4,-1} {7,1}
 pub sign-mistyped : Kept (y 4 ∷ y 7 ∷ y⁻ 4 ∷ y 7 ∷ []) → ⊥
-unfolding every equal valuesFrom timesX horner times first reciprocalOf place rowOf columnOf entry matrixOf identity
-    swapped inverseList lastPosition tValue shareOf rowAfter letterOn wordOn following inverted eachBy runOf signedRun
-    run converted
+unfolding every equal valuesFrom timesX horner times firstOrZero reciprocalOf place rowOf columnOf entry matrixOf
+    identity swapped inverseList lastPosition tValue shareOf rowAfter letterOn wordOn following inverted eachBy runOf
+    signedRun run converted
 sign-mistyped k = true-false false (unmoved (y 4 ∷ y 7 ∷ y⁻ 4 ∷ y 7 ∷ []) k) refl
 
 -- {4,1} {7,1} {4,-1} {6,-1}
 pub number-mistyped : Kept (y 4 ∷ y 7 ∷ y⁻ 4 ∷ y⁻ 6 ∷ []) → ⊥
-unfolding every equal valuesFrom timesX horner times first reciprocalOf place rowOf columnOf entry matrixOf identity
-    swapped inverseList lastPosition tValue shareOf rowAfter letterOn wordOn following inverted eachBy runOf signedRun
-    run converted
+unfolding every equal valuesFrom timesX horner times firstOrZero reciprocalOf place rowOf columnOf entry matrixOf
+    identity swapped inverseList lastPosition tValue shareOf rowAfter letterOn wordOn following inverted eachBy runOf
+    signedRun run converted
 number-mistyped k = true-false false (unmoved (y 4 ∷ y 7 ∷ y⁻ 4 ∷ y⁻ 6 ∷ []) k) refl

@@ -1,5 +1,6 @@
--- Source 000, Appendix A: the relations between Y generators for parts 4 and 3, in its order. A relation is a word that
--- does nothing. Rows 21, 23 and 25 repeat rows 15, 19 and 7, as in the source.
+-- Source 000, Appendix A: the relations between Y generators for parts 4 and 3, in its order. A relation is a Y word
+-- whose Artin word carries every pair to itself (`Kept`). Rows 21, 23 and 25 repeat rows 15, 19 and 7, as in the
+-- source.
 use Prim.Native.Nat.{ℕ, _+_, _-_}
 use mathlib.Core.Path.{_≡_}
 use mathlib.Core.Bool.{Bool, cond, _&&_}
@@ -17,7 +18,7 @@ use Rattle.word_dialect.specs.Dialect.{inverted, fromY, converted}
 abbrev pub appendixParts : List ℕ
 appendixParts = 4 ∷ 3 ∷ []
 
--- the Artin word of a Y word, for these parts
+-- the Artin word of a Y word, for parts 4 and 3
 abbrev pub artin : List ℕ → List ℕ
 artin w = converted fromY appendixParts w
 
@@ -117,7 +118,7 @@ pub record Kept (row : List ℕ) : Type 0 where
   pub carries : (F : Operations) → BinaryField F → (ts : List ℕ) → TValues F ts → (p : Pair) → GoodPair F p
       → wordOn F ts (artin row) p ≡ p
 
--- what holds of every row
+-- every row of a list has the property P
 pub data All (P : List ℕ → Type 0) : List (List ℕ) → Type 0 where
   none : All P []
   also : {row : List ℕ} {rows : List (List ℕ)} → P row → All P rows → All P (row ∷ rows)
@@ -128,15 +129,16 @@ pub data All (P : List ℕ → Type 0) : List (List ℕ) → Type 0 where
 abbrev pub holdsAt : ℕ → ℕ → List ℕ → ℕ → Bool
 holdsAt c d row k = leb (k + 2) (length row) && (eqb (getD row k 0) c && eqb (getD row (k + 1) 0) d)
 
--- the first such place; the row's length if there is none
+-- the first place of the row at which the two letters stand; the row's length if there is none
 unfoldable pub placeIn : ℕ → ℕ → List ℕ → ℕ
 placeIn c d row = firstFrom (holdsAt c d row) 0 (length row)
 
--- the inverse of what stands before place k and the place after it, then the inverse of what stands after them
+-- the inverse of the letters before places k and k + 1 of the row, then the inverse of the letters after them
 abbrev pub inverseAround : ℕ → List ℕ → List ℕ
 inverseAround k row = inverted (take k row) ++ inverted (drop (k + 2) row)
 
--- what two letters become by the first row, first place, that holds them. Without such a row they are left.
+-- What two letters become, by the first row that holds them, at its first place that holds them. Without such a row
+-- they stay.
 unfoldable pub replacement : List (List ℕ) → ℕ → ℕ → List ℕ
 replacement [] c d = c ∷ d ∷ []
 replacement (row ∷ rows) c d =

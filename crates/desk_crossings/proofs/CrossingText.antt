@@ -42,7 +42,7 @@ accepted-numbers {word} all z =
     rw (given-numbers all z)
     (record { size = length-all (codes word); small = numbers-within word (sym (all .answer-is) ∙ z) })
 
--- the text on the first bytes of a buffer, as the code reads them
+-- the text for the first bytes of a buffer, as the code reads them
 module _ (got : Got) (input : List ℕ) {bytes : ℕ} {text : List ℕ} where
   pub text-not-read : got .read ≡ false → bytes ≡ 0 → text ≡ replicate textSize 0
       → TellsIn textSize (wordText got input) bytes text

@@ -69,7 +69,7 @@ module _ (k : ℕ) (h : k < 28) where
       (λ i. line (decimal (ea i) ∷ decimal (eb i) ∷ signedText (en i) ∷ []))
       (added-word (decimal a) (decimal b) (signedText n ∷ []) h f (added-word (decimal b) (signedText n) [] l g s))
 
--- an integer that is read as it stands in a row of 32 bits
+-- an integer from -10,000 to 10,000 that is held in 32 bits is read back unchanged
 pub read-back : (z : ℤ) → natAbs z ≤ 10000 → toZ w32 (ofZ w32 z) ≡ z
 read-back z h = toZ-ofZ (fits z h)
   where

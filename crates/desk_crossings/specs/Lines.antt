@@ -25,15 +25,16 @@ linesOf [] numbers = []
 linesOf (p ∷ ps) [] = []
 linesOf (p ∷ ps) (n ∷ ns) = pairLine p n ++ linesOf ps ns
 
--- what is written on a word: the lines of all pairs, or on a refusal the desk program's line
+-- the text written for a word: the lines of all pairs, or on a refusal the desk program's line
 unfoldable pub crossingText : List ℕ → List ℕ
 crossingText word =
     granted (wordAnswer word) (linesOf allPairs (allCrossings (codes word))) (answerLine (wordAnswer word))
 
--- what is written on a word, of which the buffer's first bytes were read; nothing if it could not be read
+-- The text written for a word that was read into a buffer: the word is the buffer's first bytes, as many as were read.
+-- There is no text if the word could not be read.
 unfoldable pub wordText : Got → List ℕ → List ℕ
 wordText got word = cond (got .read) (crossingText (take (got .bytes) word)) []
 
--- n bytes of an input of any length are enough to read: the same is written on them as on the whole input
+-- n bytes of an input of any length are enough to read: the text for these bytes is the text for the whole input
 abbrev pub EnoughOfWord : ℕ → Type 0
 EnoughOfWord n = Enough n crossingText

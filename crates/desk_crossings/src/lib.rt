@@ -11,7 +11,7 @@ mod line; // line.rt: the lines of all pairs
 // The bytes to read: one more than a word may have, so that a word that is too long is noticed.
 pub const WORD_ROOM: usize = desk_line::WORD_ROOM;
 
-// What is written on a word: the lines of all pairs, or on a refusal the desk program's line. If the word could not be
+// What is written for a word: the lines of all pairs, or on a refusal the desk program's line. If the word could not be
 // read, nothing is written.
 pub fn word_text(input: &[u8; WORD_ROOM], got: Got) -> Text
     ensures { λ r. ⌜ TellsIn textSize (wordText got (now (input .entry))) (r .bytes) (r .text) ⌝ }

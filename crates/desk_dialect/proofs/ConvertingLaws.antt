@@ -20,7 +20,8 @@ use Rattle.word.proofs.LongWords.{enough-of-word, whole-word}
 use Rattle.word_stored.specs.Stored.{maxStored}
 use Rattle.word_dialect.proofs.ConvertLaws.{afterWord, past-room}
 use Rattle.desk_words.specs.Making.{toWrite}
-use Rattle.desk_dialect.specs.Converting.{digitOf, partAt, partsOf, convertAnswer, convertedFile, EnoughToConvert}
+use Rattle.desk_dialect.specs.Converting.{digitShown, partAt, partsOf}
+use Rattle.desk_dialect.specs.Converting.{convertAnswer, convertedFile, EnoughToConvert}
 
 -- ---- the parts that a text writes
 
@@ -35,14 +36,14 @@ module _ (text : List ℕ) (k : ℕ) where
   pub no-part : length text ≤ 2 * k → 0 ≡ partAt text k
   unfolding partAt
   no-part h =
-      sym (ap₂ (λ (d c : ℕ). cond (eqb c 44) (digitOf d) 0) (List·getD-eq-default text 0 {n = 2 * k} h)
+      sym (ap₂ (λ (d c : ℕ). cond (eqb c 44) (digitShown d) 0) (List·getD-eq-default text 0 {n = 2 * k} h)
       (List·getD-eq-default text 44 {n = 2 * k + 1} (omega arith)))
 
   -- the text ends with part k
-  pub last-part : length text ≤ 2 * k + 1 → digitOf (getD text (2 * k) 0) ≡ partAt text k
+  pub last-part : length text ≤ 2 * k + 1 → digitShown (getD text (2 * k) 0) ≡ partAt text k
   unfolding partAt
   last-part h =
-      sym (ap (λ (c : ℕ). cond (eqb c 44) (digitOf (getD text (2 * k) 0)) 0)
+      sym (ap (λ (c : ℕ). cond (eqb c 44) (digitShown (getD text (2 * k) 0)) 0)
       (List·getD-eq-default text 44 {n = 2 * k + 1} h))
 
   module _ (h : 2 * k + 1 < length text) where
@@ -50,19 +51,19 @@ module _ (text : List ℕ) (k : ℕ) where
     same-byte : getD text (2 * k + 1) 44 ≡ getD text (2 * k + 1) 0
     same-byte = getD-inside text (2 * k + 1) 44 0 h
 
-    pub comma-follows : getD text (2 * k + 1) 0 ≡ 44 → digitOf (getD text (2 * k) 0) ≡ partAt text k
+    pub comma-follows : getD text (2 * k + 1) 0 ≡ 44 → digitShown (getD text (2 * k) 0) ≡ partAt text k
     unfolding partAt
     comma-follows e =
-        sym (ap (λ (b : Bool). cond b (digitOf (getD text (2 * k) 0)) 0)
+        sym (ap (λ (b : Bool). cond b (digitShown (getD text (2 * k) 0)) 0)
         (eq-eqb (getD text (2 * k + 1) 44) 44 (same-byte ∙ e)))
 
     pub other-follows : (getD text (2 * k + 1) 0 ≡ 44 → ⊥) → 0 ≡ partAt text k
     unfolding partAt
     other-follows e =
-        sym (ap (λ (b : Bool). cond b (digitOf (getD text (2 * k) 0)) 0)
+        sym (ap (λ (b : Bool). cond b (digitShown (getD text (2 * k) 0)) 0)
         (ne-eqb (getD text (2 * k + 1) 44) 44 (λ z. e (sym same-byte ∙ z))))
 
--- over 13 bytes
+-- a text of over 13 bytes writes no parts
 pub too-long-text : (text : List ℕ) → 13 < length text → [] ≡ partsOf text
 unfolding partsOf
 too-long-text text h =
@@ -81,7 +82,7 @@ all-written text parts n e h room all =
 -- ---- how much is enough to read
 
 module _ (way : Bool) (parts : List ℕ) where
-  -- there is room, so the word is asked, and then what comes after it
+  -- there is room, so the answer is that of the word's questions and of the questions after them
   there-is-room : (word : List ℕ) → convertAnswer way parts word
       ≡ firstNo (wordQuestions word ++ afterWord way maxStored word parts)
   unfolding convertAnswer

@@ -21,7 +21,7 @@ seven-ones : partsOf (49 ∷ 44 ∷ 49 ∷ 44 ∷ 49 ∷ 44 ∷ 49 ∷ 44 ∷ 49
 unfolding partsOf partAt valuesFrom
 seven-ones = refl
 
--- 7, and 43 and 4 3 and no text
+-- `7,` and `43` and `4 3` and the empty text
 trailing-comma : partsOf (55 ∷ 44 ∷ []) ≡ 7 ∷ 0 ∷ []
 unfolding partsOf partAt valuesFrom
 trailing-comma = refl

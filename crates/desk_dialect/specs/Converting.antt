@@ -15,15 +15,16 @@ use Rattle.desk_words.specs.Making.{toWrite, MakesNew}
 use Rattle.desk_words.specs.declared.Made.{Made}
 
 -- the digit that a byte shows; 0 for a byte that shows none
-abbrev pub digitOf : ℕ → ℕ
-digitOf b = cond (leb 48 b && leb b 57) (b - 48) 0
+abbrev pub digitShown : ℕ → ℕ
+digitShown b = cond (leb 48 b && leb b 57) (b - 48) 0
 
--- Part k of a text of digits with commas between. It is 0 if a comma does not follow where the text goes on.
+-- Part k of a text of digits with commas between them. The part is 0 if the text goes on after its digit without a
+-- comma.
 unfoldable pub partAt : List ℕ → ℕ → ℕ
-partAt text k = cond (eqb (getD text (2 * k + 1) 44) 44) (digitOf (getD text (2 * k) 0)) 0
+partAt text k = cond (eqb (getD text (2 * k + 1) 44) 44) (digitShown (getD text (2 * k) 0)) 0
 
--- The parts that a text such as 4,3 writes. Any other text writes a zero, or no parts, and 33 refuses both. Over 13
--- bytes no text writes parts of 7.
+-- The parts that a text such as 4,3 writes. Any other text gives a part 0, or no parts, and question 33 refuses both.
+-- Parts of 7 need at most 13 bytes: seven digits and six commas.
 unfoldable pub partsOf : List ℕ → List ℕ
 partsOf text = cond (leb (length text) 13) (values (partAt text) (length text / 2 + 1)) []
 
@@ -40,7 +41,7 @@ abbrev pub Converts : Bool → Bool → List ℕ → List ℕ → Made → Type 
 Converts way read parts word made =
     MakesNew read (convertAnswer way parts word) (convertedFile way parts word) made
 
--- so many bytes are enough to read of a word: the answer and the bytes written are those for the whole file
+-- The first w bytes of a word's file are enough to read: the answer and the bytes written are those for the whole file.
 abbrev pub EnoughToConvert : Bool → List ℕ → ℕ → Type 0
 EnoughToConvert way parts w =
     Enough w (convertAnswer way parts)

@@ -6,11 +6,11 @@ ghost use Prim.Native.Nat.{_≤_};
 ghost use mathlib.Core.Path.{_≡_};
 ghost use mathlib.Core.Bool.{true, false};
 ghost use lib.ListN.{length, take};
-ghost use Rattle.desk_dialect.specs.Converting.{digitOf, partAt, partsOf, Converts, EnoughToConvert};
+ghost use Rattle.desk_dialect.specs.Converting.{digitShown, partAt, partsOf, Converts, EnoughToConvert};
 
 // The digit that a byte shows; 0 for a byte that shows none.
 fn digit_of(b: u8) -> u8
-    ensures { λ r. ⌜ r ≡ digitOf b ⌝ }
+    ensures { λ r. ⌜ r ≡ digitShown b ⌝ }
 {
     if (b'0' <= b) & (b <= b'9') {
         return b - b'0';
@@ -18,7 +18,8 @@ fn digit_of(b: u8) -> u8
     0
 }
 
-// Part k of a text of digits with commas between; 0 if a comma does not follow where the text goes on.
+// Part k of a text of digits with commas between them. The part is 0 if the text goes on after its digit without a
+// comma.
 fn part_at(text: &[u8], k: usize) -> u8
     requires { ⌜ k ≤ 6 ⌝ }
     ensures { λ r. ⌜ r ≡ partAt (now (text .entry)) k ⌝ }

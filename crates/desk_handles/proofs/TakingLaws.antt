@@ -33,7 +33,7 @@ none-taken b e =
       keeps = λ z. absurd (omega (arith, b .answer-is));
     }
 
--- what the operation gave on zeros
+-- the file could be read, and the operation wrote to an output of zeros
 pub handles-taken : {limit : ℕ} {word : List ℕ} {taken : Taken} → taken .made .read ≡ true
     → TookHandles word limit (replicate maxStored 0) (taken .made .file) (taken .made .answer) (taken .made .bytes)
     (taken .left)
@@ -49,7 +49,7 @@ handles-taken r t =
 -- ---- how much is enough to read
 
 module _ (limit : ℕ) where
-  -- there is room, so the word is asked, and then each step
+  -- there is room, so the answer is that of the word's questions and of each step
   past-room : (word : List ℕ) → takingAnswer limit word
       ≡ firstNo (wordQuestions word ++ stepQuestions limit (codes word))
   unfolding takingAnswer

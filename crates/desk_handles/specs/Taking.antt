@@ -19,7 +19,7 @@ use Rattle.desk_handles.specs.declared.Taken.{Taken}
 unfoldable pub takingAnswer : ℕ → List ℕ → ℕ
 takingAnswer limit word = firstNo (handleQuestions maxStored word limit)
 
--- the file of the word after at most so many steps
+-- the file of the word after at most `limit` steps
 abbrev pub takenFile : ℕ → List ℕ → List ℕ
 takenFile limit word = wordFile (afterSteps limit (codes word))
 
@@ -28,15 +28,15 @@ unfoldable pub isLeft : Bool → ℕ → List ℕ → Bool
 isLeft read limit word =
     cond read (granted (takingAnswer limit word) (hasHandle (afterSteps limit (codes word))) false) false
 
--- taking handles out of a word: the answer, the file of the new word, which means what the old one means, and whether a
--- handle is left
+-- What taking handles out of a word gives: the answer, the file of the new word, and whether a handle is left. The new
+-- word means what the old word means.
 pub record TakesOut (read : Bool) (limit : ℕ) (word : List ℕ) (taken : Taken) : Type 0 where
   pub makes : MakesNew read (takingAnswer limit word) (takenFile limit word) (taken .made)
   pub left-is : taken .left ≡ isLeft read limit word
   pub keeps : taken .made .answer ≡ 0 → SameMeaning word (take (taken .made .bytes) (taken .made .file))
 
--- So many bytes are enough to read of a word, for every limit: the answer, the bytes written and whether a handle is
--- left are those for the whole file, however long it is.
+-- Under this limit, the first n bytes of a word's file are enough to read: the answer, the bytes written and whether a
+-- handle is left are those for the whole file, however long it is.
 abbrev pub EnoughToTake : ℕ → ℕ → Type 0
 EnoughToTake limit n =
     Enough n (takingAnswer limit)

@@ -25,7 +25,7 @@ fn unread(word: &[u8], limit: u16) -> Taken
     Taken { made, left: false }
 }
 
-// Handles taken out of a word, in at most so many steps.
+// Handles taken out of a word, in at most `limit` steps.
 fn handled(word: &[u8], limit: u16) -> Taken
     ensures { λ r. ⌜ TakesOut true limit (now (word .entry)) r ⌝ }
 {
@@ -43,7 +43,7 @@ fn handled(word: &[u8], limit: u16) -> Taken
     Taken { made, left }
 }
 
-// Takes handles out of the word in a file, in at most so many steps.
+// Takes handles out of the word in a file, in at most `limit` steps.
 pub fn take_handles(word: &[u8; desk_line::WORD_ROOM], limit: u16, w: Got) -> Taken
     ensures { λ r. ⌜ TakesOut (w .read) limit (take (w .bytes) (now (word .entry))) r ⌝ }
     ensures { λ _. ⌜ EnoughToTake limit (length (now (word .entry))) ⌝ }

@@ -11,7 +11,7 @@ ghost use lib.ListN.{length};
 ghost use Rattle.io.specs.Counts.{Counts};
 ghost use Rattle.desk_line.specs.Desk.{GotOf};
 
-// Writes bytes to standard output, or says that it cannot.
+// Writes bytes to standard output, or reports on standard error that it cannot.
 pub fn say(bytes: &[u8]) {
     if !io::write_all(STDOUT_FILENO, bytes) {
         os::fail(b"standard output");

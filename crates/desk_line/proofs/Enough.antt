@@ -27,7 +27,7 @@ use Rattle.desk_line.specs.Desk.{deskField, cutVerdict, deskVerdict, Eno
 
 -- ---- three files
 
--- a key that is too long is 1
+-- a key that is too long gets the answer 1
 pub long-key-answer : (key : List ℕ) → 128 < length key → keyAnswer key ≡ 1
 unfolding keyAnswer
 long-key-answer key h =
@@ -42,7 +42,7 @@ enough-of-key : (n : ℕ) → 128 < n → (digest word : List ℕ) → Enough n 
 enough-of-key n h digest word =
     enough-long (λ key. verdict key digest word) (λ _. 1) 0 128 n (omega arith) h (λ key l. long-key key digest word l)
 
--- under an accepted key a digest that is too long is 8
+-- under an accepted key, a digest that is too long gets the answer 8
 enough-of-digest : (n : ℕ) → 64 < n → (key word : List ℕ) → Enough n (λ digest. verdict key digest word)
 enough-of-digest n h key word = go (ℕ-discrete (keyAnswer key) 0)
   where
@@ -52,7 +52,7 @@ enough-of-digest n h key word = go (ℕ-discrete (keyAnswer key) 0)
         (λ digest l. digest-refused key digest word k (λ e. omega (arith, digest-fits (keyField key) digest e)))
     go (no r) = λ digest. key-refused key (take n digest) word r ∙ sym (key-refused key digest word r)
 
--- under an accepted key and digest a refused word is answered as the word's questions are
+-- under an accepted key and digest, a refused word gets the answer of the word's questions
 enough-of-signature : (n : ℕ) → 5002 < n → (key digest : List ℕ) → Enough n (verdict key digest)
 enough-of-signature n h key digest word =
     go (ℕ-discrete (keyAnswer key) 0) (ℕ-discrete (length digest) (digestBytes (keyField key)))

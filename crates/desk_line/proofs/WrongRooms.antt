@@ -69,7 +69,7 @@ no-other word w n z f e = go (zero-or-14 largeKey largeDigest word key-accepted 
     go (inl a) = z (sym e ∙ a)
     go (inr b) = f (sym e ∙ b)
 
--- a signature that is too long is 11
+-- a signature that is too long gets the answer 11
 long-11 : verdict largeKey largeDigest longWord ≡ 11
 long-11 =
     word-refused largeKey largeDigest longWord key-accepted digest-accepted (λ e. omega (arith, long-answer))
@@ -105,7 +105,7 @@ unfolding deskVerdict deskField cutVerdict valuesFrom value digits place rowOf c
 no-5194-of-an-input enough =
     no-other fullWord full-accepted 11 (λ e. omega arith) (λ e. omega arith) (enough (slip longWord) ∙ long-11)
 
--- cut at 83 and 32 a slip that says 256 is 3, and it is 0 or 14
+-- cut at 83 and 32, a slip that says 256 gets the answer 3; cut for its field, it gets 0 or 14
 cut-3 : cutVerdict 83 32 (slip emptyWord) ≡ 3
 unfolding cutVerdict verdict firstNo keyField valuesFrom value digits place rowOf columnOf entry matrixOf identity
     fileEntries packedRow keyFile

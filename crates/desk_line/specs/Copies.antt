@@ -13,8 +13,8 @@ use Rattle.slip_verdict.specs.Verdict.{verdict}
 use Rattle.desk_line.specs.Desk.{answerWord, answerLine, filesLine}
 use Rattle.desk_line.specs.declared.Got.{Got}
 
--- What key and digest give for all copies, of each of which the buffer's first bytes were read: could both be read, and
--- the first half of the verdict.
+-- What key and digest give for all copies: whether both files could be read, and the first half of the verdict. Each
+-- file is the first bytes of its buffer, as many as were read.
 pub record FirstHalfOf (k d : Got) (key digest : List ℕ) (read : Bool) (made : Halved) : Type 0 where
   pub both-read : read ≡ k .read && d .read
   pub half-is : MakesHalf (take (k .bytes) key) (take (d .bytes) digest) (made .answer) (made .half)
@@ -33,12 +33,12 @@ GivesVerdicts made = (key digest word : List ℕ) → MakesHalf key digest (made
 unfoldable pub noAnswerLine : List ℕ
 noAnswerLine = line ((110 ∷ 111 ∷ []) ∷ answerWord ∷ [])
 
--- The line on a copy, of which the buffer's first bytes were read: the line of its answer, or "no answer" if it could
--- not be read. So each copy has its line.
+-- The line for a copy: the line of its answer, or "no answer" if its file could not be read. The copy is the first
+-- bytes of its buffer, as many as were read. So each copy has its line.
 unfoldable pub copyLine : Halved → Got → List ℕ → List ℕ
 copyLine made got word = cond (got .read) (answerLine (copyAnswer made (take (got .bytes) word))) noAnswerLine
 
--- The line on one of several slips, each in three files: the line on its files, or "no answer" if one of them could not
--- be read. So each slip has its line.
+-- The line for one of several slips, each in three files: the line for its files, or "no answer" if one of them could
+-- not be read. So each slip has its line.
 unfoldable pub slipLine : Got → Got → Got → List ℕ → List ℕ → List ℕ → List ℕ
 slipLine k d w key digest word = cond (k .read && d .read && w .read) (filesLine k d w key digest word) noAnswerLine

@@ -37,20 +37,20 @@ answerWord = 97 ∷ 110 ∷ 115 ∷ 119 ∷ 101 ∷ 114 ∷ []
 unfoldable pub answerLine : ℕ → List ℕ
 answerLine n = line (answerWord ∷ decimal n ∷ [])
 
--- What is written on one input, of which the buffer's first bytes were read: the line of the verdict on these bytes, or
--- nothing if the input could not be read.
+-- What is written for one input: the line of the verdict on the bytes that were read, or nothing if the input could not
+-- be read. The bytes that were read are the buffer's first bytes.
 unfoldable pub inputLine : Got → List ℕ → List ℕ
 inputLine got input = cond (got .read) (answerLine (deskVerdict (take (got .bytes) input))) []
 
--- What is written on three files, of each of which the buffer's first bytes were read: the line of the verdict on these
--- bytes, or nothing if one of the files could not be read.
+-- What is written for three files: the line of the verdict on the bytes that were read, or nothing if one of the files
+-- could not be read. The bytes that were read are the first bytes of each buffer.
 unfoldable pub filesLine : Got → Got → Got → List ℕ → List ℕ → List ℕ → List ℕ
 filesLine k d w key digest word =
     cond (k .read && d .read && w .read)
     (answerLine (verdict (take (k .bytes) key) (take (d .bytes) digest) (take (w .bytes) word)))
     []
 
--- a text of 11 bytes, which a line fits
+-- a buffer of 11 bytes that starts with a text, and zeros follow; the line of every answer fits it
 abbrev pub Tells : List ℕ → ℕ → List ℕ → Type 0
 Tells = TellsIn 11
 
@@ -63,6 +63,6 @@ pub record GotOf (size : ℕ) (got : Got) : Type 0 where
 abbrev pub EnoughOfInput : ℕ → Type 0
 EnoughOfInput n = Enough n deskVerdict
 
--- of three files of any length, k bytes of the key, d of the digest and w of the signature are enough to read
+-- k bytes of the key, d of the digest and w of the signature are enough to read, however long the three files are
 abbrev pub EnoughOfFiles : ℕ → ℕ → ℕ → Type 0
 EnoughOfFiles k d w = EnoughOfThree k d w verdict

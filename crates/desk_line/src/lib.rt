@@ -139,7 +139,7 @@ impl Got {
     }
 }
 
-// The line on a slip whose parts lie end to end. If it could not be read, there is no line.
+// The line for a slip whose parts lie end to end. If it could not be read, there is no line.
 pub fn input_line(input: &[u8; INPUT_ROOM], got: Got) -> Line
     ensures { λ r. ⌜ Tells (inputLine got (now (input .entry))) (r .bytes) (r .text) ⌝ }
     ensures { λ _. ⌜ EnoughOfInput (length (now (input .entry))) ⌝ }
@@ -164,7 +164,7 @@ pub fn all_read(k: Got, d: Got, w: Got) -> bool
     both(both(k.read, d.read), w.read)
 }
 
-// The line on a slip in three files. If one of them could not be read, there is no line.
+// The line for a slip in three files. If one of them could not be read, there is no line.
 pub fn files_line(
     key: &[u8; KEY_ROOM],
     digest: &[u8; DIGEST_ROOM],
@@ -194,7 +194,7 @@ pub fn files_line(
     answer_line(slip_verdict::verify(k_read, d_read, w_read))
 }
 
-// The line on one of several slips in files. If one of its three files could not be read, the line is "no answer".
+// The line for one of several slips in files. If one of its three files could not be read, the line is "no answer".
 pub fn slip_line(
     key: &[u8; KEY_ROOM],
     digest: &[u8; DIGEST_ROOM],
@@ -253,7 +253,7 @@ fn copy_answer(made: Halved, word: &[u8]) -> u8
     slip_verdict::second_half(half, word)
 }
 
-// The line on a copy. If the copy could not be read, the line is "no answer".
+// The line for a copy. If the copy could not be read, the line is "no answer".
 pub fn copy_line(made: Halved, word: &[u8; WORD_ROOM], w: Got) -> Line
     ensures { λ r. ⌜ Tells (copyLine made w (now (word .entry))) (r .bytes) (r .text) ⌝ }
     ensures { λ _. ⌜ GivesVerdicts made ⌝ }

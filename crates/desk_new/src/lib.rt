@@ -1,7 +1,7 @@
 // Writes a new file by a verb of the desk. `desk_words` decides what is written. The first argument is the verb. The
-// second one is a name beside the new file's place: the file is written there, and takes its own name when it is whole.
-// Prints a line with each word's answer, once its file is in its place. If the answer is 0, a second line has the
-// sizes.
+// second argument is a temporary name beside the new file. The file is written under this name, and gets its own name
+// when it is complete. For each word, the program then prints a line with its answer. If the answer is 0, a second line
+// has the sizes.
 use desk_line::Got;
 use desk_words::Made;
 ghost use Prim.Native.Nat.{_<_};
@@ -16,8 +16,8 @@ fn letters(file: &[u8], stored: bool) -> usize {
     w.letters
 }
 
-// How many letters and bytes became how many, in a line that is not ended. The last two say which of the files is a
-// stored form.
+// Prints how many letters and bytes the old file has and how many the new file has, without a line end. `from_stored`
+// and `to_stored` say which of the files is a stored form.
 fn sizes(old: &[u8], new: &[u8], from_stored: bool, to_stored: bool) {
     print::text(b"letters");
     print::number(letters(old, from_stored));
@@ -29,8 +29,8 @@ fn sizes(old: &[u8], new: &[u8], from_stored: bool, to_stored: bool) {
     print::number(new.len());
 }
 
-// What was made of a file goes to the file that argument `new` names, and its answer to standard output. Says whether a
-// file was written.
+// If the answer is 0, writes what was made to the file that argument `new` names. Then prints the answer, or that there
+// is none, or that the file was not written. Returns whether a file was written.
 fn placed(made: Made, new: usize, alone: bool) -> bool
     requires { ⌜ Counts (made .bytes) (made .file) ⌝ }
 {
@@ -49,8 +49,8 @@ fn placed(made: Made, new: usize, alone: bool) -> bool
     answer == 0
 }
 
-// What was made of a file is placed, and a line says how many letters and bytes became how many. The last two say which
-// of the files is a stored form.
+// Writes what was made and prints the answer, as `placed` does. If a file was written, also prints the line of sizes.
+// `from_stored` and `to_stored` say which of the files is a stored form.
 fn end(made: Made, old: &[u8], new: usize, alone: bool, from_stored: bool, to_stored: bool)
     requires { ⌜ Counts (made .bytes) (made .file) ⌝ }
 {
@@ -85,7 +85,7 @@ fn slip(at: usize, alone: bool, effort: u16)
 }
 
 // Shortens slips: a name beside the new files, the effort, then key, digest, signature and new signature of each slip.
-// Of many slips none is waited for.
+// Only for a single slip, waits until the new file has reached the device.
 fn shorten(arguments: usize, effort: u16) {
     let n = arguments / 4;
     let mut i = 1;
@@ -115,7 +115,7 @@ fn reduce() {
     end(made, text::part(&word, 0, n), 4, true, false, false);
 }
 
-// Whether a handle is left, at the end of the line with the sizes.
+// Prints whether a handle is left, and ends the line with the sizes.
 fn handles_left(left: bool) {
     if left {
         print::text(b", handles left: yes\n");
@@ -124,7 +124,8 @@ fn handles_left(left: bool) {
     }
 }
 
-// What was made by taking handles out is placed, and the line of sizes also says whether a handle is left.
+// Writes what taking handles out made and prints the answer, as `end` does. The line of sizes also says whether a
+// handle is left.
 fn end_handles(made: Made, left: bool, old: &[u8])
     requires { ⌜ Counts (made .bytes) (made .file) ⌝ }
 {
@@ -136,7 +137,7 @@ fn end_handles(made: Made, left: bool, old: &[u8])
     }
 }
 
-// Takes handles out of a word in at most so many steps.
+// Takes handles out of a word in at most `limit` steps.
 fn steps(limit: u16) {
     let mut word = [0u8; desk_line::WORD_ROOM];
     let w = desk_io::file(3, &mut word);
@@ -185,7 +186,7 @@ fn convert(way: bool) {
     end(made, text::part(&word, 0, n), 5, true, false, false);
 }
 
-// The program: its verb, and the number of names that this verb takes. Of many slips each has four.
+// The program. The verb decides how many arguments must follow. For `shorten`, each slip has four of them.
 pub fn new_word() {
     let mut name = io::buffer();
     let m = os::arg(1, &mut name);

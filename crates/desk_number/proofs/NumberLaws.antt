@@ -34,7 +34,7 @@ module _ (a : List ℕ) where
   pub written : equal a (decimal (shownNumber a)) ≡ true → shownNumber a < 65536 → numberOf a ≡ shownNumber a
   written e h = given true (and-both e (lt-ltb (shownNumber a) 65536 h))
 
-  -- any way of not being one
+  -- the argument is not a number in decimal, or the number is too large
   not-written : (Written ≡ true → ⊥) → numberOf a ≡ 65536
   not-written h = go Written refl
     where
@@ -65,7 +65,7 @@ number-read n h =
     let e : shownNumber (decimal n) ≡ n = decimal-reads n in
     written (decimal n) (equal-of (ap decimal (sym e))) (omega arith) ∙ e
 
--- and no other argument does
+-- no argument but the decimal text writes the number
 pub only-decimal : (a : List ℕ) (n : ℕ) → numberOf a ≡ n → n < 65536 → a ≡ decimal n
 only-decimal a n e h = go (Written a) refl
   where

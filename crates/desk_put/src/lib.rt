@@ -1,4 +1,5 @@
-// Puts a new file in its place. It is written beside the place, and takes its own name when it is whole.
+// Puts a new file in its place. The file is written under a temporary name beside its place, and gets its own name when
+// it is complete.
 
 // Writes the bytes to a new file. If it is the only new file, waits until they have reached the device.
 fn saved(fd: i32, bytes: &[u8], alone: bool) -> bool {

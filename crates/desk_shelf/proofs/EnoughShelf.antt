@@ -1,5 +1,5 @@
 -- How much of a file is enough to read: of a shelf 1,037 bytes, of a key 129, of a digest 65, of a word 5,003. A longer
--- file is no shelf, or is refused as such files are.
+-- shelf file is no shelf. A longer key, digest or word gets the answer that these bytes of it get.
 use Prim.Native.Nat.{ℕ, _+_, _<_}
 use mathlib.Core.Path.{_≡_, refl, sym, ap, ap₂, _∙_}
 use mathlib.Core.Bool.{Bool, true, false, cond, _||_}
@@ -51,7 +51,7 @@ module _ (s : ℕ) (h : shelfBytes < s) where
   pub enough-of-shelf : EnoughOfShelf s
   enough-of-shelf = record { shelf = enough-tested; answer = enough-answer; left = enough-left }
 
--- ---- work that a shelf answers alike, and leaves the shelf alike
+-- ---- if two kinds of work get the same answer from a shelf, or leave the same shelf, they do so for the file
 
 module _ (p : ℕ) (first second : Work) where
   alike-answer : (file : List ℕ) → answerTo p first (shelfIn file) ≡ answerTo p second (shelfIn file)
@@ -78,7 +78,7 @@ module _ (p n : ℕ) (shelf key : List ℕ) (h : 128 < length key) where
       go true e = load-answer p n shelf key e ∙ long-key-answer key h ∙ sym (load-answer p n shelf [] e ∙ empty-1)
       go false e = load-30 p n shelf key e ∙ sym (load-30 p n shelf [] e)
 
-  -- neither acts
+  -- loading an empty key is refused, and so is loading one that is too long
   idle : eqb (answerTo p (load n []) shelf) 0 ≡ false
   idle = go (hasSlot p n) refl
     where

@@ -122,7 +122,7 @@ on-shelf file p work e r w s d =
       shelf-is = d .shelf-is ∙ ap (after p work) s ∙ sym (shelf-as file p work e);
     }
 
--- the same with other names for what was read and for the numbers
+-- what was read, the numbers and the work may be replaced by equal ones
 pub serves-as : {read : Bool} {f file : List ℕ} {q p : ℕ} {w work : Work} {served : Served} → read ≡ true → f ≡ file
     → q ≡ p → w ≡ work → ServesFile true f q w served → ServesFile read file p work served
 serves-as {served = served} e a b c s = transport (λ i. ServesFile (sym e i) (a i) (b i) (c i) served) s

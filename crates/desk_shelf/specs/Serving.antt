@@ -35,7 +35,8 @@ servedAnswer file publisher work = cond (isShelf file) (answerTo publisher work 
 unfoldable pub servedShelf : List ℕ → ℕ → Work → List ℕ
 servedShelf file publisher work = cond (isShelf file) (after publisher work (shelfIn file)) emptyShelf
 
--- What a verb gives: could every file be read? Is the first of them a shelf? The answer, and the shelf to write.
+-- What a verb gives: whether every file could be read, whether the first file is a shelf, the answer, and the shelf to
+-- write.
 pub record ServesFile (read : Bool) (file : List ℕ) (publisher : ℕ) (work : Work) (served : Served) : Type 0 where
   pub read-is : served .read ≡ read
   pub whole-is : served .whole ≡ isShelf file
@@ -60,8 +61,8 @@ JudgesFile s d w old publisher number digest word served =
     ServesFile (s .read && d .read && w .read) (take (s .bytes) old) (digitOf publisher)
     (judge (digitOf number) (take (d .bytes) digest) (take (w .bytes) word)) served
 
--- These numbers of bytes are enough to read of a shelf for any work, of a key to load it, and of a digest and a word to
--- judge them: answer and shelf are those for the whole files, however long they are.
+-- How many bytes are enough to read: of a shelf, for any work; of a shelf and a key, to load the key; of a shelf, a
+-- digest and a word, to judge a slip. Answer and shelf are those for the whole files, however long they are.
 pub record EnoughOfShelf (s : ℕ) : Type 0 where
   pub shelf : Enough s isShelf
   pub answer : (p : ℕ) (work : Work) → Enough s (λ file. servedAnswer file p work)

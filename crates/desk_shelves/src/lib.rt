@@ -11,7 +11,8 @@ fn is_written(judges: bool, answer: u8, same: bool) -> bool {
     answer == 0
 }
 
-// The shelf goes to the new file if it is to be written, and then the answer to standard output.
+// Writes the shelf to the new file, if it is to be written, and then prints the answer. If a file could not be read, is
+// no shelf or could not be written, prints this instead.
 fn end(served: Served, old: &[u8; desk_shelf::SHELF_ROOM], judges: bool) {
     if !served.read {
         print::text(b"no answer\n");

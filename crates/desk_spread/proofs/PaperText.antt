@@ -8,11 +8,11 @@ use Rattle.base.specs.Digits.{digits}
 use Rattle.text.specs.Decimal.{places, decimal}
 use Rattle.text.specs.Texts.{line}
 use Rattle.word.specs.Strands.{swapped, listAfter}
-use Rattle.word_spread.specs.Spread.{inFrontOf, rowsOf, those, allLists, wordsBetween, ending, allEndings}
+use Rattle.word_spread.specs.Spread.{eachInFront, rowsOf, those, allLists, wordsBetween, ending, allEndings}
 use Rattle.desk_spread.specs.SpreadLines.{listLine, listLines, spreadText, usualLength}
 
 pub first-line : take 11 (spreadText usualLength)
     ≡ 48 ∷ 32 ∷ 49 ∷ 32 ∷ 50 ∷ 32 ∷ 51 ∷ 32 ∷ 49 ∷ 50 ∷ 10 ∷ []
 unfolding firstNo granted every tally valuesFrom equal eachOnce digits firstFrom places decimal line swapped listAfter
-    inFrontOf rowsOf those allLists wordsBetween ending allEndings listLine listLines spreadText
+    eachInFront rowsOf those allLists wordsBetween ending allEndings listLine listLines spreadText
 first-line = refl

@@ -80,7 +80,8 @@ module _ (f : ℕ → Bool) where
   unfolding firstFrom
   first-later k n e = ap (λ (b : Bool). cond b k (firstFrom f (suc k) n)) e
 
-  -- the test that fails for one more length, and for all of them
+  -- The search goes on after a length that fails the test, and ends at a length that passes. If all lengths fail, it
+  -- gives 13.
   pub first-next : (k : ℕ) → k < 13 → f k ≡ false → firstFrom f k (13 - k) ≡ firstFrom f (k + 1) (13 - (k + 1))
   first-next k h e =
       let here : 13 - k ≡ suc (12 - k) = omega arith in

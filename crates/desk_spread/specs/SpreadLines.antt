@@ -9,7 +9,7 @@ use Rattle.text.specs.Texts.{line}
 use Rattle.word_spread.specs.Spread.{allLists, allEndings, lengthQuestions}
 use Rattle.desk_line.specs.Desk.{answerLine}
 
--- a list and its number
+-- the line of a list: its labels and its number
 unfoldable pub listLine : List ℕ → ℕ → List ℕ
 listLine labels number = line (map decimal labels ++ (decimal number ∷ []))
 
@@ -19,13 +19,13 @@ listLines [] numbers = []
 listLines (l ∷ ls) [] = []
 listLines (l ∷ ls) (n ∷ ns) = listLine l n ++ listLines ls ns
 
--- what is written for a length: the lines of all 24 lists, and on a refusal the desk program's line
+-- what is written for a length: the lines of all 24 lists, or on a refusal the desk program's line
 unfoldable pub spreadText : ℕ → List ℕ
 spreadText n =
     let answer : ℕ = firstNo (lengthQuestions n) in
     granted answer (listLines allLists (allEndings n)) (answerLine answer)
 
--- the length without an argument
+-- the length that the program uses without an argument
 abbrev pub usualLength : ℕ
 usualLength = 2
 

@@ -19,7 +19,7 @@ fn wide(x: u8) -> u32
     x as u32
 }
 
-// Two labels, each with a space after it, behind the first `at` bytes of a text: where they end.
+// Writes two labels, each with a space after it, behind the first `at` bytes of a text. Returns the place after them.
 fn two_labels(text: &mut [u8], at: usize, a: u8, b: u8) -> usize
     requires { ⌜ (at + 4 ≤ length (now text)) × (a < 10) × (b < 10) ⌝ }
     ensures { λ r.
@@ -31,7 +31,7 @@ fn two_labels(text: &mut [u8], at: usize, a: u8, b: u8) -> usize
     text::decimal(text, second, wide(b), b' ')
 }
 
-// The line of list k behind the first `at` bytes of a text: where it ends.
+// Writes the line of list k behind the first `at` bytes of a text. Returns the place after it.
 fn line(text: &mut [u8], at: usize, k: usize, number: u32) -> usize
     requires { ⌜ (at + 19 ≤ length (now text)) × (k < 24) × (number ≤ 6 ^ 12) ⌝ }
     ensures { λ r. ⌜ Laid at (listLine (listAt k) number) (now (text .entry)) (now (text .exit)) r ⌝ }

@@ -53,7 +53,8 @@ fn spread_length() {
     tell_text(desk_spread::argument_text(&argument[..n]));
 }
 
-// The program that prints how words spread: without arguments of the usual length, and with a length of that one.
+// The program that prints how words spread. Without an argument it takes words of the usual length, and with a length
+// words of that length.
 pub fn spread() {
     let n = os::arg_count();
     if n < 2 {

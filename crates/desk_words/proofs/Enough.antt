@@ -1,5 +1,6 @@
 -- How much of a file is enough to read: of a word 5,003 bytes, of a stored form 5,007, of a move list 12,291, of a slip
--- what is enough to judge it. What is written of these is what is written of the whole files, of any length.
+-- what is enough to judge it. What is written for these bytes is what is written for the whole files, however long they
+-- are.
 use Prim.Native.Nat.{ℕ, _<_}
 use native.Mathlib.Omega.{arith}
 use mathlib.Core.Path.{refl, _∙_}

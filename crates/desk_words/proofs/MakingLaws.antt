@@ -67,7 +67,7 @@ wrote-makes {questions} {new} {made} answer r w e =
           ∙ sym (granted-ap (λ l. overlaid l (replicate 5006 0)) answer new []);
     }
 
--- the same with another name for the answer
+-- the answer may be replaced by an equal one
 pub makes-as : {read : Bool} {a b : ℕ} {new : List ℕ} {made : Made} → a ≡ b → MakesNew read a new made
     → MakesNew read b new made
 makes-as e m = rw (sym e) m
@@ -86,15 +86,15 @@ pub bytes-within : {read : Bool} {answer : ℕ} {new : List ℕ} {made : Made} �
 unfolding overlaid
 bytes-within m = rw (m .bytes-are, m .file-is) (simp length-append (omega arith))
 
--- nothing that was not read is answered 0
+-- if a file could not be read, the answer is not 0
 unanswered : {made : Made} → Bare false noAnswer made → made .answer ≡ 0 → ⊥
 unanswered b z = omega (arith, b .answer-is)
 
--- no letters are irreducible
+-- the empty word is irreducible
 none-irreducible : Irreducible []
 none-irreducible k h = absurd (omega (arith, h))
 
--- what the two larger verbs make where a file could not be read, and where all could
+-- what shortening and rewriting make if a file could not be read, and if all could
 pub shortens-unread : {read : Bool} {key digest word : List ℕ} {made : Made} → read ≡ false → Bare false noAnswer made
     → Shortens read key digest word made
 shortens-unread e b =

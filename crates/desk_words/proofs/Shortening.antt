@@ -1,4 +1,4 @@
--- What has a word's meaning keeps the verdict, so the shortened slip opens where the slip does.
+-- A file with the meaning of a slip's word gets the same verdict, so the shortened slip opens if the slip opens.
 use Prim.Native.Nat.{ℕ}
 use mathlib.Core.Path.{_≡_, refl, sym, _∙_}
 use mathlib.Core.Bool.{true}
@@ -14,7 +14,7 @@ use Rattle.desk_words.specs.Making.{MakesNew, Shortens}
 use Rattle.desk_words.specs.declared.Made.{Made}
 use Rattle.desk_words.proofs.MakingLaws.{wrote-makes, makes-as, made-file}
 
--- what opens the slip: the word is accepted, and a file with its meaning opens the slip too
+-- if the slip opens, its word is accepted, and a file with the word's meaning opens the slip too
 module _ (key digest word : List ℕ) (z : verdict key digest word ≡ 0) where
   pub opened-word : wordAnswer word ≡ 0
   opened-word = zero-iff-signs key digest word .0 z .word-accepted

@@ -23,8 +23,8 @@ toWrite read answer new = cond read (granted answer new []) []
 abbrev pub noAnswer : ℕ
 noAnswer = 255
 
--- what such a verb gives: could every file be read? Its answer, and none where one could not; the bytes to write, and
--- zeros after them
+-- What a verb gives: whether every file could be read; its answer, or `noAnswer` if a file could not be read; the bytes
+-- to write, and zeros after them.
 pub record MakesNew (read : Bool) (answer : ℕ) (new : List ℕ) (made : Made) : Type 0 where
   pub read-is : made .read ≡ read
   pub answer-is : made .answer ≡ cond read answer noAnswer
@@ -35,9 +35,10 @@ pub record MakesNew (read : Bool) (answer : ℕ) (new : List ℕ) (made : Made) 
 abbrev pub shortFile : List ℕ → List ℕ
 shortFile word = wordFile (reduced (codes word))
 
--- shortening a slip: the verdict's answer, and the file of a shorter word, which opens the slip too
+-- Shortening a slip gives the verdict's answer and the file of a new word. This word is not longer and opens the slip
+-- too.
 pub record Shortens (read : Bool) (key digest word : List ℕ) (made : Made) : Type 0 where
-  -- The letters of the new word. Which word it is, is left free; the next five lines hold of it.
+  -- The letters of the new word. The contract leaves free which word it is. The next five lines hold of it.
   pub new : List ℕ
   pub makes : MakesNew read (verdict key digest word) (wordFile new) made
   pub not-longer : length new ≤ length (codes word)
@@ -66,9 +67,9 @@ Stores read word made = MakesNew read (wordAnswer word) (storedFile (codes word)
 abbrev pub Restores : Bool → List ℕ → Made → Type 0
 Restores read file made = MakesNew read (storedAnswer file) (wordFile (storedCodes file)) made
 
--- These numbers of bytes are enough to read of a slip to shorten it, of a word and a move list to rewrite it, of a word
--- to reduce or store it, and of a stored form to restore it: the answer and the bytes written are those for the whole
--- files, however long they are. Of a slip that opens, the whole word was read.
+-- How many bytes are enough to read: of a slip, to shorten it; of a word and a move list, to rewrite the word; of a
+-- word, to reduce or store it; of a stored form, to restore it. The answer and the bytes written are those for the
+-- whole files, however long they are. If a slip opens, the bytes read are its whole word.
 abbrev pub EnoughToShorten : ℕ → ℕ → ℕ → Type 0
 EnoughToShorten k d w =
     EnoughOfThree k d w verdict

@@ -111,7 +111,7 @@ fn rewritten(word: &[u8], moves: &[u8]) -> Made
     }
 }
 
-// A word made shorter by a search of so many steps a letter.
+// A word made shorter by a search of `effort` steps for each letter.
 fn short(word: &[u8], effort: u16) -> Made
     ensures { λ r.
         ⌜
@@ -149,7 +149,8 @@ fn shortened(key: &[u8], digest: &[u8], word: &[u8], effort: u16) -> Made
     made
 }
 
-// Shortens a slip in three files, each judged by its own bytes, by a search of so many steps a letter.
+// Shortens the word of a slip in three files, by a search of `effort` steps for each letter. Each file is judged by its
+// own bytes.
 pub fn shorten(
     key: &[u8; desk_line::KEY_ROOM],
     digest: &[u8; desk_line::DIGEST_ROOM],
@@ -212,7 +213,7 @@ pub fn reduce(word: &[u8; desk_line::WORD_ROOM], w: Got) -> Made
     reduced(w_read)
 }
 
-// Storing the word in a file.
+// Stores the word that a file holds.
 pub fn store(word: &[u8; desk_line::WORD_ROOM], w: Got) -> Made
     ensures { λ r. ⌜ Stores (w .read) (take (w .bytes) (now (word .entry))) r ⌝ }
     ensures { λ _. ⌜ EnoughToStore (length (now (word .entry))) ⌝ }
@@ -225,7 +226,7 @@ pub fn store(word: &[u8; desk_line::WORD_ROOM], w: Got) -> Made
     stored(w_read)
 }
 
-// Restoring a word from the stored form in a file.
+// Restores the word whose stored form a file holds.
 pub fn restore(form: &[u8; STORED_ROOM], f: Got) -> Made
     ensures { λ r. ⌜ Restores (f .read) (take (f .bytes) (now (form .entry))) r ⌝ }
     ensures { λ _. ⌜ EnoughToRestore (length (now (form .entry))) ⌝ }

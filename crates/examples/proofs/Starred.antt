@@ -9,7 +9,7 @@ use Rattle.base.specs.Lists.{valuesFrom, values, every, equal, eachOnce, tally}
 use Rattle.base.specs.Questions.{firstNo, granted}
 use Rattle.base.specs.Digits.{value, digits, halves}
 use Rattle.base.specs.Packing.{packedRow, unpackedRow, rowFiller}
-use Rattle.field.specs.Polynomial.{timesX, horner, times, first, reciprocalOf}
+use Rattle.field.specs.Polynomial.{timesX, horner, times, firstOrZero, reciprocalOf}
 use Rattle.field.specs.Gf32.{gf32}
 use Rattle.field.specs.Fields.{operations}
 use Rattle.field.specs.declared.Field.the-variants.{Gf32}
@@ -82,7 +82,7 @@ unfolding every tally eachOnce valuesFrom
 cloaking word w e = answered plainKey plainLabels word (past-list plainKey plainLabels word plain-accepted refl ∙ w) e
 
 pub starred : StarredSlips
-unfolding valuesFrom every tally equal eachOnce firstNo granted value digits halves timesX horner times first
+unfolding valuesFrom every tally equal eachOnce firstNo granted value digits halves timesX horner times firstOrZero
     reciprocalOf wordFile packed codes wordAnswer place rowOf columnOf entry matrixOf wordOn letterOn shareOf tValue
     rowAfter swapped start identity halfByteBraid comesBack samePair keyField keyFile keyOf tValues packedRow
     unpackedRow rowFiller keyLabels wholeMatrix filler move moveQuestions wordAfter

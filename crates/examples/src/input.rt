@@ -57,7 +57,7 @@ fn fill(out: &mut [u8], from: usize, byte: u8, times: usize) -> usize {
     n
 }
 
-// How often a byte stands: once, or as often as a * and a number after it say.
+// How often a byte is to be written: once, or as often as a * and a number after it say.
 fn times(text: &[u8]) -> usize {
     if text.len() == 0 {
         return 1;
@@ -68,8 +68,8 @@ fn times(text: &[u8]) -> usize {
     decimal(&text[1..])
 }
 
-// Writes the byte at the front of a text, as often as it stands there, and returns the place after it. A text that does
-// not begin with a space and two digits gives no byte.
+// Writes the byte at the front of a text to an output, as often as the text says, and returns the place after it. A
+// text that has fewer than three bytes, or does not begin with a space, gives no byte.
 fn put(text: &[u8], out: &mut [u8], from: usize) -> usize {
     if text.len() < 3 {
         return from;

@@ -49,8 +49,8 @@ pub(crate) fn handles(word: &[u8], steps: &[u8]) {
     print::output(&out, done.bytes, FILL);
 }
 
-// Prints the answer, which of two words is the shorter, and the bytes of its file. The words lie one after the other,
-// and the first has so many bytes.
+// Prints the answer, which of two words is the shorter, and the bytes of its file. The words lie one after the other.
+// The first byte of `bytes` is the length of the first word's file.
 pub(crate) fn shorter(both: &[u8], bytes: &[u8]) {
     let n = wide(first(bytes));
     if both.len() < n {

@@ -15,7 +15,7 @@ use lib.Bits.{xor-comm, xor-self, xor-lt}
 use Rattle.base.specs.Lists.{values, valuesFrom}
 use Rattle.base.proofs.ListLaws.{getD-values}
 use Rattle.field.specs.Binary.{BinaryField}
-use Rattle.field.specs.Polynomial.{Degree, timesX, horner, times, first, reciprocalOf, polynomials}
+use Rattle.field.specs.Polynomial.{Degree, timesX, horner, times, firstOrZero, reciprocalOf, polynomials}
 use Rattle.field.specs.Fields.{bits, modulus, operations, fieldOf, isLarge}
 use Rattle.field.specs.declared.Field.{Field}
 use Rattle.field.specs.declared.Field.the-variants.{Gf32, Gf256}
@@ -130,7 +130,7 @@ gf4-field =
 
 -- a field of sixteen elements: x^4 + x^3 + x^2 + x + 1. There x^5 = 1, so x is not a generator
 pub gf16-field : BinaryField (polynomials 4 0b11111)
-unfolding valuesFrom timesX horner times first reciprocalOf
+unfolding valuesFrom timesX horner times firstOrZero reciprocalOf
 gf16-field =
     polynomials-field (record { positive = lit< tt; from = lit≤ tt; to = lit< tt })
     (all-one 4 0b11111 15 (reciprocalOf 4 0b11111) refl refl)

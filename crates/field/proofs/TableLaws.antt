@@ -14,7 +14,7 @@ use lib.ListN.{length, getD}
 use lib.Pow.{pow-pos, pow-mono, suc-ones}
 use Rattle.base.specs.Lists.{every, values}
 use Rattle.base.proofs.ListLaws.{and-left, and-right, length-values, getD-values, values-of, every-values}
-use Rattle.field.specs.Polynomial.{Degree, times, first, reciprocalOf}
+use Rattle.field.specs.Polynomial.{Degree, times, firstOrZero, reciprocalOf}
 use Rattle.field.specs.Fields.{bits, modulus}
 use Rattle.field.specs.Gf32.{gf32, products}
 use Rattle.field.specs.steps.Reciprocals.{reciprocals, lookedUp, LentField}
@@ -60,7 +60,7 @@ module _ {n p : ℕ} (d : Degree n p) where
   -- the reciprocal depends only on the n low bits of its operand
   inv-low : (a : ℕ) → reciprocalOf n p (a % 2 ^ n) ≡ reciprocalOf n p a
   unfolding reciprocalOf
-  inv-low a = ap (λ (f : ℕ → Bool). first f 0 (2 ^ n)) (fun-ext (λ b. ap (λ (x : ℕ). eqb x 1) (times-low d a b)))
+  inv-low a = ap (λ (f : ℕ → Bool). firstOrZero f 0 (2 ^ n)) (fun-ext (λ b. ap (λ (x : ℕ). eqb x 1) (times-low d a b)))
 
   at-low : (a : ℕ) → a < 2 ^ n → getD (0 ∷ reciprocals n p) a 0 ≡ reciprocalOf n p a
   at-low zero h = sym (reciprocal-zero d)

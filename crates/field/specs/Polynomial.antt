@@ -27,13 +27,13 @@ unfoldable pub times : ℕ → ℕ → ℕ → ℕ → ℕ
 times n p a b = horner n p a n b
 
 -- the first of the k numbers i, i + 1, .. that passes the test; 0 if none passes
-unfoldable pub first : (ℕ → Bool) → ℕ → ℕ → ℕ
-first f i zero = 0
-first f i (suc k) = cond (f i) i (first f (suc i) k)
+unfoldable pub firstOrZero : (ℕ → Bool) → ℕ → ℕ → ℕ
+firstOrZero f i zero = 0
+firstOrZero f i (suc k) = cond (f i) i (firstOrZero f (suc i) k)
 
 -- the reciprocal of a: the element whose product with a is 1; 0 if there is none
 unfoldable pub reciprocalOf : ℕ → ℕ → ℕ → ℕ
-reciprocalOf n p a = first (λ b. eqb (times n p a b) 1) 0 (2 ^ n)
+reciprocalOf n p a = firstOrZero (λ b. eqb (times n p a b) 1) 0 (2 ^ n)
 
 -- the operations on the polynomials of degree below n, reduced by p. The elements are 0 to 2^n - 1, and addition is
 -- exclusive or

@@ -60,6 +60,16 @@ pub fn is_large(f: Field) -> bool
     }
 }
 
+// The number of bits of an element.
+pub fn bits_of(f: Field) -> usize
+    ensures { λ r. ⌜ r ≡ bits f ⌝ }
+{
+    match f {
+        Field::Gf32 => SMALL_BITS,
+        Field::Gf256 => LARGE_BITS,
+    }
+}
+
 // Field product. The answer is 17 if an operand is not an element.
 pub fn product(a: u8, b: u8, f: Field) -> Element
     ensures { λ r. ⌜ Gives (productQuestions f a b) (operations f .mul a b) (r .answer) (r .value) ⌝ }

@@ -1,8 +1,8 @@
 -- A table of logarithms and powers that passes a test at every entry gives every product. Let h be the number of
 -- elements except zero. The test asks the following. The first power is 1, and each next one is x times the one before.
--- The powers from place 2 h on are 0. The logarithm of a number counts by the number's low bits: for zero it is 2 h,
--- otherwise it is the place, below h, of the power that equals them. Exponents add when powers are multiplied, so all
--- products follow from the table's 257 + 4 h entries.
+-- The powers from place 2 h on are 0. The logarithm of a number depends only on its low bits. It is 2 h if they are
+-- zero, otherwise it is the place, below h, of the power that equals them. Exponents add when powers are multiplied, so
+-- all products follow from the table's 257 + 4 h entries.
 use Prim.Native.Nat.{ℕ, zero, suc, _+_, _-_, _*_, _%_, _^_, _<_, _≤_}
 use mathlib.Core.Path.{_≡_, sym, ap, ap₂, subst, _∙_}
 use mathlib.Core.Bool.{Bool, true, cond, _&&_}

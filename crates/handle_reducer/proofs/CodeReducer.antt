@@ -15,7 +15,7 @@ use Rattle.word.proofs.WriteLaws.{wrote-refused, wrote-same, writable}
 use Rattle.braid_handles.specs.Handles.{hasHandle, afterSteps}
 use Rattle.braid_handles.proofs.StepKeeps.{steps-lettered}
 use Rattle.braid_handles.proofs.Runs.{stepsAnswer}
-use Rattle.handle_steps.specs.steps.Runs.{TakesOut}
+use Rattle.handle_steps.specs.steps.Runs.{StepsOnRow}
 use Rattle.handle_reducer.specs.Reducing.{handleQuestions, TookHandles}
 use Rattle.handle_reducer.proofs.HandleAnswer.{past-word}
 use Rattle.handle_reducer.proofs.HandlesKeepMeaning.{took-whole}
@@ -30,7 +30,7 @@ module _ (word : List ℕ) (limit : ℕ) (out : List ℕ) where
       (l ∙ sym (granted-refused (hasHandle (afterSteps limit (codes word))) false (λ z. h (sym e ∙ z))))
 
   module _ (room : 5002 ≤ length out) (w : wordAnswer word ≡ 0) {row row′ : List ℕ} {n a letters : ℕ} {left : Bool}
-      (codes-are : take n row ≡ codes word) (r : TakesOut limit n row row′ a letters left) where
+      (codes-are : take n row ≡ codes word) (r : StepsOnRow limit n row row′ a letters left) where
     -- the answer is that of the steps
     pub row-answer : firstNo (handleQuestions (length out) word limit) ≡ a
     row-answer =

@@ -1,6 +1,6 @@
 -- Demand 3 for taking handles out, from bytes to bytes. If the answer is 0, whatever the limit, the file in the
--- output's first bytes, as many as are reported, has the meaning of the word handed in. So has the word if free
--- reduction comes first or after.
+-- output's first bytes, as many as are reported, has the meaning of the word handed in. The word that free reduction
+-- before or after the steps gives has this meaning too.
 use Prim.Native.Nat.{ℕ, _≤_}
 use mathlib.Core.Path.{_≡_, sym, _∙_}
 use mathlib.Core.Bool.{Bool, false}

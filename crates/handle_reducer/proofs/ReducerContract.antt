@@ -1,6 +1,6 @@
 -- An operation that takes handles out is a function from its inputs to what it gives and leaves. If it meets the
 -- contract, its answer is that of the steps, and if no step is refused it leaves the file of the new word and says
--- whether a handle is left. With the limit 0 it writes the word as it was, and 32 cannot come. The contract holds it
+-- whether a handle is left. With the limit 0 it writes the word as it was, and never answers 32. The contract holds it
 -- only to inputs that are bytes.
 use Prim.Native.Nat.{ℕ, _≤_}
 use mathlib.Core.Path.{_≡_, sym, ap, _∙_}

@@ -15,8 +15,8 @@ use Rattle.base.specs.Digits.{value, digits, halves}
 use Rattle.base.proofs.ListLaws.{true-false, equal-of}
 use Rattle.word.specs.Letters.{generator, inverse}
 use Rattle.word.specs.Words.{codes, filler, wordAnswer, packed, wordFile}
-use Rattle.braid_handles.specs.Handles.{between, isHandle, startOf, ends, earliestEnd, hasHandle, conjugated, without}
-use Rattle.braid_handles.specs.Handles.{stepped, afterSteps, stepQuestions}
+use Rattle.braid_handles.specs.Handles.{between, isHandle, startOf, ends, earliestEnd, hasHandle, conjugated}
+use Rattle.braid_handles.specs.Handles.{handleReduced, stepped, afterSteps, stepQuestions}
 use Rattle.braid_handles.proofs.Runs.{stepsAnswer}
 use Rattle.handle_reducer.proofs.ReducerContract.{Reducer, written, Handed, Meets, answer-of, file-of, left-of}
 
@@ -30,7 +30,7 @@ firstStart : List ℕ → ℕ
 firstStart w = firstFrom (λ p. ltb (endFor w p) (length w)) 0 (length w)
 
 pub begins-earliest : List ℕ → List ℕ
-begins-earliest w = cond (hasHandle w) (without (firstStart w) (endFor w (firstStart w)) w) w
+begins-earliest w = cond (hasHandle w) (handleReduced (firstStart w) (endFor w (firstStart w)) w) w
 
 -- the handle that ends last, of those that end at the first n places
 lastEnd : List ℕ → ℕ → ℕ
@@ -38,7 +38,7 @@ lastEnd w zero = 0
 lastEnd w (suc n) = cond (ends w n) n (lastEnd w n)
 
 pub ends-last : List ℕ → List ℕ
-ends-last w = let q : ℕ = lastEnd w (length w) in cond (hasHandle w) (without (startOf w q) q w) w
+ends-last w = let q : ℕ = lastEnd w (length w) in cond (hasHandle w) (handleReduced (startOf w q) q w) w
 
 -- another test of the letters between the ends
 module _ (may : ℕ → ℕ → Bool) where
@@ -50,7 +50,7 @@ module _ (may : ℕ → ℕ → Bool) where
   endBy w = firstFrom (λ q. ltb (startBy w q) q) 0 (length w)
 
   stepBy : List ℕ → List ℕ
-  stepBy w = cond (ltb (endBy w) (length w)) (without (startBy w (endBy w)) (endBy w) w) w
+  stepBy w = cond (ltb (endBy w) (length w)) (handleReduced (startBy w (endBy w)) (endBy w) w) w
 
 -- the generator before may stand between
 pub before-allowed : List ℕ → List ℕ
@@ -79,7 +79,7 @@ end-kept w =
     let p : ℕ = startOf w q in
     cond (hasHandle w) (take p w ++ (conjugated (getD w p 0) (between p q w) ++ drop q w)) w
 
--- ---- inputs that tell
+-- ---- inputs on which wrong programs differ from right ones
 
 -- an output with room for a word
 abbrev out : List ℕ

@@ -1,5 +1,5 @@
--- Where a handle begins that ends with the first code after the gap. The latest place of its generator and that of the
--- generator one less decide.
+-- Where the handle that ends with the first code after the gap begins. The latest place of that code's generator and
+-- the latest place of the generator one less decide.
 use Prim.Native.Nat.{ℕ, suc, _+_, _-_, _≤_, _<_}
 use mathlib.Core.Path.{_≡_, sym, ap, _∙_, subst}
 use mathlib.Core.Bool.{Bool, false, cond, _&&_}
@@ -14,7 +14,7 @@ use Rattle.word.specs.Letters.{generator, inverse}
 use Rattle.word.proofs.LetterLaws.{Lettered}
 use Rattle.braid_handles.specs.Handles.{startOf, ends}
 use Rattle.braid_handles.proofs.Starts.{Latest, begins-ends, ends-latest}
-use Rattle.handle_row.specs.steps.Gaps.{gapped, slot, latestOf, beginning}
+use Rattle.handle_row.specs.steps.Gaps.{gapped, letterSlot, latestOf, beginning}
 use Rattle.handle_row.proofs.PlaceLaws.{latest-alike, latest-latest}
 
 module _ (row : List ℕ) (left right : ℕ) (h : left < right) (r : right < length row) where
@@ -40,10 +40,10 @@ module _ (row : List ℕ) (left right : ℕ) (h : left < right) (r : right < len
       (latest-alike s (gapped row left right) row left before-gap) (latest-latest s (gapped row left right) left)
 
   module _ (letters : Lettered (gapped row left right)) (own less : ℕ)
-      (o : own ≡ latestOf (slot (getD row right 0)) row left)
+      (o : own ≡ latestOf (letterSlot (getD row right 0)) row left)
       (l : less ≡ latestOf (generator (getD row right 0)) row left) where
     own-latest : Latest (generator (getD (gapped row left right) left 0) + 1) (gapped row left right) left own
-    own-latest = rw (next, o) (latest-word (slot (getD row right 0)))
+    own-latest = rw (next, o) (latest-word (letterSlot (getD row right 0)))
 
     less-latest : Latest (generator (getD (gapped row left right) left 0)) (gapped row left right) left less
     less-latest = rw (next, l) (latest-word (generator (getD row right 0)))
@@ -55,7 +55,7 @@ module _ (row : List ℕ) (left right : ℕ) (h : left < right) (r : right < len
         ≡ ltb less own && eqb (getD (gapped row left right) (own - 1) 0) (inverse (getD (gapped row left right) left 0))
     decides = ends-latest (gapped row left right) letters left inside own less own-latest less-latest
 
-    -- the letter of its own generator that stands last
+    -- the latest letter of the code's own generator
     there : 0 < own → getD (gapped row left right) (own - 1) 0 ≡ getD row (own - 1) 0
     there p = before-gap (own - 1) (omega (arith, own-inside))
 
@@ -63,14 +63,14 @@ module _ (row : List ℕ) (left right : ℕ) (h : left < right) (r : right < len
     none e =
         ap (λ (b : Bool). cond b (startOf (gapped row left right) left + 1) 0) (sym e)
 
-    -- a letter of the generator one less is later, or there is none of its own
+    -- there is no handle if a letter of the generator one less is later, or if no letter has the code's own generator
     pub later-less : own ≤ less → 0 ≡ beginning row left right
     later-less p =
         let w = gapped row left right in
         none (decides
         ∙ ap (λ (b : Bool). b && eqb (getD w (own - 1) 0) (inverse (getD w left 0))) (le-ltb less own p))
 
-    -- the letter of its own generator is not its inverse
+    -- there is no handle if the latest letter of the code's own generator is not the code's inverse
     pub other-letter : less < own → (getD row (own - 1) 0 ≡ inverse (getD row right 0) → ⊥)
         → 0 ≡ beginning row left right
     other-letter p n =
@@ -80,7 +80,7 @@ module _ (row : List ℕ) (left right : ℕ) (h : left < right) (r : right < len
         (λ e. n (sym (there (omega arith)) ∙ e ∙ ap inverse next)))
         ∙ and-false (ltb less own))
 
-    -- a handle
+    -- otherwise a handle begins at the latest letter of the code's own generator
     pub handle-begins : less < own → getD row (own - 1) 0 ≡ inverse (getD row right 0) → own ≡ beginning row left right
     handle-begins p e =
         let w = gapped row left right in

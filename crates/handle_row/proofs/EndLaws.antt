@@ -1,5 +1,4 @@
--- Laws of what stands for the letters between a handle's ends: letter by letter, and written from the last to the
--- first.
+-- Laws of what replaces the letters between a handle's ends: letter by letter, and written from the last to the first.
 use Prim.Native.Nat.{ℕ, suc, _+_, _-_, _≤_, _<_}
 use mathlib.Core.Path.{_≡_, refl, sym, ap, ap₂, _∙_}
 use mathlib.Core.Bool.{Bool, true, false, cond}
@@ -12,25 +11,25 @@ use lib.ListN.{length, take, drop, getD, set, length-append, take-append-drop}
 use lib.Seq.{length-take-le, drop-length, take-suc, drop-cons, take-take}
 use lib.Seq.{take-append-le, drop-at, getD-take, sets-eq, set-split}
 use Rattle.word.specs.Letters.{generator, inverse}
-use Rattle.braid_handles.specs.Handles.{replaced, conjugated}
+use Rattle.braid_handles.specs.Handles.{conjugatedLetter, conjugated}
 use Rattle.braid_handles.proofs.Runs.{conjugated-append}
 use Rattle.handle_row.specs.steps.Gaps.{RoomFor, Replaces, Conjugates}
 
 module _ (a : ℕ) where
   -- ---- one letter
 
-  pub replaced-three : (d : ℕ) → generator d ≡ generator a + 1
-      → replaced a d ≡ inverse (a + 1) ∷ (d - 1) ∷ (a + 1) ∷ []
-  replaced-three d e =
+  pub conjugated-three : (d : ℕ) → generator d ≡ generator a + 1
+      → conjugatedLetter a d ≡ inverse (a + 1) ∷ (d - 1) ∷ (a + 1) ∷ []
+  conjugated-three d e =
       ap (λ (b : Bool). cond b (inverse (a + 1) ∷ (d - 1) ∷ (a + 1) ∷ []) (d ∷ []))
       (eq-eqb (generator d) (generator a + 1) e)
 
-  pub replaced-one : (d : ℕ) → (generator d ≡ generator a + 1 → ⊥) → replaced a d ≡ d ∷ []
-  replaced-one d h =
+  pub conjugated-one : (d : ℕ) → (generator d ≡ generator a + 1 → ⊥) → conjugatedLetter a d ≡ d ∷ []
+  conjugated-one d h =
       ap (λ (b : Bool). cond b (inverse (a + 1) ∷ (d - 1) ∷ (a + 1) ∷ []) (d ∷ []))
       (ne-eqb (generator d) (generator a + 1) h)
 
-  some-for : (d : ℕ) → 1 ≤ length (replaced a d)
+  some-for : (d : ℕ) → 1 ≤ length (conjugatedLetter a d)
   some-for d = go (eqb (generator d) (generator a + 1))
     where
       go : (b : Bool) → 1 ≤ length (cond b (inverse (a + 1) ∷ (d - 1) ∷ (a + 1) ∷ []) (d ∷ []))
@@ -39,20 +38,20 @@ module _ (a : ℕ) where
 
   -- ---- all letters
 
-  -- no fewer letters stand for them
+  -- at least as many letters replace them
   conjugated-long : (u : List ℕ) → length u ≤ length (conjugated a u)
   unfolding conjugated
   conjugated-long [] = omega arith
   conjugated-long (d ∷ u) =
-      omega (arith, length-append (replaced a d) (conjugated a u), some-for d, conjugated-long u)
+      omega (arith, length-append (conjugatedLetter a d) (conjugated a u), some-for d, conjugated-long u)
 
-  single : (d : ℕ) → conjugated a (d ∷ []) ≡ replaced a d
+  single : (d : ℕ) → conjugated a (d ∷ []) ≡ conjugatedLetter a d
   unfolding conjugated
-  single d = append-nil (replaced a d)
+  single d = append-nil (conjugatedLetter a d)
 
   -- one letter more at the end
   pub conjugated-more : (u : List ℕ) (k : ℕ) → k < length u
-      → conjugated a (take (k + 1) u) ≡ conjugated a (take k u) ++ replaced a (getD u k 0)
+      → conjugated a (take (k + 1) u) ≡ conjugated a (take k u) ++ conjugatedLetter a (getD u k 0)
   conjugated-more u k h =
       ap (λ (n : ℕ). conjugated a (take n u)) (add-one k)
       ∙ ap (conjugated a) (take-suc u k 0 h)
@@ -61,21 +60,22 @@ module _ (a : ℕ) where
 
   -- one letter more at the front
   conjugated-from : (u : List ℕ) (k : ℕ) → k < length u
-      → conjugated a (drop k u) ≡ replaced a (getD u k 0) ++ conjugated a (drop (k + 1) u)
+      → conjugated a (drop k u) ≡ conjugatedLetter a (getD u k 0) ++ conjugated a (drop (k + 1) u)
   unfolding conjugated
   conjugated-from u k h = rw (add-one k, drop-cons u k 0 h)
 
   -- the letters up to k, letter k and the letters after it
   lengths-at : (u : List ℕ) (k : ℕ) → k < length u
       → length (conjugated a u)
-      ≡ length (conjugated a (take k u)) + (length (replaced a (getD u k 0)) + length (conjugated a (drop (k + 1) u)))
+      ≡ length (conjugated a (take k u))
+      + (length (conjugatedLetter a (getD u k 0)) + length (conjugated a (drop (k + 1) u)))
   lengths-at u k h =
       ap (λ (w : List ℕ). length (conjugated a w)) (sym (take-append-drop k u))
       ∙ ap length (conjugated-append a (take k u) (drop k u))
       ∙ length-append (conjugated a (take k u)) (conjugated a (drop k u))
       ∙ ap (λ (w : List ℕ). length (conjugated a (take k u)) + length w) (conjugated-from u k h)
       ∙ ap (λ (n : ℕ). length (conjugated a (take k u)) + n)
-      (length-append (replaced a (getD u k 0)) (conjugated a (drop (k + 1) u)))
+      (length-append (conjugatedLetter a (getD u k 0)) (conjugated a (drop (k + 1) u)))
 
 -- ---- written to a part, right before a place
 
@@ -85,8 +85,8 @@ module _ (part : List ℕ) (at a d : ℕ) (room : RoomFor part at a d) where
       (set (set (set part (at - 3) (inverse (a + 1))) (at - 3 + 1) (d - 1)) (at - 3 + 2) (a + 1))
       at a d (at - 3)
   writes-three e =
-      let is = replaced-three a d e in
-      let three : length (replaced a d) ≡ 3 = ap length is in
+      let is = conjugated-three a d e in
+      let three : length (conjugatedLetter a d) ≡ 3 = ap length is in
       let from : ℕ = at - 3 in
       let up : from + 3 ≡ at = omega (arith, room .enough, three) in
       let two : from + 2 ≡ suc (suc from) = omega arith in
@@ -102,8 +102,8 @@ module _ (part : List ℕ) (at a d : ℕ) (room : RoomFor part at a d) where
 
   pub writes-one : (generator d ≡ generator a + 1 → ⊥) → Replaces part (set part (at - 1) d) at a d (at - 1)
   writes-one h =
-      let is = replaced-one a d h in
-      let one : length (replaced a d) ≡ 1 = ap length is in
+      let is = conjugated-one a d h in
+      let one : length (conjugatedLetter a d) ≡ 1 = ap length is in
       let up : at - 1 + 1 ≡ at = omega (arith, room .enough, one) in
       let next : suc (at - 1) ≡ at = omega arith in
       record {
@@ -115,7 +115,7 @@ module _ (part : List ℕ) (at a d : ℕ) (room : RoomFor part at a d) where
 
 -- ---- written from the last letter to the first
 
--- the letters from k on of the first n are written from place `at` on, and those before k are as they were
+-- what replaces the letters k to n - 1 is written from place `at` on, and the letters before k are unchanged
 pub record Written (part₀ part : List ℕ) (n a k at : ℕ) : Type 0 where
   pub few : k ≤ n
   pub size : length part ≡ length part₀
@@ -157,13 +157,13 @@ module _ (part₀ : List ℕ) (n a : ℕ) (fits : n ≤ length part₀)
         ∙ getD-take k part₀ i 0 (omega arith)
         ∙ sym (getD-take n part₀ i 0 (omega (arith, w .few)))
 
-    lengths : length (conjugated a (take i (take n part₀))) + length (replaced a (getD part i 0)) ≤ at
+    lengths : length (conjugated a (take i (take n part₀))) + length (conjugatedLetter a (getD part i 0)) ≤ at
     lengths =
-        let here = ap (λ (d : ℕ). length (replaced a d)) letter-is in
+        let here = ap (λ (d : ℕ). length (conjugatedLetter a d)) letter-is in
         let rest = ap (λ (j : ℕ). length (conjugated a (drop j (take n part₀)))) s in
         omega (arith, lengths-at a (take n part₀) i below, here, rest, w .place, room)
 
-    at-least : i + length (replaced a (getD part i 0)) ≤ at
+    at-least : i + length (conjugatedLetter a (getD part i 0)) ≤ at
     at-least =
         omega (
           arith,
@@ -183,9 +183,10 @@ module _ (part₀ : List ℕ) (n a : ℕ) (fits : n ≤ length part₀)
     pub one-written : (part′ : List ℕ) (r : ℕ) → length part′ ≡ length part
         → Replaces part part′ at a (getD part i 0) r → Written part₀ part′ n a i r
     one-written part′ r l p =
-        let here : replaced a (getD part i 0) ≡ replaced a (getD (take n part₀) i 0) = ap (replaced a) letter-is in
+        let here : conjugatedLetter a (getD part i 0) ≡ conjugatedLetter a (getD (take n part₀) i 0) =
+        ap (conjugatedLetter a) letter-is in
         let more : conjugated a (drop i (take n part₀))
-        ≡ replaced a (getD part i 0) ++ conjugated a (drop k (take n part₀)) =
+        ≡ conjugatedLetter a (getD part i 0) ++ conjugated a (drop k (take n part₀)) =
         conjugated-from a (take n part₀) i below
         ∙ ap₂ (λ (x : List ℕ) (j : ℕ). x ++ conjugated a (drop j (take n part₀))) (sym here) s in
         let within : r ≤ length part = omega (arith, p .place, w .place, w .size) in
@@ -200,18 +201,18 @@ module _ (part₀ : List ℕ) (n a : ℕ) (fits : n ≤ length part₀)
                 ap length more,
                 p .place,
                 w .place,
-                length-append (replaced a (getD part i 0)) (conjugated a (drop k (take n part₀))),
+                length-append (conjugatedLetter a (getD part i 0)) (conjugated a (drop k (take n part₀))),
               );
           front =
               ap (take i) (p .part-is)
-              ∙ take-append-le i (take r part) (replaced a (getD part i 0) ++ drop at part) (omega arith)
+              ∙ take-append-le i (take r part) (conjugatedLetter a (getD part i 0) ++ drop at part) (omega arith)
               ∙ take-take i r part low
               ∙ sym (take-take i k part (omega arith))
               ∙ ap (take i) (w .front)
               ∙ take-take i k part₀ (omega arith);
           end-is =
               ap (drop r) (p .part-is)
-              ∙ drop-at (take r part) (replaced a (getD part i 0) ++ drop at part) r cut
-              ∙ ap (λ (x : List ℕ). replaced a (getD part i 0) ++ x) (w .end-is)
+              ∙ drop-at (take r part) (conjugatedLetter a (getD part i 0) ++ drop at part) r cut
+              ∙ ap (λ (x : List ℕ). conjugatedLetter a (getD part i 0) ++ x) (w .end-is)
               ∙ sym more;
         }

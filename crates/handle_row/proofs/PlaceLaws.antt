@@ -11,33 +11,33 @@ use lib.Dec.{eqb}
 use lib.ListN.{length, take, getD, set, length-set}
 use lib.Seq.{getD-take, getD-set-same, getD-set-other}
 use Rattle.braid_handles.proofs.Starts.{Latest}
-use Rattle.handle_row.specs.steps.Gaps.{slot, latestOf, Tables}
+use Rattle.handle_row.specs.steps.Gaps.{letterSlot, latestOf, Tables}
 
 module _ (s : ℕ) where
   -- the latest place of n + 1 places is the last one, if that has the slot, and otherwise the latest of n
-  latest-here : (w : List ℕ) (n : ℕ) → slot (getD w n 0) ≡ s → latestOf s w (n + 1) ≡ n + 1
+  latest-here : (w : List ℕ) (n : ℕ) → letterSlot (getD w n 0) ≡ s → latestOf s w (n + 1) ≡ n + 1
   unfolding latestOf
   latest-here w n e =
       ap (latestOf s w) (add-one n)
-      ∙ ap (λ (b : Bool). cond b (suc n) (latestOf s w n)) (eq-eqb (slot (getD w n 0)) s e)
+      ∙ ap (λ (b : Bool). cond b (suc n) (latestOf s w n)) (eq-eqb (letterSlot (getD w n 0)) s e)
       ∙ sym (add-one n)
 
-  latest-other : (w : List ℕ) (n : ℕ) → (slot (getD w n 0) ≡ s → ⊥) → latestOf s w (n + 1) ≡ latestOf s w n
+  latest-other : (w : List ℕ) (n : ℕ) → (letterSlot (getD w n 0) ≡ s → ⊥) → latestOf s w (n + 1) ≡ latestOf s w n
   unfolding latestOf
   latest-other w n h =
       ap (latestOf s w) (add-one n)
-      ∙ ap (λ (b : Bool). cond b (suc n) (latestOf s w n)) (ne-eqb (slot (getD w n 0)) s h)
+      ∙ ap (λ (b : Bool). cond b (suc n) (latestOf s w n)) (ne-eqb (letterSlot (getD w n 0)) s h)
 
-  -- it depends on the n places alone
+  -- `latestOf` depends on the n places alone
   pub latest-alike : (u v : List ℕ) (n : ℕ) → ((k : ℕ) → k < n → getD u k 0 ≡ getD v k 0)
       → latestOf s u n ≡ latestOf s v n
   unfolding latestOf
   latest-alike u v zero h = refl
   latest-alike u v (suc n) h =
       let front = latest-alike u v n (λ k b. h k (omega arith)) in
-      ap₂ (λ (c m : ℕ). cond (eqb (slot c) s) (suc n) m) (h n (omega arith)) front
+      ap₂ (λ (c m : ℕ). cond (eqb (letterSlot c) s) (suc n) m) (h n (omega arith)) front
 
-  -- it is the latest place
+  -- `latestOf` gives the latest place
   pub latest-latest : (w : List ℕ) (n : ℕ) → Latest s w n (latestOf s w n)
   unfolding latestOf
   latest-latest w zero =
@@ -46,16 +46,16 @@ module _ (s : ℕ) where
         there = λ h. absurd (omega arith);
         later = λ j a b. absurd (omega arith);
       }
-  latest-latest w (suc n) = go (eqb (slot (getD w n 0)) s) refl (latest-latest w n)
+  latest-latest w (suc n) = go (eqb (letterSlot (getD w n 0)) s) refl (latest-latest w n)
     where
-      go : (b : Bool) → eqb (slot (getD w n 0)) s ≡ b → Latest s w n (latestOf s w n)
+      go : (b : Bool) → eqb (letterSlot (getD w n 0)) s ≡ b → Latest s w n (latestOf s w n)
           → Latest s w (suc n) (cond b (suc n) (latestOf s w n))
       go true e l =
           record {
             within = omega arith;
             there =
                 λ h. let at : suc n - 1 ≡ n = omega arith in
-                ap (λ (k : ℕ). slot (getD w k 0)) at ∙ eqb-true (slot (getD w n 0)) s e;
+                ap (λ (k : ℕ). letterSlot (getD w k 0)) at ∙ eqb-true (letterSlot (getD w n 0)) s e;
             later = λ j a b. absurd (omega arith);
           }
       go false e l =
@@ -65,9 +65,9 @@ module _ (s : ℕ) where
             later = λ j a b. older j a b (ℕ-discrete j n);
           }
         where
-          older : (j : ℕ) → latestOf s w n ≤ j → j < suc n → Dec (j ≡ n) → slot (getD w j 0) ≡ s → ⊥
+          older : (j : ℕ) → latestOf s w n ≤ j → j < suc n → Dec (j ≡ n) → letterSlot (getD w j 0) ≡ s → ⊥
           older j a b (yes d) t =
-              eqb-false (slot (getD w n 0)) s e (ap (λ (k : ℕ). slot (getD w k 0)) (sym d) ∙ t)
+              eqb-false (letterSlot (getD w n 0)) s e (ap (λ (k : ℕ). letterSlot (getD w k 0)) (sym d) ∙ t)
           older j a b (no d) t = l .later j a (omega arith) t
 
 -- rows that agree on the n places have the same tables
@@ -82,8 +82,8 @@ tables-alike u v n e t =
           };
       before-is =
           λ k b. t .before-is k b
-          ∙ ap (λ (c : ℕ). latestOf (slot c) u k) (same k b)
-          ∙ latest-alike (slot (getD v k 0)) u v k (λ j l. same j (omega arith));
+          ∙ ap (λ (c : ℕ). latestOf (letterSlot c) u k) (same k b)
+          ∙ latest-alike (letterSlot (getD v k 0)) u v k (λ j l. same j (omega arith));
     }
   where
     same : (k : ℕ) → k < n → getD u k 0 ≡ getD v k 0
@@ -91,14 +91,14 @@ tables-alike u v n e t =
 
 module _ (row latest before : List ℕ) (n : ℕ) where
   -- one code more: it is stored, and so are its place and the latest place before it
-  pub tables-more : (c : ℕ) → n < length row → n < length before → slot c < 9 → Tables row latest before n
-      → Tables (set row n c) (set latest (slot c) (n + 1)) (set before n (getD latest (slot c) 0)) (n + 1)
+  pub tables-more : (c : ℕ) → n < length row → n < length before → letterSlot c < 9 → Tables row latest before n
+      → Tables (set row n c) (set latest (letterSlot c) (n + 1)) (set before n (getD latest (letterSlot c) 0)) (n + 1)
   tables-more c h l m t =
       record {
         newest =
             record {
-              slots = length-set latest (slot c) (n + 1) ∙ t .newest .slots;
-              latest-is = λ s b. newer s b (ℕ-discrete s (slot c));
+              slots = length-set latest (letterSlot c) (n + 1) ∙ t .newest .slots;
+              latest-is = λ s b. newer s b (ℕ-discrete s (letterSlot c));
             };
         before-is = λ k b. older k b (ℕ-discrete k n);
       }
@@ -112,35 +112,36 @@ module _ (row latest before : List ℕ) (n : ℕ) where
       here : getD new n 0 ≡ c
       here = getD-set-same row n c 0 h
 
-      newer : (s : ℕ) → s < 9 → Dec (s ≡ slot c) → getD (set latest (slot c) (n + 1)) s 0 ≡ latestOf s new (n + 1)
+      newer : (s : ℕ) → s < 9 → Dec (s ≡ letterSlot c)
+          → getD (set latest (letterSlot c) (n + 1)) s 0 ≡ latestOf s new (n + 1)
       newer s b (yes d) =
-          ap (λ (i : ℕ). getD (set latest (slot c) (n + 1)) i 0) d
-          ∙ getD-set-same latest (slot c) (n + 1) 0 (omega (arith, t .newest .slots))
-          ∙ sym (latest-here s new n (ap slot here ∙ sym d))
+          ap (λ (i : ℕ). getD (set latest (letterSlot c) (n + 1)) i 0) d
+          ∙ getD-set-same latest (letterSlot c) (n + 1) 0 (omega (arith, t .newest .slots))
+          ∙ sym (latest-here s new n (ap letterSlot here ∙ sym d))
       newer s b (no d) =
-          getD-set-other latest (slot c) s (n + 1) 0 d
+          getD-set-other latest (letterSlot c) s (n + 1) 0 d
           ∙ t .newest .latest-is s b
           ∙ latest-alike s row new n same
-          ∙ sym (latest-other s new n (λ e. d (sym e ∙ ap slot here)))
+          ∙ sym (latest-other s new n (λ e. d (sym e ∙ ap letterSlot here)))
 
       older : (k : ℕ) → k < n + 1 → Dec (k ≡ n)
-          → getD (set before n (getD latest (slot c) 0)) k 0 ≡ latestOf (slot (getD new k 0)) new k
+          → getD (set before n (getD latest (letterSlot c) 0)) k 0 ≡ latestOf (letterSlot (getD new k 0)) new k
       older k b (yes d) =
-          ap (λ (i : ℕ). getD (set before n (getD latest (slot c) 0)) i 0) d
-          ∙ getD-set-same before n (getD latest (slot c) 0) 0 l
-          ∙ t .newest .latest-is (slot c) m
-          ∙ latest-alike (slot c) row new n same
-          ∙ ap₂ (λ (x i : ℕ). latestOf (slot x) new i) (sym (ap (λ (i : ℕ). getD new i 0) d ∙ here)) (sym d)
+          ap (λ (i : ℕ). getD (set before n (getD latest (letterSlot c) 0)) i 0) d
+          ∙ getD-set-same before n (getD latest (letterSlot c) 0) 0 l
+          ∙ t .newest .latest-is (letterSlot c) m
+          ∙ latest-alike (letterSlot c) row new n same
+          ∙ ap₂ (λ (x i : ℕ). latestOf (letterSlot x) new i) (sym (ap (λ (i : ℕ). getD new i 0) d ∙ here)) (sym d)
       older k b (no d) =
           let f : k < n = omega arith in
-          getD-set-other before n k (getD latest (slot c) 0) 0 d
+          getD-set-other before n k (getD latest (letterSlot c) 0) 0 d
           ∙ t .before-is k f
-          ∙ ap (λ (x : ℕ). latestOf (slot x) row k) (same k f)
-          ∙ latest-alike (slot (getD new k 0)) row new k (λ j a. same j (omega arith))
+          ∙ ap (λ (x : ℕ). latestOf (letterSlot x) row k) (same k f)
+          ∙ latest-alike (letterSlot (getD new k 0)) row new k (λ j a. same j (omega arith))
 
   -- one code less: its slot has the latest place before it again
-  pub tables-less : slot (getD row n 0) < 9 → Tables row latest before (n + 1)
-      → Tables row (set latest (slot (getD row n 0)) (getD before n 0)) before n
+  pub tables-less : letterSlot (getD row n 0) < 9 → Tables row latest before (n + 1)
+      → Tables row (set latest (letterSlot (getD row n 0)) (getD before n 0)) before n
   tables-less m t =
       record {
         newest =
@@ -152,7 +153,7 @@ module _ (row latest before : List ℕ) (n : ℕ) where
       }
     where
       last : ℕ
-      last = slot (getD row n 0)
+      last = letterSlot (getD row n 0)
 
       back : (s : ℕ) → s < 9 → Dec (s ≡ last) → getD (set latest last (getD before n 0)) s 0 ≡ latestOf s row n
       back s b (yes d) =

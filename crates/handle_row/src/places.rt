@@ -1,10 +1,10 @@
-// The latest place of each generator before the gap. Places are kept as one more than they are, so that 0 is none. For
-// each place a second table has the latest place before it that has the same generator.
+// The latest place of each generator before the gap. The tables hold each place plus 1, so that 0 means none. For each
+// place a second table has the latest place before it that has the same generator.
 use word::inverse;
 ghost use Prim.Native.Nat.{_+_, _≤_, _<_};
 ghost use mathlib.Core.Path.{_≡_};
 ghost use lib.ListN.{length};
-ghost use Rattle.handle_row.specs.steps.Gaps.{slot, Tables, beginning, Reads, Open, Kept};
+ghost use Rattle.handle_row.specs.steps.Gaps.{letterSlot, Tables, beginning, Reads, Open, LetterKept};
 
 fn wide(place: u16) -> usize
     ensures { λ r. ⌜ r ≡ place ⌝ }
@@ -12,9 +12,9 @@ fn wide(place: u16) -> usize
     place as usize
 }
 
-// The slot of a letter. The slot of the generator before is one less.
+// The slot of a letter: i for b_i and for its inverse.
 fn slot_of(c: u8) -> usize
-    ensures { λ r. ⌜ (r ≡ slot c) × (r < 9) ⌝ }
+    ensures { λ r. ⌜ (r ≡ letterSlot c) × (r < 9) ⌝ }
 {
     (c % 8) as usize + 1
 }
@@ -42,7 +42,7 @@ pub fn begins(row: &[u8], latest: &[u16], left: usize, right: usize) -> usize
 pub fn keep(row: &mut [u8], latest: &mut [u16], before: &mut [u16], left: usize, right: usize)
     requires { ⌜ Open (now row) (now before) left right × Tables (now row) (now latest) (now before) left ⌝ }
     ensures { λ _.
-        ⌜ Kept (now (row .entry)) (now (row .exit)) (now (latest .exit)) (now (before .exit)) left right ⌝ }
+        ⌜ LetterKept (now (row .entry)) (now (row .exit)) (now (latest .exit)) (now (before .exit)) left right ⌝ }
 {
     let c = row[right];
     let s = slot_of(c);

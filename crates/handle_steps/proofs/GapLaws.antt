@@ -153,7 +153,7 @@ module _ (row : List ℕ) (left right : ℕ) (h : left < right) (r : right < len
         (own - 1) (omega (arith, front)) in
         omega (arith, letter-below (getD (take left row) (own - 1) 0) t, getD-take left row (own - 1) 0 few)
 
-    -- the part from the handle's first end on, with what stands for the letters between at its end
+    -- the part from the handle's first end on; at its end stands what replaces the letters between
     module _ (part′ : List ℕ) (at : ℕ) (size : length part′ ≡ length (take (right + 1 - own) (drop own row)))
         (w : Conjugates (take (right + 1 - own) (drop own row)) part′ (left - own) (getD row (own - 1) 0) at) where
       abbrev row′ : List ℕ

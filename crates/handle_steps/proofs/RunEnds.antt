@@ -15,7 +15,7 @@ use Rattle.word.specs.Letters.{isLetter}
 use Rattle.braid_handles.specs.Handles.{hasHandle, afterSteps, stepQuestions}
 use Rattle.braid_handles.proofs.HandleLaws.{free-nil}
 use Rattle.handle_row.specs.steps.Gaps.{gapped, latestOf, Gathers}
-use Rattle.handle_steps.specs.steps.Runs.{Lends, Fresh, TakesOut, Gap, Ended}
+use Rattle.handle_steps.specs.steps.Runs.{HoldsWord, Fresh, StepsOnRow, Gap, Ended}
 
 -- ---- before the first step
 
@@ -25,7 +25,7 @@ zeros zero s = refl
 zeros (suc n) zero = refl
 zeros (suc n) (suc s) = zeros n s
 
-pub begun : (row row′ latest before codes : List ℕ) (n : ℕ) → Lends n codes → Fresh row latest before
+pub begun : (row row′ latest before codes : List ℕ) (n : ℕ) → HoldsWord n codes → Fresh row latest before
     → length row′ ≡ length row → drop (length row - length (take n codes)) row′ ≡ take n codes
     → (Gap row′ latest before 0 (10001 - n)) × (gapped row′ 0 (10001 - n) ≡ take n codes)
 unfolding latestOf
@@ -52,7 +52,7 @@ begun row row′ latest before codes n l f s e =
 -- ---- after the last step
 
 module _ (limit n : ℕ) (codes w : List ℕ) (e : w ≡ take n codes) where
-  pub refused-steps : n ≤ 10000 → firstNo (stepQuestions limit w) ≡ 32 → TakesOut limit n codes codes 32 n false
+  pub refused-steps : n ≤ 10000 → firstNo (stepQuestions limit w) ≡ 32 → StepsOnRow limit n codes codes 32 n false
   refused-steps h r =
       record {
         answer-is = sym (ap (λ (x : List ℕ). firstNo (stepQuestions limit x)) (sym e) ∙ r);
@@ -64,7 +64,7 @@ module _ (limit n : ℕ) (codes w : List ℕ) (e : w ≡ take n codes) where
   pub ended-steps : (row codes′ : List ℕ) (left right stop : ℕ) → length row ≡ 10001
       → Ended limit w row left right stop
       → take (left + (length row - right)) codes′ ≡ gapped row left right
-      → TakesOut limit n codes codes′ 0 (left + (10001 - right)) (eqb stop 1)
+      → StepsOnRow limit n codes codes′ 0 (left + (10001 - right)) (eqb stop 1)
   unfolding granted
   ended-steps row codes′ left right stop l d t =
       record {
@@ -76,7 +76,7 @@ module _ (limit n : ℕ) (codes w : List ℕ) (e : w ≡ take n codes) where
         left-is = d .left-is ∙ ap (λ (x : List ℕ). hasHandle (afterSteps limit x)) e;
       }
 
-pub gathers : (limit : ℕ) (w row codes : List ℕ) (n left right stop : ℕ) → length row ≡ 10001 → Lends n codes
+pub gathers : (limit : ℕ) (w row codes : List ℕ) (n left right stop : ℕ) → length row ≡ 10001 → HoldsWord n codes
     → Ended limit w row left right stop → Gathers row left right codes
 gathers limit w row codes n left right stop s l d =
     record {

@@ -14,14 +14,14 @@ use Rattle.word.specs.Letters.{isLetter}
 use Rattle.braid_handles.specs.Handles.{hasHandle, conjugated, stepped, afterSteps, stepQuestions}
 use Rattle.braid_handles.proofs.Runs.{no-steps, step-fits, step-refused, steps-free, free-answers}
 use Rattle.braid_handles.proofs.StepKeeps.{step-lettered}
-use Rattle.handle_row.specs.steps.Gaps.{gapped, beginning, Tables, Kept, Conjugates}
+use Rattle.handle_row.specs.steps.Gaps.{gapped, beginning, Tables, LetterKept, Conjugates}
 use Rattle.handle_row.proofs.PlaceLaws.{tables-alike}
 use Rattle.handle_steps.specs.steps.Runs.{Gap, SameRun, Ended, Turned, Ran}
 use Rattle.handle_steps.proofs.GapLaws.{word-stays, front-free, own-inside}
 use Rattle.handle_steps.proofs.GapLaws.{one-left, step-long, at-is, front-stays}
 use Rattle.handle_steps.proofs.GapLaws.{word-after, length-after, free-after}
 
--- a run is the same as itself
+-- equal words have the same run
 pub same-run : (n : ℕ) {v w : List ℕ} → v ≡ w → SameRun n v n w
 same-run n e =
     record { word-is = ap (afterSteps n) e; answer-is = ap (λ (x : List ℕ). firstNo (stepQuestions n x)) e }
@@ -46,7 +46,7 @@ module _ (row latest before : List ℕ) (left right n : ℕ) (g : Gap row latest
   -- ---- the code moves before the gap
 
   pub code-kept : beginning row left right ≡ 0 → (row′ latest′ before′ : List ℕ) → length before′ ≡ length before
-      → Kept row row′ latest′ before′ left right
+      → LetterKept row row′ latest′ before′ left right
       → Turned row left right n row′ latest′ before′ (left + 1) (right + 1) n 0
   code-kept b row′ latest′ before′ l k =
       let stays = word-stays row left right (g .gap) inside row′ (k .row-is) in
@@ -69,7 +69,7 @@ module _ (row latest before : List ℕ) (left right n : ℕ) (g : Gap row latest
         stops = inl refl;
       }
 
-  -- ---- a handle ends there
+  -- ---- a handle ends with the code
 
   module _ (own : ℕ) (o : own ≡ beginning row left right) (some : 0 < own) where
     -- no step is left

@@ -7,7 +7,7 @@ use handle_row::SLOTS;
 use handle_row::gather;
 use handle_row::lay;
 use turns::run;
-ghost use Rattle.handle_steps.specs.steps.Runs.{Lends, Fresh, TakesOut};
+ghost use Rattle.handle_steps.specs.steps.Runs.{HoldsWord, Fresh, StepsOnRow};
 
 // What the steps give. `answer` is 32 if a step would leave over 10,000 letters, and otherwise 0. `letters` is the
 // number of letters of the row's word. `left` says whether a handle is left, and no on a refusal.
@@ -26,9 +26,9 @@ fn work_in(
     latest: &mut [u16],
     before: &mut [u16],
 ) -> Reduced
-    requires { ⌜ Lends n (now codes) × Fresh (now row) (now latest) (now before) ⌝ }
+    requires { ⌜ HoldsWord n (now codes) × Fresh (now row) (now latest) (now before) ⌝ }
     ensures { λ r.
-        ⌜ TakesOut limit n (now (codes .entry)) (now (codes .exit)) (r .answer) (r .letters) (r .left) ⌝ }
+        ⌜ StepsOnRow limit n (now (codes .entry)) (now (codes .exit)) (r .answer) (r .letters) (r .left) ⌝ }
 {
     lay(row, &codes[..n]);
     let r = run(row, latest, before, ROOM - n, limit);
@@ -50,12 +50,12 @@ fn work_in(
     }
 }
 
-// Takes at most `limit` handles out of the word that the first n codes are, each time the one that ends earliest. On a
+// Takes at most `limit` handles out of the word in the first n codes, each time the handle that ends earliest. On a
 // refusal the codes are unchanged.
 pub fn reduce(codes: &mut [u8], n: usize, limit: usize) -> Reduced
-    requires { ⌜ Lends n (now codes) ⌝ }
+    requires { ⌜ HoldsWord n (now codes) ⌝ }
     ensures { λ r.
-        ⌜ TakesOut limit n (now (codes .entry)) (now (codes .exit)) (r .answer) (r .letters) (r .left) ⌝ }
+        ⌜ StepsOnRow limit n (now (codes .entry)) (now (codes .exit)) (r .answer) (r .letters) (r .left) ⌝ }
 {
     let mut row = [0u8; ROOM];
     let mut latest = [0u16; SLOTS];

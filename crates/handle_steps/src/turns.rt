@@ -10,7 +10,7 @@ ghost use Prim.Native.Nat.{_<_};
 ghost use Rattle.handle_row.specs.steps.Gaps.{gapped};
 ghost use Rattle.handle_steps.specs.steps.Runs.{Gap, Found, Turned, Ran};
 
-// The gap after a turn, and the steps that are left. `stop` is 0 if the turns go on, 1 if a handle is left and no step,
+// The gap after a turn, and the steps that are left. `stop` is 0 if the turns go on, 1 if a handle is left but no step,
 // 32 if a step is refused.
 pub(crate) struct State {
     pub left: usize,

@@ -14,7 +14,7 @@ use Rattle.matrix.specs.Layout.{place, entry}
 use Rattle.matrix.proofs.LayoutLaws.{entry-matrixOf, by-entries}
 use Rattle.matrix.proofs.StoreLaws.{store-same, store-other}
 use Rattle.key.specs.Keys.{wholeMatrix, fileEntries}
-use Rattle.key.specs.steps.Filling.{fileEntry, Filled}
+use Rattle.key.specs.steps.Filling.{fileEntry, EntriesPlaced}
 
 -- ---- entries read out
 
@@ -43,15 +43,15 @@ getD-zeros zero k = refl
 getD-zeros (suc n) zero = refl
 getD-zeros (suc n) (suc k) = getD-zeros n k
 
-pub filled-none : (es : List ℕ) → Filled es 0 (replicate 64 0)
+pub placed-none : (es : List ℕ) → EntriesPlaced es 0 (replicate 64 0)
 unfolding entry
-filled-none es =
+placed-none es =
     record { size = refl; placed = λ k h. absurd (omega arith); zeros = λ k h b. getD-zeros 64 (place (k / 8) (k % 8)) }
 
 -- one more entry
-pub filled-more : (es m : List ℕ) (n : ℕ) {at : ℕ} → at ≡ place (n / 8) (n % 8) → n < 56 → Filled es n m
-    → Filled es (n + 1) (set m at (getD es n 0))
-filled-more es m n e h f =
+pub placed-more : (es m : List ℕ) (n : ℕ) {at : ℕ} → at ≡ place (n / 8) (n % 8) → n < 56 → EntriesPlaced es n m
+    → EntriesPlaced es (n + 1) (set m at (getD es n 0))
+placed-more es m n e h f =
     rw e record {
       size = length-set m (place (n / 8) (n % 8)) (getD es n 0) ∙ f .size;
       placed = λ k b. own k b (ℕ-discrete k n);
@@ -69,13 +69,13 @@ filled-more es m n e h f =
 
 -- one more entry of row r
 pub row-more : (es m : List ℕ) (r c : ℕ) {at x : ℕ} → at ≡ place r c → x ≡ getD es (8 * r + c) 0 → r < 7 → c < 8
-    → Filled es (8 * r + c) m
-    → Filled es (8 * r + (c + 1)) (set m at x)
+    → EntriesPlaced es (8 * r + c) m
+    → EntriesPlaced es (8 * r + (c + 1)) (set m at x)
 row-more es m r c {at} e v h g f =
     let er : r ≡ (8 * r + c) / 8 = omega arith in
     let ec : c ≡ (8 * r + c) % 8 = omega arith in
     let more : 8 * r + c + 1 ≡ 8 * r + (c + 1) = omega arith in
-    rw (v, ← more) (filled-more es m (8 * r + c) (e ∙ ap₂ place er ec) (omega arith) f)
+    rw (v, ← more) (placed-more es m (8 * r + c) (e ∙ ap₂ place er ec) (omega arith) f)
 
 module _ (es : List ℕ) (l : length es ≡ 57) where
   -- the matrix row by row, as in `wholeMatrix`
@@ -106,7 +106,7 @@ module _ (es : List ℕ) (l : length es ≡ 57) where
   x = getD es 56 0
 
   -- 56 entries in their places, and then the last entry
-  pub whole-put : (m : List ℕ) {at : ℕ} → at ≡ place 7 7 → Filled es 56 m → set m at x ≡ wholeMatrix es
+  pub whole-put : (m : List ℕ) {at : ℕ} → at ≡ place 7 7 → EntriesPlaced es 56 m → set m at x ≡ wholeMatrix es
   unfolding wholeMatrix
   whole-put m e f =
       ap (λ (at : ℕ). set m at x) e

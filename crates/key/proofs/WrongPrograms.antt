@@ -30,7 +30,7 @@ module _ (answer : List ℕ → ℕ) (key : List ℕ → Key)
   taken-over : (f : Field) (file : List ℕ) → Bytes file → keyField file ≡ f → answer file ≡ 0 → Accepted f file
   taken-over f file b e z = subst (λ (g : Field). Accepted g file) e (accepted file (sym (right file b .answer-is) ∙ z))
 
-  -- whatever the rest of the file
+  -- a file of 128 bytes with q = 32, or of 83 bytes with q = 256, is not accepted, whatever its other bytes
   pub no-128-with-32 : (file : List ℕ) → Bytes file → length file ≡ 128 → fieldSize file ≡ 32 → answer file ≡ 0 → ⊥
   no-128-with-32 file b l q z =
       let e : _≡_ {A = ℕ} 32 256 = sym q ∙ taken-over Gf256 file b (field-of-length Gf256 file l) z .field-size in
@@ -66,7 +66,8 @@ pub no-17-for-an-element : {after : List ℕ} {answer : ℕ}
 unfolding firstNo valuesFrom every tally eachOnce
 no-17-for-an-element w wrong = let e : _≡_ {A = ℕ} 17 6 = sym wrong ∙ w .answer-is in omega arith
 
--- refuted on the matrix whose 64 numbers all differ: its 57th number is not the last entry of row 8
+-- The first 57 numbers of a matrix are not the entries of a file. If all 64 numbers differ, the 57th is not the last
+-- entry of row 8.
 pub first-57 : take 57 (values (λ k. k) 64) ≡ fileEntries (values (λ k. k) 64) → ⊥
 unfolding fileEntries place entry valuesFrom
 first-57 e = let z : _≡_ {A = ℕ} 56 63 = ap (λ (l : List ℕ). getD l 56 0) e in omega arith

@@ -11,7 +11,6 @@ mod width; // width.rt: what differs between the two fields
 pub use width::LARGE_BYTES;
 pub use width::SMALL_BYTES;
 pub use width::VALUES_PLACE;
-pub use width::bits_of;
 pub use width::file_bytes;
 pub use width::first_place;
 pub use width::labels_place;

@@ -1,9 +1,7 @@
-// What differs between the key files of the two fields: the number of bits of an element, and the places where the
-// parts of a file begin.
-use field::Field;
+// What differs between the key files of the two fields: the number of bytes, and the places where the parts of a file
+// begin.
 ghost use mathlib.Core.Path.{_≡_};
 ghost use Prim.Native.Nat.{_≤_};
-ghost use Rattle.field.specs.Fields.{bits};
 ghost use Rattle.key.specs.steps.Places.{keyPlace, fileBytes};
 
 // The number of bytes of a key file, over GF(32) and over GF(256).
@@ -13,16 +11,6 @@ pub const LARGE_BYTES: usize = 128;
 
 // The T-values come after N, which has 1 byte, and q, which has 2.
 pub const VALUES_PLACE: usize = 3;
-
-// The number of bits of an element.
-pub fn bits_of(f: Field) -> usize
-    ensures { λ r. ⌜ r ≡ bits f ⌝ }
-{
-    match f {
-        Field::Gf32 => field::SMALL_BITS,
-        Field::Gf256 => field::LARGE_BITS,
-    }
-}
 
 // Where the matrix of Pub(S) begins, if an element has `bits` bits.
 pub fn first_place(bits: usize) -> usize

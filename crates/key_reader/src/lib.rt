@@ -38,7 +38,7 @@ fn read_over(file: &[u8], f: Field) -> KeyRead
     requires { ⌜ (f ≡ keyField (now file)) × (length (now file) ≡ keyBytes f) ⌝ }
     ensures { λ r. ⌜ ReadsKey (now (file .entry)) (r .answer) (r .key) ⌝ }
 {
-    let bits = key::bits_of(f);
+    let bits = field::bits_of(f);
     let t_values = parts::t_values(file, bits);
     let labels = parts::labels(file, bits);
     let answer = parts::answer(file, &t_values, &labels, bits);

@@ -101,7 +101,7 @@ pub fn write_key(
         (now (out .entry)) (now (out .exit)) r
         ⌝ }
 {
-    let bits = key::bits_of(f);
+    let bits = field::bits_of(f);
     let answer = answer(out.len(), t_values, labels, first, second, bits, f);
     if answer != 0 {
         return answer;

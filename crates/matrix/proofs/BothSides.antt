@@ -1,6 +1,6 @@
--- An inverse from the left is one from the right, over any binary field. Where elimination says yes, only zero weights
--- add the rows up to a row of zeros. Where b m is the identity, the rows of m b and of the identity differ by such
--- weights.
+-- An inverse from the left is one from the right, over any binary field. If elimination says yes, the rows of a matrix
+-- m add up to a row of zeros only if all weights are zero. If b m is the identity, the differences between a row of m b
+-- and that row of the identity are such weights, so the two rows are equal.
 use Prim.Native.Nat.{ℕ, zero, suc, _<_}
 use mathlib.Core.Path.{_≡_, refl, sym, ap, ap₂, _∙_}
 use mathlib.Core.Bool.{true, not}
@@ -22,7 +22,7 @@ use Rattle.matrix.proofs.EliminationLaws.{Elements, cleared-below, clea
 use Rattle.matrix.proofs.Invertible.{entries-elements, inverse-entry, invertible-by}
 
 module _ {F : Operations} (L : BinaryField F) where
-  -- a product with an element other than 0 is 0 for 0 alone
+  -- if the product of x and an element other than 0 is 0, x is 0
   no-divisor : (x a : ℕ) → 0 < a → a < F .size → x < F .size → F .mul x a ≡ 0 → x ≡ 0
   no-divisor x a pos below h e =
       let whole : F .mul (F .mul x a) (F .inv a) ≡ x = simp (ring, reciprocals) in
@@ -39,7 +39,7 @@ module _ {F : Operations} (L : BinaryField F) where
         ∙ zero-add L (F .mul 0 z)
         ∙ zero-mul L z
 
-    -- where those of the other rows are zeros, so is the pivot's
+    -- if the weights of the other rows are zeros, so is the weight of the pivot's row
     all-zeros : x p < F .size → ((i : ℕ) → i < n → x (without n p i) ≡ 0) → (k : ℕ) → k < suc n → x k ≡ 0
     all-zeros bound low k h = at (ℕ-discrete k p) (ℕ-discrete k n)
       where
@@ -72,7 +72,7 @@ module _ {F : Operations} (L : BinaryField F) where
       (λ i. x (without n p i)) (λ i b. bound (without n p i) (without-below n p i b))
       (cleared-zeros n p m hp pos good x zeros))
 
-  -- what adds up to 0 is the same
+  -- two numbers that add up to 0 are equal
   same : (a u : ℕ) → F .add a u ≡ 0 → a ≡ u
   same a u e = sym (twice L u a) ∙ ap (F .add u) (add-comm L u a ∙ e) ∙ add-zero L u
 

@@ -1,4 +1,4 @@
-// Has a matrix an inverse? It clears the columns in place, the last column first.
+// Has a matrix an inverse? Elimination clears the columns in place, the last column first.
 use field::Field;
 use field::inverse;
 use field_logarithms::logarithm;

@@ -1,6 +1,6 @@
--- Move lists that are too long. Over 12,290 bytes a list is refused, by 20, or by 19 where it states too many moves,
--- which its first two bytes say: so 12,291 bytes are enough to read of a list of any length, and the rewriter answers
--- them, and 5,003 bytes of a word, as the whole files.
+-- Move lists that are too long. Over 12,290 bytes a list is refused: by 20, or by 19 if it states too many moves. Its
+-- first two bytes decide which. So 12,291 bytes are enough to read of a list of any length. The rewriter gives these
+-- bytes, and 5,003 bytes of a word, the answer that it gives the whole files.
 use Prim.Native.Nat.{ℕ, _≤_, _<_}
 use native.Mathlib.Decide.{decLe}
 use native.Mathlib.Omega.{arith}
@@ -85,7 +85,7 @@ module _ (room : ℕ) (h : 5002 ≤ room) where
         word moves
         ∙ sym (in-turn word moves)
 
-    -- where the first bytes are answered 0, they are the files
+    -- if the answer to the first bytes is 0, they are the whole files
     pub whole-both : (word moves : List ℕ) → answer (take w word) (take m moves) ≡ 0
         → (take w word ≡ word) × (take m moves ≡ moves)
     whole-both word moves z =

@@ -1,6 +1,6 @@
 -- The kinds of moves on a word. Each kind has its questions, from 21 to 24 in the paper's order, and the word that it
--- leaves. Places count from 0 in the word as it is then. Kind 1, `removal`, is defined with free reduction, which
--- repeats it.
+-- leaves. Places count from 0, in the word on which the move is made. Kind 1, `removal`, is defined in crate `word`,
+-- because free reduction repeats it.
 use Prim.Native.Nat.{ℕ, _+_, _-_}
 use mathlib.Core.Bool.{Bool, false, cond, _&&_}
 use mathlib.Core.List.{List, [], _∷_, _++_}

@@ -24,7 +24,7 @@ pub record Passes6 (p : Pair) : Type 0 where
   pub strands : length (p .labels) ≡ 8
   pub passed : areInverse (p .labels) (p .positions) ≡ true
 
--- what passes question 6 has inverse lists
+-- a pair that passes question 6 has inverse lists
 pub inverse-lists : (p : Pair) → Passes6 p → InverseLists p
 inverse-lists p e =
     record {

@@ -1,6 +1,6 @@
--- E-multiplication over any field in which a + a = 0: letters and words multiplied into a pair of a matrix and a list
--- of labels, which carries the inverse list too (source 003, in document 01's form, and document 02 §5). Rows, columns
--- and places count from 0 here, so column g is the own column of the letter with generator number g + 1.
+-- E-multiplication over any field in which a + a = 0: letters and words multiplied into a pair (source 003, in document
+-- 01's form, and document 02 §5). A pair has a matrix, a list of labels, and the inverse list of that list. Rows,
+-- columns and places count from 0 here, so column g is the own column of the letter with generator number g + 1.
 use Prim.Native.Nat.{ℕ, _+_}
 use mathlib.Core.Bool.{Bool, cond}
 use mathlib.Core.List.{List, [], _∷_}
@@ -56,8 +56,8 @@ rowsOn F s g m = matrixOf (λ r. rowAfter F s g (entry m r))
 abbrev pub pairOf : List ℕ → List ℕ → Pair
 pairOf matrix labels = record { matrix = matrix; labels = labels; positions = inverseList labels }
 
--- One letter multiplied into a pair. Every row changes by the letter's share. After either letter the labels at
--- positions i and i + 1 change places, and the positions follow.
+-- One letter, b_i or its inverse, multiplied into a pair. Every row changes by the letter's share. Then the labels at
+-- positions i and i + 1 change places, and the inverse list changes with them.
 unfoldable pub letterOn : Operations → List ℕ → ℕ → Pair → Pair
 letterOn F ts c p =
     pairOf

@@ -1,5 +1,5 @@
--- The two lists of a pair are inverse to each other, in the words of document 02 §5: for each label its position.
--- Positions count from 1, as in document 01.
+-- The two lists of a pair are inverse to each other. Document 02, §5, says what the second list holds: for each label,
+-- its position. Positions count from 1, as in document 01.
 use Prim.Native.Nat.{ℕ, _-_, _≤_, _<_}
 use mathlib.Core.Path.{_≡_}
 use mathlib.Core.Bool.{true}

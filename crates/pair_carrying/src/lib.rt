@@ -49,7 +49,7 @@ pub fn run(
 }
 
 // Multiplies in those of the first n packed letters that stand in whole groups of eight bytes, and returns the number
-// of these bytes. Under sixteen letters are left.
+// of these bytes. Fewer than sixteen letters are left.
 fn words(
     columns: &mut [u64; 9],
     labels: &mut [u8; 8],

@@ -11,9 +11,9 @@ use lib.Seq.{getD-set-same, getD-set-other}
 use Rattle.word.specs.Strands.{isOrder, inverseList, swapped}
 use Rattle.word.proofs.StrandLaws.{length-swapped, swapped-first, swapped-second, swapped-other, swapped-below}
 use Rattle.word.proofs.PositionLaws.{order-below, inverse-order, inverse-is, position-there, inverse-by-places}
-use Rattle.pair_multiplier.specs.steps.Placed.{Placed}
+use Rattle.pair_multiplier.specs.steps.InversePositions.{InversePositions}
 
-module _ (labels positions : List ℕ) (placed : Placed labels positions) where
+module _ (labels positions : List ℕ) (placed : InversePositions labels positions) where
   -- every label is below 8
   pub label-below : (k : ℕ) → getD labels k 0 < 8
   label-below = order-below labels (inverse-order labels positions (placed .strands) (placed .inverse))

@@ -13,7 +13,7 @@ use lib.ListN.{length, getD, replicate}
 use Rattle.base.specs.Questions.{firstNo}
 use Rattle.base.specs.Lists.{every, values, valuesFrom, equal, eachOnce, tally}
 use Rattle.base.proofs.QuestionLaws.{granted-zero}
-use Rattle.field.specs.Polynomial.{timesX, horner, times, first, reciprocalOf}
+use Rattle.field.specs.Polynomial.{timesX, horner, times, firstOrZero, reciprocalOf}
 use Rattle.field.specs.Gf32.{gf32}
 use Rattle.field.specs.declared.Field.the-variants.{Gf32}
 use Rattle.word.specs.Letters.{generator, isInverse}
@@ -151,7 +151,7 @@ module _ (f : Multiplier) (meets : Meets f) where
   pub own-column-first : (before inverse : Bool) → Gives inverse (ownFirst before) → ⊥
   unfolding identity place rowOf columnOf entry matrixOf valuesFrom firstNo every tally equal eachOnce inverseList
       lastPosition tValue shareOf rowAfter
-      letterOn times horner timesX first reciprocalOf
+      letterOn times horner timesX firstOrZero reciprocalOf
   own-column-first true true wrong =
       let e : _≡_ {A = ℕ} 1 28 = shows (at 2 1) in-order 10 wrong refl refl refl in omega arith
   own-column-first true false wrong =
@@ -166,7 +166,7 @@ module _ (f : Multiplier) (meets : Meets f) where
   pub value-of-the-place : (inverse : Bool) → Gives inverse ofPlace → ⊥
   unfolding identity place rowOf columnOf entry matrixOf valuesFrom firstNo every tally equal eachOnce inverseList
       lastPosition tValue shareOf rowAfter
-      letterOn times horner timesX first reciprocalOf
+      letterOn times horner timesX firstOrZero reciprocalOf
   value-of-the-place true wrong =
       let e : _≡_ {A = ℕ} 28 1 = shows (at 0 0) other-labels 8 wrong refl refl refl in omega arith
   value-of-the-place false wrong =

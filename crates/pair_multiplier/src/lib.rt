@@ -1,9 +1,8 @@
 // The multiplier used alone, by value and on a lent pair.
 use field::Field;
-use field::LARGE_BITS;
 use field::LARGE_MODULUS;
-use field::SMALL_BITS;
 use field::SMALL_MODULUS;
+use field::bits_of;
 use field::inverse;
 use pair::Pair;
 use pair::multiply_columns;
@@ -12,7 +11,7 @@ ghost use mathlib.Core.Path.{_≡_};
 ghost use mathlib.Core.Bool.{true};
 ghost use Prim.Native.Nat.{_<_};
 ghost use lib.ListN.{length};
-ghost use Rattle.field.specs.Fields.{bits, modulus, operations, fieldOf};
+ghost use Rattle.field.specs.Fields.{modulus, operations, fieldOf};
 ghost use Rattle.word.specs.Letters.{isLetter};
 ghost use Rattle.word.specs.Strands.{inverseList, areInverse, swapped};
 ghost use Rattle.pair.specs.Action.{letterOn};
@@ -20,7 +19,7 @@ ghost use Rattle.pair.specs.steps.Columns.{takenBy};
 ghost use Rattle.pair.specs.PairQuestions.{zeroPair};
 ghost use Rattle.pair_multiplier.specs.Multiplier.{Multiplies};
 ghost use Rattle.pair_multiplier.specs.Lent.{Lends};
-ghost use Rattle.pair_multiplier.specs.steps.Placed.{Placed};
+ghost use Rattle.pair_multiplier.specs.steps.InversePositions.{InversePositions};
 
 // What the multiplier gives. The answer is the number of the first question answered no, or 0 if there is none. On a
 // refusal the pair is all zeros.
@@ -39,16 +38,6 @@ impl Multiplied {
     }
 }
 
-// The number of bits of an element.
-fn bits_of(f: Field) -> usize
-    ensures { λ r. ⌜ r ≡ bits f ⌝ }
-{
-    match f {
-        Field::Gf32 => SMALL_BITS,
-        Field::Gf256 => LARGE_BITS,
-    }
-}
-
 // The polynomial that products are reduced by.
 fn modulus_of(f: Field) -> u64
     ensures { λ r. ⌜ r ≡ modulus f ⌝ }
@@ -59,8 +48,8 @@ fn modulus_of(f: Field) -> u64
     }
 }
 
-// The reciprocal of a number, by the field's table. A table is copied to the stack where it is named. So it is named
-// here, which only an inverse letter reaches.
+// The reciprocal of a number, by the field's table. Naming a table copies it to the stack. Only inverse letters use
+// this function, so other letters copy no table.
 fn inverse_of(a: u8, f: Field) -> u8
     ensures { λ r. ⌜ r ≡ operations f .inv a ⌝ }
 {
@@ -92,7 +81,7 @@ fn taken(t_values: &[u8], labels: &[u8; 8], negative: bool, g: usize, f: Field) 
 
 // The positions after the labels at places g and g + 1 change places. Two positions change.
 fn follow(positions: &mut [u8; 8], labels: &[u8; 8], g: u8)
-    requires { ⌜ Placed (now labels) (now positions) × (g < 7) ⌝ }
+    requires { ⌜ InversePositions (now labels) (now positions) × (g < 7) ⌝ }
     ensures { λ _. ⌜ now (positions .exit) ≡ inverseList (swapped g (now (labels .entry))) ⌝ }
 {
     let at = g as usize;

@@ -88,7 +88,7 @@ module _ (n : ℕ → ℕ) (few : (a : ℕ) → n a ≤ 8) where
           ne-eqb (inBytes n) ones d
           ∙ sym (not-true-false (every (λ a. eqb (n a) 1) (values (λ a. a) 8)) (λ t. d (one-all t)))
 
--- counts of labels that are below 8
+-- if all eight labels are below 8, their counts are all 1 exactly if the list is 0 to 7, each once
 pub order-counted : (xs : List ℕ) → length xs ≡ 8 → every (λ x. ltb x 8) xs ≡ true
     → eqb (counted xs) ones ≡ eachOnce 8 xs
 unfolding eachOnce
@@ -96,7 +96,7 @@ order-counted xs l e =
     each-one (λ a. count a xs) (λ a. let t = tally-le (λ x. eqb x a) xs in omega (arith, t))
     ∙ sym (ap (λ (b : Bool). b && every (λ a. eqb (count a xs) 1) (values (λ a. a) 8)) e)
 
--- a label that is not below 8
+-- if a label is not below 8, the list is not 0 to 7, each once
 pub order-refuted : (xs : List ℕ) {b : Bool} → every (λ x. ltb x 8) xs ≡ b
     → eachOnce 8 xs ≡ (b && every (λ a. eqb (count a xs) 1) (values (λ a. a) 8))
 unfolding eachOnce

@@ -1,5 +1,6 @@
--- An even power of a generator on a pair is one change of three columns, over any binary field. Two changes one after
--- the other with the same own column are one change; so a run of letters is one, letter by letter.
+-- An even power of a generator on a pair is one change of three columns, over any binary field. Two changes with the
+-- same own column, one after the other, are one change. So a run of letters is one change, by adding letter after
+-- letter.
 use Prim.Native.Nat.{ℕ, zero, suc, _+_, _*_, _%_, _<_}
 use mathlib.Core.Path.{_≡_, refl, sym, ap, ap₂, _∙_}
 use mathlib.Core.Bool.{Bool, false, _&&_}
@@ -65,7 +66,7 @@ module _ {F : Operations} (L : BinaryField F) where
       ∙ row-then k g (entry m r) c
       ∙ sym (entry-matrixOf (λ i. rowAfter F u g (entry m i)) r c hr hc))
 
-  -- no letter changes nothing
+  -- a run of no letters changes nothing
   none-placed : {c g : ℕ} (n : Near c g) (row : ℕ → ℕ) → row g < F .size
       → placed F (shareOfGains F noGains) n (row c) (row g) ≡ row c
   none-placed {c} {g} (before e) row h =
@@ -83,7 +84,7 @@ module _ {F : Operations} (L : BinaryField F) where
       ∙ rowAfter-is F (shareOfGains F noGains) (near c g) (entry m r)
       ∙ none-placed (near c g) (entry m r) (entry-below m r g below))
 
-  -- one more letter, which takes t
+  -- a run with one more letter, which takes t
   more-composes : (t : ℕ) (n : Gains)
       → Composes F (shareOfGains F n) (positiveShare F t) (shareOfGains F (oneMore F t n))
   unfolding oneMore

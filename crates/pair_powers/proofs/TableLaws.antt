@@ -19,8 +19,9 @@ use Rattle.pair.specs.Action.{rowsOn}
 use Rattle.pair.specs.steps.Columns.{Spread}
 use Rattle.pair.proofs.ColumnLaws.{columns-spread}
 use Rattle.pair_powers.specs.declared.Gains.{Gains}
-use Rattle.pair_powers.specs.steps.Powers.{shareOfGains, noGains, oneMore, powerGains, ThreeMultiples, Raised}
-use Rattle.pair_powers.specs.steps.Powers.{OneMoreIs, ProductIs, StoredThree, levelGains, LevelFilled, PowerTable}
+use Rattle.pair_powers.specs.steps.Powers.{shareOfGains, noGains, oneMore, powerGains, ThreeMultiples}
+use Rattle.pair_powers.specs.steps.Powers.{RunOnColumns, OneMoreIs, ProductIs, StoredThree, levelGains}
+use Rattle.pair_powers.specs.steps.Powers.{LevelFilled, PowerTable}
 
 -- r is the product of each lane of the column and the number whose constants stand at place `at`
 abbrev Times : List ℕ → ℕ → ℕ → ℕ → ℕ → Type 0
@@ -32,7 +33,7 @@ pub raised : (bits : ℕ) (table : List ℕ) (at g : ℕ) (columns columns′ : 
     → Times table at bits (getD columns (g + 1) 0) x
     → Times table (at + 8) bits (getD columns (g + 1) 0) y
     → Times table (at + 16) bits (getD columns (g + 1) 0) z
-    → Raised bits table at g columns columns′
+    → RunOnColumns bits table at g columns columns′
 raised bits table at g columns columns′ x y z hg size s tx ty tz =
     let column = getD columns (g + 1) 0 in
     record {
@@ -81,7 +82,7 @@ kept at limit small room same m =
       right-there = λ i h. same (at + 16 + i) (omega arith) ∙ m .right-there i h;
     }
 
--- the numbers of the first k powers of a level are those of the k-th
+-- n has the numbers of the k-th power of level j, for all T-values whose constants are given
 abbrev pub Numbers : Operations → ℕ → List ℕ → ℕ → ℕ → Gains → Type 0
 Numbers F bits constants j k n =
     (ts : List ℕ) → Constants F bits ts constants → n ≡ powerGains F (getD ts (6 - 2 * j) 0) (getD ts 7 0) k

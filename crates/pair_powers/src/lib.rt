@@ -6,7 +6,7 @@ ghost use Prim.Native.Nat.{_+_, _<_, _≤_};
 ghost use lib.ListN.{length};
 ghost use Rattle.base.specs.Packing.{Below};
 ghost use Rattle.field.specs.Polynomial.{Degree, polynomials};
-ghost use Rattle.pair_powers.specs.steps.Powers.{Raised, ProductIs, OneMoreIs};
+ghost use Rattle.pair_powers.specs.steps.Powers.{RunOnColumns, ProductIs, OneMoreIs};
 ghost use Rattle.pair_powers.specs.steps.Powers.{StoredThree, LevelFilled, PowerTable};
 
 // What a run of one generator's letters does, as multiples of the old own column: what the column before gains, what
@@ -23,7 +23,7 @@ pub fn raise(columns: &mut [u64; 9], table: &[u64], at: usize, bits: usize, g: u
     requires { ⌜
         (length (now columns) ≡ 9) × Below 256 (now table) × (bits ≤ 8) × (at + 24 ≤ length (now table)) × (g < 7)
         ⌝ }
-    ensures { λ _. ⌜ Raised bits (now (table .entry)) at g (now (columns .entry)) (now (columns .exit)) ⌝ }
+    ensures { λ _. ⌜ RunOnColumns bits (now (table .entry)) at g (now (columns .entry)) (now (columns .exit)) ⌝ }
 {
     let column = columns[g + 1];
     let left = times(table, at, bits, column);
@@ -102,7 +102,7 @@ fn level_powers(table: &mut [u64; 384], j: usize, constants: &[u64; 128], bits: 
     }
 }
 
-// The constants of the sixteen powers: b7, b5, b3 and b1, each squared once to four times.
+// The constants of the sixteen powers: b7, b5, b3 and b1, each to the powers 2, 4, 6 and 8.
 pub fn powers_of(constants: &[u64; 128], bits: usize, modulus: u64) -> [u64; 384]
     requires { ⌜ Below 256 (now constants) × (bits ≤ 8) × Degree bits modulus ⌝ }
     ensures { λ r. ⌜ PowerTable (polynomials bits modulus) bits (now (constants .entry)) 4 r ⌝ }

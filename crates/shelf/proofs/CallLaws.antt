@@ -101,7 +101,7 @@ module _ (p n : ℕ) (shelf : List ℕ) where
       pub judge-answer : answerTo p (judge n digest word) shelf ≡ onChip ok (verdict file digest word)
       judge-answer = past-31 ∙ by-file ok file digest word
 
-      -- the key is refused, as no key of a history is
+      -- the key that is held is refused; this happens on no shelf of a history
       pub judge-key : (keyAnswer file ≡ 0 → ⊥) → answerTo p (judge n digest word) shelf ≡ keyAnswer file
       unfolding keyAnswer
       judge-key r = past-31 ∙ refused-there (keyQuestions file) slip tt r

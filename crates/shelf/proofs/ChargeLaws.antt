@@ -1,6 +1,6 @@
--- Laws of charges. What stands past the slots changes no key. A new round charges nobody. An admitted slip's letters
--- are added to its publisher's charge, which is then at most 20,000, and the partner's charge stays. This holds of
--- every shelf, whatever its bytes are.
+-- Laws of charges. What stands past the slots changes no key. A new round sets both charges to zero. An admitted slip's
+-- letters are added to its publisher's charge, which is then at most 20,000, and the partner's charge stays. This holds
+-- of every shelf, whatever its bytes are.
 use Prim.Native.Nat.{ℕ, _+_, _-_, _*_, _^_, _≤_, _<_}
 use mathlib.Core.Path.{_≡_, refl, sym, ap, _∙_, subst}
 use mathlib.Core.Bool.{Bool, true, false, _&&_}
@@ -112,7 +112,7 @@ module _ (p : ℕ) (e : isPublisher p ≡ true) (shelf : List ℕ) (room : shelf
       (value-below 256 (part (chargePlace p) 2 shelf)
       (take-below 2 (drop (chargePlace p) shelf) (drop-below (chargePlace p) shelf below)))
 
-  -- a new round charges nobody
+  -- after a new round the charge is zero
   pub charged-round : charged p (newRound shelf) ≡ 0
   unfolding charged value
   charged-round =
@@ -131,12 +131,12 @@ module _ (p n : ℕ) (shelf : List ℕ) where
   pub few-after : admitted p n shelf ≡ true → charged p shelf + n ≤ 20000
   few-after a = omega (arith, sum-after a)
 
-  -- so 2 bytes hold its charge, whatever bytes the shelf had
+  -- 2 bytes hold the charge after an admitted slip, whatever bytes the shelf had
   pub charged-charging : isPublisher p ≡ true → shelfBytes ≤ length shelf → admitted p n shelf ≡ true
       → charged p (charging p n shelf) ≡ charged p shelf + n
   charged-charging e room a = charged-put p e shelf room (charged p shelf + n) (omega (arith, few-after a))
 
-  -- a shelf whose amounts over sum to more than 10,000, as no history makes it, admits no slip
+  -- A shelf whose amounts over 10,000 sum to more than 10,000 admits no slip. No history makes such a shelf.
   pub none-admitted : further < overBy (charged p shelf) + overBy (charged (partner p) shelf)
       → admitted p n shelf ≡ false
   none-admitted h =

@@ -1,5 +1,5 @@
--- The questions of a slip on the chip. Its answer is the verdict, or 36 in the verdict's place. 36 comes for no slip
--- that any question before it refuses.
+-- The questions of a slip on the chip. Its answer is the verdict, or 36 in the verdict's place. A slip that an earlier
+-- question refuses never gets 36.
 use Prim.Native.Nat.{ℕ}
 use mathlib.Core.Path.{_≡_, refl, sym, ap, ap₂, _∙_, subst}
 use mathlib.Core.Bool.{Bool, true, false, cond, not, _&&_, _||_}

@@ -81,7 +81,7 @@ file-in-slot : (file : List ℕ) → fileIn (slotWith file) ≡ file
 unfolding slotWith fileIn
 file-in-slot file = take-overlaid file (replicate fileRoom 0)
 
--- a number that there is holds the file in its slot, and any other number none
+-- a number that exists holds the file in its slot; a number that does not exist holds none
 pub held-in : (p n : ℕ) (shelf : List ℕ) → hasSlot p n ≡ true
     → held p n shelf ≡ fileIn (part (slotPlace p n) slotBytes shelf)
 unfolding held
@@ -91,7 +91,7 @@ pub held-none : (p n : ℕ) (shelf : List ℕ) → hasSlot p n ≡ false → hel
 unfolding held
 held-none p n shelf e = ap (λ (b : Bool). cond b (fileIn (part (slotPlace p n) slotBytes shelf)) []) e
 
--- of two shelves with the same slot, both hold the same file there
+-- two shelves with the same bytes in a slot hold the same file there
 pub held-alike : (p n : ℕ) (first second : List ℕ)
     → (hasSlot p n ≡ true → part (slotPlace p n) slotBytes first ≡ part (slotPlace p n) slotBytes second)
     → held p n first ≡ held p n second
@@ -123,7 +123,7 @@ module _ (p n : ℕ) (e : hasSlot p n ≡ true) (file : List ℕ) (few : length 
   beside-holding i k (inr r) =
       part-after (slotPlace p n) (slotWith file) shelf fits i k (omega (arith, length-slot file few))
 
-  -- it holds the file
+  -- the number holds the file
   pub held-there : held p n (holding p n file shelf) ≡ file
   held-there = held-in p n (holding p n file shelf) e ∙ ap fileIn slot-holding ∙ file-in-slot file
 

@@ -64,7 +64,7 @@ acts (clear number) answer = eqb answer 0
 acts (judge number digest word) answer = isVerdict answer
 acts round answer = eqb answer 0
 
--- the shelf after a call: no refusal but 14 changes it
+-- The shelf after a call. A refusal does not change it. Exception: on 14 the letters of the slip are charged.
 unfoldable pub after : ℕ → Work → List ℕ → List ℕ
 after publisher work shelf =
     cond (acts work (answerTo publisher work shelf)) (done publisher work shelf) shelf

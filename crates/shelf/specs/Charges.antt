@@ -33,7 +33,7 @@ abbrev pub partner : ℕ → ℕ
 partner publisher = 3 - publisher
 
 -- A slip of n letters is admitted if, after it, the amounts by which each publisher is over 10,000 sum to at most
--- 10,000. Its publisher and the partner were charged this many letters.
+-- 10,000. `own` and `others` are the letters charged to its publisher and to the partner before the slip.
 abbrev pub admits : ℕ → ℕ → ℕ → Bool
 admits n own others = leb (overBy (own + n) + overBy others) further
 

@@ -51,14 +51,14 @@ unfoldable pub held : ℕ → ℕ → List ℕ → List ℕ
 held publisher number shelf =
     cond (hasSlot publisher number) (fileIn (part (slotPlace publisher number) slotBytes shelf)) []
 
--- Is a file held, and not none?
+-- Is a key held? The empty file stands for no key.
 abbrev pub isHeld : List ℕ → Bool
 isHeld file = ltb 0 (length file)
 
--- a list in which bytes stand at a place, in place of those that were there
+-- the list `before`, in which `bytes` replace as many bytes from place `at` on
 unfoldable pub replaced : ℕ → List ℕ → List ℕ → List ℕ
 replaced at bytes before = take at before ++ overlaid bytes (drop at before)
 
--- the shelf after a publisher's number was given a file, or the empty file
+-- the shelf after a publisher's number was given a file; the empty file clears the number
 abbrev pub holding : ℕ → ℕ → List ℕ → List ℕ → List ℕ
 holding publisher number file shelf = replaced (slotPlace publisher number) (slotWith file) shelf

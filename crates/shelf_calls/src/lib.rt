@@ -154,7 +154,7 @@ fn round_on(shelf: &mut [u8], publisher: usize) -> u8
     0
 }
 
-// Loads a key under a publisher's number, in place of the one there: 30, then the key's questions.
+// Loads a key under a publisher's number, in place of the key there: 30, then the key's questions.
 pub fn load(shelf: &mut [u8; SHELF_BYTES], publisher: usize, number: usize, key: &[u8]) -> u8
     ensures { λ r. ⌜ Serves publisher (load number (now (key .entry))) (now (shelf .entry)) (now (shelf .exit)) r ⌝ }
 {

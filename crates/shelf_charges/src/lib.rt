@@ -14,7 +14,7 @@ const SURE: usize = 10000;
 
 const FURTHER: usize = 10000;
 
-// Puts bytes at a place, in place of those there.
+// Stores these bytes in a shelf from place `at` on, in place of the bytes there.
 pub fn replace(shelf: &mut [u8], at: usize, bytes: &[u8])
     requires { ⌜ at + length (now bytes) ≤ length (now shelf) ⌝ }
     ensures { λ r. ⌜ now (shelf .exit) ≡ replaced at (now (bytes .entry)) (now (shelf .entry)) ⌝ }

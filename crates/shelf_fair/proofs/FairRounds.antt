@@ -1,6 +1,6 @@
--- Rounds are fair. From the empty shelf on, and from a new round on whatever bytes the shelf had, the amounts over sum
--- to at most 10,000, nobody passes 20,000, and a slip that comes to 36 and would leave its publisher at 10,000 or under
--- is admitted: it gets the verdict.
+-- Rounds are fair. The amounts over 10,000 sum to at most 10,000, and nobody passes 20,000. A slip that comes to 36 and
+-- would leave its publisher at 10,000 or under is admitted: it gets the verdict. This holds from the empty shelf on,
+-- and from a new round on, whatever bytes the shelf had.
 use Prim.Native.Nat.{ℕ, _+_, _-_, _≤_}
 use mathlib.Core.Path.{_≡_, refl, sym, ap, ap₂, _∙_, subst}
 use mathlib.Core.Bool.{Bool, true, false, cond, not, _&&_}
@@ -45,7 +45,7 @@ both p e shelf =
     swap : (a b : ℕ) → a + b ≡ b + a
     swap a b = omega arith
 
--- every call keeps it
+-- every call keeps the sum at most 10,000
 fair-after : (q : ℕ) (work : Work) (shelf : List ℕ) → shelfBytes ≤ length shelf → Fair shelf
     → Fair (after q work shelf)
 fair-after q work shelf room fair = go (acts work (answerTo q work shelf)) refl work refl
@@ -189,10 +189,10 @@ module _ (p n : ℕ) (digest word shelf : List ℕ) (c : ComesTo36 p n digest wo
       comes-admitted
       (sure-admitted shelf f p (and-left (isPublisher p) (leb n 3) comes-has) (length (letters word)) h)
 
--- ---- in words of a history from the empty shelf
+-- ---- computed from a history that begins at the empty shelf
 
 module _ (h : List Call) (p : ℕ) (e : isPublisher p ≡ true) where
-  -- the amounts over
+  -- the amounts over 10,000 sum to at most 10,000
   pub sum-at-most : overBy (lettersCharged 1 h) + overBy (lettersCharged 2 h) ≤ further
   sum-at-most =
       subst (λ (k : ℕ). k ≤ further)

@@ -1,6 +1,6 @@
--- What of one publisher reaches the other. An answer depends on the publisher's own keys and on the two charges, and on
--- nothing else of a shelf: 36 is decided by the slip's letters and the two charges. So the other's keys, verdicts and
--- refusals reach nobody, whatever bytes the shelf has.
+-- How one publisher affects the other. An answer depends on the publisher's own keys and on the two charges, and on
+-- nothing else of a shelf: 36 is decided by the slip's letters and the two charges. So the keys, verdicts and refusals
+-- of one publisher do not affect the other, whatever bytes the shelf has.
 use Prim.Native.Nat.{ℕ, _≤_}
 use mathlib.Core.Path.{_≡_, refl, sym, ap, ap₂, _∙_}
 use mathlib.Core.Bool.{Bool, true, false, cond}
@@ -66,7 +66,7 @@ module _ (p q : ℕ) (apart : q ≡ p → ⊥) (shelf : List ℕ) (room : shelfB
       (cond (acts work (answerTo q work shelf)) (fileAfter n work (held p n shelf)) (held p n shelf)) (held p n shelf))
       (ne-eqb q p apart)
 
-  -- not the other's keys: a load or a clear changes no charge
+  -- the other's keys have no effect: a load or a clear changes no charge
   load-charge : (i n : ℕ) (file : List ℕ) → charged i (after q (load n file) shelf) ≡ charged i shelf
   load-charge i n file = go (eqb (answerTo q (load n file) shelf) 0) refl
     where
@@ -98,13 +98,13 @@ module _ (p q : ℕ) (apart : q ≡ p → ⊥) (shelf : List ℕ) (room : shelfB
       same-answer p work (after q (clear n) shelf) shelf (keys-stay (clear n)) (clear-charge p n)
       (clear-charge (partner p) n)
 
--- not the other's refusals: they leave the shelf
+-- the other's refusals have no effect: they leave the shelf
 pub others-refusal : (q : ℕ) (refused : Work) (shelf : List ℕ) → acts refused (answerTo q refused shelf) ≡ false
     → (p : ℕ) (work : Work) → answerTo p work (after q refused shelf) ≡ answerTo p work shelf
 others-refusal q refused shelf e p work = ap (answerTo p work) (left-alone q refused shelf e)
 
--- not the other's verdicts: two slips with the same number of letters that both get one, 0 or 14, leave the same shelf,
--- whatever the keys, the digests and the words
+-- The other's verdicts have no effect. Two slips with the same number of letters that both get a verdict, 0 or 14,
+-- leave the same shelf, whatever the keys, the digests and the words.
 pub others-verdict : (q : ℕ) (shelf : List ℕ) (n m : ℕ) (digest word other new : List ℕ)
     → isVerdict (answerTo q (judge n digest word) shelf) ≡ true
     → isVerdict (answerTo q (judge m other new) shelf) ≡ true → length (letters word) ≡ length (letters new)

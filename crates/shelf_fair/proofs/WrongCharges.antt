@@ -1,8 +1,8 @@
 -- The contract of a call shuts out wrong ways to charge and to admit, each by an input on which it differs. The slip is
 -- 128 letters b7, signed under the plain key for the digest of 32 zero bytes, on a shelf that holds this key and has
--- the charges that are named. Shut out are the limit at 9,999 or 10,001, each amount over asked by itself, charges kept
--- modulo 65,536, 36 before the word's or the digest's questions, letters charged on 36, on 13 and on 31, and a round
--- that clears one charge alone, or the keys.
+-- the charges that are named. Shut out are the limit at 9,999 or 10,001, each publisher's amount over 10,000 tested by
+-- itself, charges kept modulo 65,536, 36 before the word's or the digest's questions, letters charged on 36, on 13 and
+-- on 31, and a round that clears one charge alone, or the keys.
 use Prim.Native.Nat.{ℕ, _+_, _≤_, _<_}
 use mathlib.Core.Path.{_≡_, refl, sym, ap, ap₂, _∙_}
 use mathlib.Core.Bool.{Bool, true, false, cond}
@@ -48,7 +48,7 @@ pub record Stands (one two : ℕ) (shelf : List ℕ) : Type 0 where
   pub charge-1 : charged 1 shelf ≡ one
   pub charge-2 : charged 2 shelf ≡ two
 
--- there is one
+-- there is such a shelf
 module _ (one two : ℕ) (few-1 : one < 65536) (few-2 : two < 65536) where
   abbrev keyed : List ℕ
   keyed = holding 1 0 plainKey emptyShelf
@@ -178,7 +178,7 @@ module _ {shelf left : List ℕ} {answer : ℕ} where
 
   -- ---- no letters without a verdict
 
-  -- a full shelf is not needed: nothing is charged on 13
+  -- nothing is charged on 13, even on a shelf with no charges
   pub none-on-13 : Stands 0 0 shelf → Serves 1 (judge 0 zeroDigest badFiller) shelf left answer
       → (answer ≡ 13) × (left ≡ shelf)
   none-on-13 s c =

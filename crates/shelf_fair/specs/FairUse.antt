@@ -1,5 +1,5 @@
 -- Fair use of the checking chip in a history of the key shelf (document 02, §14): the letters charged to a publisher,
--- in words of the history; the slips that come to 36; the sum that no call breaks.
+-- computed from the history; the slips that come to 36; the sum that no call breaks.
 use Prim.Native.Nat.{ℕ, _+_, _≤_}
 use mathlib.Core.Path.{_≡_}
 use mathlib.Core.Bool.{cond}
@@ -15,8 +15,8 @@ use Rattle.shelf.specs.Charges.{further, overBy, charged}
 use Rattle.shelf.specs.Calls.{Work, load, clear, judge, round, answerTo, acts, after}
 use Rattle.shelf_histories.specs.Histories.{Call, shelfAfter}
 
--- The letters charged to a publisher after work that acted, by the publisher `by`, if they were `earlier` before. A new
--- round charges nobody. The letters of a slip are charged to its own publisher.
+-- The letters charged to a publisher after work that acted. The work is by the publisher `by`, and `earlier` letters
+-- were charged before it. A slip's letters are charged to its own publisher. A new round starts at zero.
 abbrev pub lettersAfter : ℕ → ℕ → Work → ℕ → ℕ
 lettersAfter publisher by (load number file) earlier = earlier
 lettersAfter publisher by (clear number) earlier = earlier

@@ -1,6 +1,6 @@
 -- The shelf of a history. Each slot holds an accepted key, with zeros after it, or zeros alone. So clearing an empty
--- number changes no byte, and a slip that is judged gets the answer of its own questions under the key of the last
--- load, with 36 among them: the key's numbers never come.
+-- number changes no byte. A slip that is judged gets the answer of its own questions, 36 among them, under the key of
+-- the last load. It never gets the number of a key's question.
 use Prim.Native.Nat.{ℕ, _+_, _≤_}
 use mathlib.Core.Path.{_≡_, sym, ap, _∙_, subst}
 use mathlib.Core.Bool.{true}

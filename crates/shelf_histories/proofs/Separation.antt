@@ -39,7 +39,7 @@ settled q (judge m digest word) n first second file =
     ∙ same-either (isVerdict (answerTo q (judge m digest word) second)) file
 settled q round n first second file = refl
 
--- the keys that a publisher holds, it would hold alone
+-- a publisher holds the keys that it would hold without the other's calls
 keys-alone : (p n : ℕ) (h : List Call) → held p n (shelfAfter h) ≡ held p n (shelfAfter (own p h))
 unfolding shelfAfter own
 keys-alone p n [] = refl
@@ -61,7 +61,7 @@ keys-alone p n (c ∷ h) =
         ∙ sym (held-after (c .publisher) (c .work) (shelfAfter (own p h)) (room (own p h)) p n)
     go false e s = s
 
--- the same calls, so the same keys, whatever the other did and wherever 36 stands
+-- two histories with the same own calls give the same keys, whatever the other did and wherever 36 stands
 pub same-keys : (p : ℕ) (first second : List Call) → own p first ≡ own p second
     → (n : ℕ) → held p n (shelfAfter first) ≡ held p n (shelfAfter second)
 same-keys p first second e n =
@@ -69,7 +69,7 @@ same-keys p first second e n =
 
 -- ---- answers
 
--- of a shelf, an answer without the limit depends on the keys under the publisher's own numbers alone
+-- an answer without the limit depends only on the keys under the publisher's own numbers
 same-unlimited : (p : ℕ) (work : Work) (first second : List ℕ) → ((n : ℕ) → held p n first ≡ held p n second)
     → unlimited p work first ≡ unlimited p work second
 unfolding answerTo
@@ -160,7 +160,7 @@ but-36 p (c ∷ h) = go (eqb (c .publisher) p) (but-36 p h)
     go true s = ap₂ (λ (a : ℕ) (rest : List Answered). entry c a ∷ rest) one s
     go false s = s
 
--- what a publisher sees without the limit, it would see alone
+-- without the limit, a publisher sees what it would see without the other's calls
 pub alone : (p : ℕ) (h : List Call) → unlimitedSeen p h ≡ unlimitedSeen p (own p h)
 unfolding unlimitedSeen own
 alone p [] = refl
@@ -182,12 +182,12 @@ alone p (c ∷ h) = go (eqb (c .publisher) p) refl (alone p h)
         ∙ ap (λ (b : Bool). shown b c (answer (own p h)) (unlimitedSeen p (own p h))) (sym e)
     go false e s = s
 
--- the same answers, in order, and the same keys
+-- two histories give a publisher the same answers, in order, and the same keys
 pub record Alike (p : ℕ) (first second : List Call) : Type 0 where
   pub answers : seen p first ≡ seen p second
   pub keys : (n : ℕ) → held p n (shelfAfter first) ≡ held p n (shelfAfter second)
 
--- the same calls, and 36 at the same ones
+-- two histories with the same own calls, and 36 at the same ones, give the same answers and keys
 pub separate : (p : ℕ) (first second : List Call) → own p first ≡ own p second
     → where36 (seen p first) ≡ where36 (seen p second) → Alike p first second
 separate p first second e m =

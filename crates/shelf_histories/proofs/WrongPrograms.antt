@@ -72,7 +72,7 @@ module _ {left : List ℕ} {answer : ℕ} where
   pub thirty-before-31 : (digest word : List ℕ) → Serves 3 (judge 0 digest word) emptyShelf left answer → answer ≡ 30
   thirty-before-31 digest word s = s .answer-is ∙ judge-30 3 0 emptyShelf digest word refl
 
-  -- digest and word are empty too
+  -- an empty digest and an empty word still get 31
   pub judged-31 : Serves 1 (judge 0 [] []) emptyShelf left answer → answer ≡ 31
   judged-31 s =
       s .answer-is ∙ judge-31 1 0 emptyShelf [] [] refl (ap isHeld (held-empty 1 0))

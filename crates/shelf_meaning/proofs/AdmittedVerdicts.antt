@@ -112,7 +112,7 @@ module _ (p n : ℕ) (digest word new first second : List ℕ) (same : held p n 
         go (yes k) (no d) = digest-refused file digest new k d ∙ sym (digest-refused file digest word k d)
         go (yes k) (yes d) = m .verdicts file digest k d
 
-    -- a word that is cloaked under the key that is held does, where both are admitted
+    -- a word that is cloaked under the key that is held gets the answer of the word, where both are admitted
     pub cloaked-alike : SameVerdicts (held p n first) word new
         → answerTo p (judge n digest new) second ≡ answerTo p (judge n digest word) first
     cloaked-alike s = alike (s .verdicts digest)

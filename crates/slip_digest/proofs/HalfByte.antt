@@ -12,7 +12,7 @@ use Rattle.base.specs.Lists.{every, equal, valuesFrom, values}
 use Rattle.base.proofs.ListLaws.{and-left, and-right, and-both, every-append, every-values, equal-true}
 use Rattle.word.specs.Letters.{isLetter}
 use Rattle.slip_digest.specs.Digest.{selected, powerOf, above, halfByteBraid}
-use Rattle.slip_digest.specs.steps.Runs.{stepped}
+use Rattle.slip_digest.specs.steps.Runs.{progression}
 
 -- the number of generators above b_l, up to b7
 abbrev pub over : ℕ → ℕ
@@ -36,7 +36,7 @@ over-is h p = eqb-true _ _ (and-left _ _ (every-values lowRule (λ k. k) 16 low-
 pub over-six : (h : ℕ) → h < 16 → over h ≤ 6
 over-six h p = leb-true _ _ (and-right (eqb (2 * (h % 4)) (over h)) _ (every-values lowRule (λ k. k) 16 low-bits h p))
 
--- its length, which is short
+-- the length of a half byte's braid, which is at most 20
 abbrev lengthRule : ℕ → Bool
 lengthRule h = eqb (over h + twice h + over h) (length (halfByteBraid h)) && leb (length (halfByteBraid h)) 20
 
@@ -53,7 +53,8 @@ braid-length h p = eqb-true _ _ (and-left _ _ (rule h p))
 pub braid-short : (h : ℕ) → h < 16 → length (halfByteBraid h) ≤ 20
 braid-short h p = leb-true _ _ (and-right (eqb (over h + twice h + over h) (length (halfByteBraid h))) _ (rule h p))
 
--- its codes are letters, whatever the number: those around the power, and that of the power
+-- the codes of a half byte's braid are letters, whatever the number: the codes around the power, and the code of the
+-- power
 abbrev around : ℕ → Bool
 around l = every isLetter (reverse (above l)) && every isLetter (map (λ c. c + 8) (above l))
 
@@ -86,7 +87,7 @@ braid-letters h =
 
 -- b7 down to b_(l+1), then b_l, then the inverses up to b7
 abbrev runs : ℕ → List ℕ
-runs h = stepped 6 15 (over h) ++ (stepped (6 - over h) 0 (twice h) ++ stepped (15 - over h) 1 (over h))
+runs h = progression 6 15 (over h) ++ (progression (6 - over h) 0 (twice h) ++ progression (15 - over h) 1 (over h))
 
 three : every (λ h. equal (runs h) (halfByteBraid h)) (values (λ h. h) 16) ≡ true
 unfolding halfByteBraid valuesFrom every equal

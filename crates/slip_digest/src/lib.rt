@@ -5,7 +5,7 @@ ghost use mathlib.Core.List.{_++_};
 ghost use Prim.Native.Nat.{_+_, _-_, _≤_, _<_};
 ghost use lib.ListN.{length, take};
 ghost use Rattle.slip_digest.specs.Digest.{selected, halfByteBraid, encoded, isDigest, WroteEncoded};
-ghost use Rattle.slip_digest.specs.steps.Runs.{stepped};
+ghost use Rattle.slip_digest.specs.steps.Runs.{progression};
 ghost use Rattle.field.specs.declared.Field.the-variants.{Gf32, Gf256};
 use field::Field;
 use word::Written;
@@ -22,7 +22,7 @@ fn above_selected(h: u8) -> u8
 // 16.
 fn fill(codes: &mut [u8], at: usize, n: usize, first: u8, step: u8)
     requires { ⌜ (at + n ≤ length (now codes)) × (first < 16) × (step < 16) ⌝ }
-    ensures { λ _. ⌜ take (at + n) (now (codes .exit)) ≡ take at (now (codes .entry)) ++ stepped first step n ⌝ }
+    ensures { λ _. ⌜ take (at + n) (now (codes .exit)) ≡ take at (now (codes .entry)) ++ progression first step n ⌝ }
 {
     let mut code = first;
     let mut i = 0;
@@ -33,9 +33,9 @@ fn fill(codes: &mut [u8], at: usize, n: usize, first: u8, step: u8)
     }
 }
 
-// Writes the braid of a half byte from place `at` on: b7 down to b_(l+1), then b_l, then the inverses up to b7. Returns
-// the place after the braid. Each of the three runs is written at the greatest length that such a run can have, and the
-// next run overwrites the excess.
+// Writes the braid of a half byte from place `at` on: b7 down to b_(l+1), then b_l 2 × p times, then the inverses of
+// b_(l+1) up to b7. Returns the place after the braid. Each of the three runs is written at the greatest length that
+// such a run can have, and the next run overwrites the excess.
 fn append(codes: &mut [u8], at: usize, h: u8) -> usize
     requires { ⌜ (h < 16) × (at + 20 ≤ length (now codes)) ⌝ }
     ensures { λ r.

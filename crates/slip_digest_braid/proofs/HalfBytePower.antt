@@ -21,36 +21,36 @@ use Rattle.pair.specs.Good.{GoodPair}
 use Rattle.pair.specs.steps.Columns.{heldPair, Held, Carried}
 use Rattle.pair.proofs.WordLaws.{wordOn-append, list-carried, codes-good}
 use Rattle.pair_powers.specs.declared.Gains.{Gains}
-use Rattle.pair_powers.specs.steps.Powers.{shareOfGains, powerGains, levelGains, Raised}
+use Rattle.pair_powers.specs.steps.Powers.{shareOfGains, powerGains, levelGains, RunOnColumns}
 use Rattle.pair_powers.proofs.PowerLaws.{power-on}
 use Rattle.slip_digest.specs.Digest.{selected, powerOf}
-use Rattle.slip_digest_braid.specs.steps.Ways.{way, powerRun, listAt, Setting, HalfByteCarried}
+use Rattle.slip_digest_braid.specs.steps.Ways.{way, powerRun, levelList, Setting, HalfByteCarried}
 use Rattle.slip_digest_braid.proofs.ShortBraid.{way-list}
 use Rattle.slip_digest_braid.proofs.CodeRows.{level-is}
 
 -- at the level of a half byte, its own label and label 7 stand at the places of its power
 abbrev ownRule : ℕ → Bool
-ownRule h = eqb (getD (listAt (selected h)) (selected h - 1) 0) (6 - 2 * (h % 4))
+ownRule h = eqb (getD (levelList (selected h)) (selected h - 1) 0) (6 - 2 * (h % 4))
 
 abbrev nextRule : ℕ → Bool
-nextRule h = eqb (getD (listAt (selected h)) (selected h - 1 + 1) 0) 7
+nextRule h = eqb (getD (levelList (selected h)) (selected h - 1 + 1) 0) 7
 
 labels-rule : every (λ h. ownRule h && nextRule h) (values (λ h. h) 16) ≡ true
-unfolding valuesFrom every listAt listAfter swapped
+unfolding valuesFrom every levelList listAfter swapped
 labels-rule = refl
 
 module _ (h : ℕ) (b : h < 16) where
   both : ownRule h && nextRule h ≡ true
   both = every-values (λ h. ownRule h && nextRule h) (λ h. h) 16 labels-rule h b
 
-  own-label : getD (listAt (selected h)) (selected h - 1) 0 ≡ 6 - 2 * (h % 4)
+  own-label : getD (levelList (selected h)) (selected h - 1) 0 ≡ 6 - 2 * (h % 4)
   own-label = eqb-true _ _ (and-left (ownRule h) (nextRule h) both)
 
-  next-label : getD (listAt (selected h)) (selected h - 1 + 1) 0 ≡ 7
+  next-label : getD (levelList (selected h)) (selected h - 1 + 1) 0 ≡ 7
   next-label = eqb-true _ _ (and-right (ownRule h) (nextRule h) both)
 
   -- the numbers of the power, by the labels that stand there
-  gains-there : (F : Operations) (ts labels : List ℕ) → labels ≡ listAt (selected h)
+  gains-there : (F : Operations) (ts labels : List ℕ) → labels ≡ levelList (selected h)
       → levelGains F ts (h % 4) (h / 4)
       ≡ powerGains F (tValue ts labels (selected h - 1)) (tValue ts labels (selected h - 1 + 1)) (powerOf h)
   unfolding tValue
@@ -60,7 +60,7 @@ module _ (h : ℕ) (b : h < 16) where
 half-byte-carried : {bits at g : ℕ} {cs powers columns labels columns′ labels′ columns″ : List ℕ} (l h : ℕ) → l ≤ 7
     → h < 16 → g ≡ selected h - 1 → at ≡ 96 * (h % 4) + 24 * (h / 4)
     → Carried bits cs (way l (selected h)) columns labels columns′ labels′
-    → Raised bits powers at g columns′ columns″
+    → RunOnColumns bits powers at g columns′ columns″
     → HalfByteCarried bits cs powers l h columns labels columns″ labels′
 half-byte-carried {bits} {at} {g} {cs} {powers} {columns} {labels} {columns′} {labels′} {columns″} l h hl b eg ea c r =
     record {
@@ -76,7 +76,7 @@ half-byte-carried {bits} {at} {g} {cs} {powers} {columns} {labels} {columns′} 
           let q = heldPair columns labels in
           let w = way l (selected h) in
           let d = c .carries p (s .degree) ts (s .constants-are) in
-          let list : labels′ ≡ listAt (selected h) =
+          let list : labels′ ≡ levelList (selected h) =
           ap (λ (x : Pair). x .labels) d ∙ list-carried F ts w q ∙ ap (λ (k : List ℕ). listAfter k w) e
           ∙ way-list l h hl b in
           power p ts s (subst (GoodPair F) (sym d) (codes-good (s .binary) ts w q good)) list
@@ -86,7 +86,7 @@ half-byte-carried {bits} {at} {g} {cs} {powers} {columns} {labels} {columns′} 
   where
     power : (p : ℕ) (ts : List ℕ) → Setting bits p ts cs powers
         → GoodPair (polynomials bits p) (heldPair columns′ labels′)
-        → labels′ ≡ listAt (selected h)
+        → labels′ ≡ levelList (selected h)
         → heldPair columns″ labels′ ≡ wordOn (polynomials bits p) ts (powerRun h) (heldPair columns′ labels′)
     power p ts s good list =
         let F : Operations = polynomials bits p in
@@ -103,7 +103,7 @@ half-byte-carried {bits} {at} {g} {cs} {powers} {columns} {labels} {columns′} 
 pub half-byte-on : {bits at : ℕ} {cs powers columns labels columns′ labels′ columns″ : List ℕ} (l h m : ℕ) → l ≤ 7
     → h < 16 → m ≡ selected h → at ≡ 96 * (h % 4) + 24 * (h / 4)
     → Carried bits cs (way l m) columns labels columns′ labels′
-    → Raised bits powers at (m - 1) columns′ columns″
+    → RunOnColumns bits powers at (m - 1) columns′ columns″
     → HalfByteCarried bits cs powers l h columns labels columns″ labels′
 half-byte-on {bits} {cs = cs} {columns = columns} {labels} {columns′} {labels′} l h m hl b e ea c r =
     half-byte-carried l h hl b (ap (λ (x : ℕ). x - 1) e) ea

@@ -32,7 +32,7 @@ use Rattle.braid_same.proofs.Laws.{same-none, same-then, same-append, same-insi
 use Rattle.braid_same.proofs.Cancelling.{reduced-same}
 use Rattle.slip_digest.specs.Digest.{selected, powerOf, above, halfByteBraid, braidOf, encoded}
 use Rattle.slip_digest.proofs.Encoded.{braidOf-more}
-use Rattle.slip_digest_braid.specs.steps.Ways.{way, powerRun, listAt, Setting, CarriedFrom}
+use Rattle.slip_digest_braid.specs.steps.Ways.{way, powerRun, levelList, Setting, CarriedFrom}
 use Rattle.slip_digest_braid.specs.steps.Ways.{HalfByteCarried, DigestCarried, ShortMatrix}
 
 -- the starting pair is a good pair
@@ -98,11 +98,11 @@ step-same w v l h hl hm s =
 
 abbrev listRule : ℕ → ℕ → Bool
 listRule l h =
-    equal (listAfter (listAt l) (way l (selected h))) (listAt (selected h))
-    && equal (listAfter (listAt l) (way l (selected h) ++ powerRun h)) (listAt (selected h))
+    equal (listAfter (levelList l) (way l (selected h))) (levelList (selected h))
+    && equal (listAfter (levelList l) (way l (selected h) ++ powerRun h)) (levelList (selected h))
 
 lists : every (λ l. every (listRule l) (values (λ h. h) 16)) (values (λ l. l) 8) ≡ true
-unfolding valuesFrom every equal way listAt listAfter swapped
+unfolding valuesFrom every equal way levelList listAfter swapped
 lists = refl
 
 module _ (l h : ℕ) (hl : l ≤ 7) (b : h < 16) where
@@ -112,17 +112,17 @@ module _ (l h : ℕ) (hl : l ≤ 7) (b : h < 16) where
       (every-values (λ l. every (listRule l) (values (λ h. h) 16)) (λ l. l) 8 lists l (omega arith)) h b
 
   -- the list after the way to the half byte's level, and after its power too
-  pub way-list : listAfter (listAt l) (way l (selected h)) ≡ listAt (selected h)
+  pub way-list : listAfter (levelList l) (way l (selected h)) ≡ levelList (selected h)
   way-list =
       equal-true _ _
-      (and-left (equal (listAfter (listAt l) (way l (selected h))) (listAt (selected h)))
-      (equal (listAfter (listAt l) (way l (selected h) ++ powerRun h)) (listAt (selected h))) list-rule)
+      (and-left (equal (listAfter (levelList l) (way l (selected h))) (levelList (selected h)))
+      (equal (listAfter (levelList l) (way l (selected h) ++ powerRun h)) (levelList (selected h))) list-rule)
 
-  half-list : listAfter (listAt l) (way l (selected h) ++ powerRun h) ≡ listAt (selected h)
+  half-list : listAfter (levelList l) (way l (selected h) ++ powerRun h) ≡ levelList (selected h)
   half-list =
       equal-true _ _
-      (and-right (equal (listAfter (listAt l) (way l (selected h))) (listAt (selected h)))
-      (equal (listAfter (listAt l) (way l (selected h) ++ powerRun h)) (listAt (selected h))) list-rule)
+      (and-right (equal (listAfter (levelList l) (way l (selected h))) (levelList (selected h)))
+      (equal (listAfter (levelList l) (way l (selected h) ++ powerRun h)) (levelList (selected h))) list-rule)
 
 value-at : (ts : List ℕ) (a : ℕ) → a < 8 → tValue ts inOrder a ≡ getD ts a 0
 unfolding tValue
@@ -134,7 +134,7 @@ pub record Reached (bits : ℕ) (constants powers hs : List ℕ) (k l : ℕ) (co
     Type 0 where
   pub word : List ℕ
   pub same : SameBraid (braidOf (take k hs)) (word ++ back l)
-  pub list-is : listAfter (listAt 7) word ≡ listAt l
+  pub list-is : listAfter (levelList 7) word ≡ levelList l
   pub holds : Held bits constants columns′ labels′
   pub carries : CarriedFrom bits constants powers 7 word columns labels columns′ labels′
 
@@ -146,14 +146,14 @@ none-reached bits cs powers hs columns labels held =
 
 -- after a word, the pair is good again, and the labels are those of the level that the word reaches
 module _ {bits : ℕ} {cs powers : List ℕ} (l : ℕ) (columns labels columns′ labels′ w : List ℕ)
-    (list-is : listAfter (listAt 7) w ≡ listAt l) (p : ℕ) (ts : List ℕ) (s : Setting bits p ts cs powers)
-    (good : GoodPair (polynomials bits p) (heldPair columns labels)) (at : labels ≡ listAt 7)
+    (list-is : listAfter (levelList 7) w ≡ levelList l) (p : ℕ) (ts : List ℕ) (s : Setting bits p ts cs powers)
+    (good : GoodPair (polynomials bits p) (heldPair columns labels)) (at : labels ≡ levelList 7)
     (e : heldPair columns′ labels′ ≡ wordOn (polynomials bits p) ts w (heldPair columns labels)) where
   good-there : GoodPair (polynomials bits p) (heldPair columns′ labels′)
   good-there =
       subst (GoodPair (polynomials bits p)) (sym e) (codes-good (s .binary) ts w (heldPair columns labels) good)
 
-  list-there : labels′ ≡ listAt l
+  list-there : labels′ ≡ levelList l
   list-there =
       ap (λ (q : Pair). q .labels) e ∙ list-carried (polynomials bits p) ts w (heldPair columns labels)
       ∙ ap (λ (k : List ℕ). listAfter k w) at ∙ list-is
@@ -168,8 +168,8 @@ more-reached {bits} {k} {l} {cs} {powers} {hs} {columns} {labels} {columns′} {
       word = r .word ++ v;
       same = grown;
       list-is =
-          after-append (listAt 7) (r .word) v ∙ ap (λ (x : List ℕ). listAfter x v) (r .list-is)
-          ∙ half-list l h hl below ∙ ap listAt (sym em);
+          after-append (levelList 7) (r .word) v ∙ ap (λ (x : List ℕ). listAfter x v) (r .list-is)
+          ∙ half-list l h hl below ∙ ap levelList (sym em);
       holds = c .holds;
       carries = λ p ts s good at.
           let d = r .carries p ts s good at in
@@ -232,7 +232,7 @@ pub short-is : {bits p : ℕ} → Degree bits p → (ts digest cs powers columns
     → PowerTable (polynomials bits p) bits cs 4 powers
     → DigestCarried bits cs powers digest columns inOrder columns′
     → ShortMatrix (polynomials bits p) ts digest (columnsMatrix columns′)
-unfolding start valuesFrom listAt listAfter
+unfolding start valuesFrom levelList listAfter
 short-is {bits} {p} degree ts digest cs powers columns columns′ begin e m constants table d L tv =
     let F : Operations = polynomials bits p in
     let first : heldPair columns inOrder ≡ start =

@@ -38,7 +38,7 @@ use Rattle.move_kinds.specs.Rewriting.{Step, moveOf}
 use Rattle.braid_same.proofs.Laws.{same-lettered}
 use Rattle.move_kinds.proofs.MoveLaws.{Kept, move-kept}
 use Rattle.slip_insertion.specs.Insertion.{insertedAt, Insertion, insertedBy, Hides, insertions}
-use Rattle.slip_insertion.specs.Insertion.{HidesAll, Alteration, inserts, moves, altered, Allowed, alterations}
+use Rattle.slip_insertion.specs.Insertion.{HidesAll, Alteration, inserting, moving, altered, Allowed, alterations}
 use Rattle.slip_insertion.specs.Insertion.{AllowedAll}
 use Rattle.slip_insertion.proofs.CloakedPairs.{inserted-carries}
 
@@ -114,8 +114,8 @@ module _ (key : List ℕ) (k : keyAnswer key ≡ 0) (w : List ℕ) (e : Lettered
       }
 
   alteration-kept : length w ≤ 10000 → (c : Alteration) → Allowed key c w → KeptUnder key w (altered c w)
-  alteration-kept few (inserts i) h = insertion-kept i h
-  alteration-kept few (moves s) h = move-kept-under few s h
+  alteration-kept few (inserting i) h = insertion-kept i h
+  alteration-kept few (moving s) h = move-kept-under few s h
 
 alterations-kept : (key : List ℕ) → keyAnswer key ≡ 0 → (cs : List Alteration) (w : List ℕ) → Lettered w
     → length w ≤ 10000
@@ -129,8 +129,8 @@ alterations-kept key k (c ∷ cs) w e few h =
 
 -- ---- the verdict
 
--- of two words under a key: the second is accepted, it carries Pub(S) where the first carries it, matrix and list, and
--- its verdict is that of the first, under every digest
+-- Two words under a key: the second is accepted, it carries Pub(S) where the first carries it, matrix and list, and its
+-- verdict is that of the first, under every digest.
 pub record SameVerdicts (key word new : List ℕ) : Type 0 where
   pub new-accepted : wordAnswer new ≡ 0
   pub carried : wordOn (operations (keyField key)) (keyOf key .«t_values») (codes new) (keyOf key .pair)
@@ -183,12 +183,12 @@ module _ (key word : List ℕ) (k : keyAnswer key ≡ 0) (a : wordAnswer word �
       kept-verdict (alterations cs (codes word)) (alterations-kept key k cs (codes word) word-lettered word-few h)
 
   -- insertions alone
-  as-alterations : (is : List Insertion) (w : List ℕ) → alterations (map inserts is) w ≡ insertions is w
+  as-alterations : (is : List Insertion) (w : List ℕ) → alterations (map inserting is) w ≡ insertions is w
   unfolding alterations insertions
   as-alterations [] w = refl
   as-alterations (i ∷ is) w = as-alterations is (insertedBy i w)
 
-  allowed : (is : List Insertion) (w : List ℕ) → HidesAll key is w → AllowedAll key (map inserts is) w
+  allowed : (is : List Insertion) (w : List ℕ) → HidesAll key is w → AllowedAll key (map inserting is) w
   unfolding HidesAll AllowedAll
   allowed [] w h = tt
   allowed (i ∷ is) w h = (h .0, allowed is (insertedBy i w) (h .1))
@@ -197,7 +197,7 @@ module _ (key word : List ℕ) (k : keyAnswer key ≡ 0) (a : wordAnswer word �
   pub cloaks-inserted : (is : List Insertion) → HidesAll key is (codes word)
       → SameVerdicts key word (wordFile (insertions is (codes word)))
   cloaks-inserted is h =
-      rw (← as-alterations is (codes word)) (cloaks-and-moves (map inserts is) (allowed is (codes word) h))
+      rw (← as-alterations is (codes word)) (cloaks-and-moves (map inserting is) (allowed is (codes word) h))
 
   -- from bytes to bytes: the writer from codes, given the altered word and room for a word, answers 0, and the file in
   -- the output's first bytes, as many as it reports, has the same verdicts
@@ -212,7 +212,8 @@ module _ (key word : List ℕ) (k : keyAnswer key ≡ 0) (a : wordAnswer word �
 
 -- ---- cloaking words in cloaking words
 
--- a word that cloaks for a list still does with a word inserted that cloaks for the list reached at its place
+-- A word cloaks for a list. With a word inserted that cloaks for the list reached at its place, it still cloaks for the
+-- list.
 cloak-in-cloak : (key labels word : List ℕ) → Cloaks key labels word 0 true → (i : Insertion)
     → Cloaks key
     (wordOn (operations (keyField key)) (keyOf key .«t_values») (take (i .place) (codes word))

@@ -37,7 +37,7 @@ use Rattle.slip_cloaking.proofs.CloakLaws.{answered, past-list}
 use Rattle.slip_verdict.proofs.VerdictIff.{Signs, zero-iff-signs, unequal-14, zero-or-14, word-refused}
 use Rattle.slip_verdict.proofs.WrongVerdicts.{plainKey, sevens, zeroDigest, key-is, sevens-0}
 use Rattle.move_kinds.specs.Kinds.{move}
-use Rattle.slip_insertion.specs.Insertion.{reachedAt, Insertion, insertedBy, moves, alterations, AllowedAll}
+use Rattle.slip_insertion.specs.Insertion.{reachedAt, Insertion, insertedBy, moving, alterations, AllowedAll}
 use Rattle.slip_insertion.proofs.CloaksAnywhere.{inserted-length, cloaks-and-moves}
 
 -- ---- the list
@@ -66,15 +66,15 @@ cloaks-for-pub =
     answered plainKey (keyOf plainKey .pair .labels) twice
     (past-list plainKey (keyOf plainKey .pair .labels) twice (accepted .key-accepted) refl) refl
 
--- the slip opens with the word around it
+-- the slip opens with b2 b2⁻¹ and 128 letters b7
 around-0 : verdict plainKey zeroDigest around ≡ 0
 unfolding AllowedAll alterations move firstNo value halves codes wordFile packed digits
 around-0 =
     cloaks-and-moves plainKey sevens (accepted .key-accepted) (accepted .word-accepted)
-    (moves (record { place = 0; kind = 17 }) ∷ []) (refl, tt) .verdicts zeroDigest
+    (moving (record { place = 0; kind = 17 }) ∷ []) (refl, tt) .verdicts zeroDigest
     ∙ sevens-0
 
--- and not with b1 b1 in it
+-- the slip does not open with b1 b1 inserted
 abbrev inserted : List ℕ
 inserted = wordFile (insertedBy after-b2 (codes around))
 
@@ -100,7 +100,7 @@ inserted-14 =
           (e ∙ sym (zero-iff-signs plainKey zeroDigest around .0 around-0 .matrices-equal)),
     ))
 
--- so the list reached at the place may not be exchanged for that of Pub(S)
+-- §12 is false with the list of Pub(S) in place of the list reached at the place
 pub list-matters : ((key digest word : List ℕ) (i : Insertion) → keyAnswer key ≡ 0 → wordAnswer word ≡ 0
     → i .place ≤ length (codes word)
     → Cloaks key (keyOf key .pair .labels) (i .file) 0 true → length (codes word) + length (codes (i .file)) ≤ 10000
@@ -115,7 +115,7 @@ list-matters claim =
       around-0,
     )
 
--- nor may the list be left out: it is not enough that the word cloaks for some list
+-- §12 is false without the list: it is not enough that the word cloaks for some list
 pub list-left-out : ((key digest word labels : List ℕ) (i : Insertion) → keyAnswer key ≡ 0 → wordAnswer word ≡ 0
     → i .place ≤ length (codes word)
     → Cloaks key labels (i .file) 0 true → length (codes word) + length (codes (i .file)) ≤ 10000
@@ -162,7 +162,8 @@ unfolding every
 ones zero = refl
 ones (suc n) = ones n
 
--- b1 b1 cloaks before 10,000 letters b1, and the new word is refused; n stands for 10,000, which is not computed with
+-- b1 b1 cloaks before 10,000 letters b1, and the new word is refused; n stands for 10,000, so that antt does not
+-- compute with 10,000
 limit-at : (n : ℕ) → n ≡ 10000 → NoLimit → ⊥
 unfolding value halves codes wordOn firstNo every filler wordAnswer
 limit-at n e claim = go (zero-or-14 plainKey zeroDigest full k d a)
@@ -201,6 +202,6 @@ limit-at n e claim = go (zero-or-14 plainKey zeroDigest full k d a)
     go (inl z) = omega (arith, z, same, new)
     go (inr z) = omega (arith, z, same, new)
 
--- so the limit may not be left out
+-- §12 is false without the limit
 pub limit-left-out : NoLimit → ⊥
 limit-left-out = limit-at 10000 refl

@@ -43,32 +43,32 @@ unfoldable pub insertions : List Insertion → List ℕ → List ℕ
 insertions [] w = w
 insertions (i ∷ is) w = insertions is (insertedBy i w)
 
--- each of them hides its word in the word that the last one left
+-- each insertion hides its word in the word that the last one left
 unfoldable pub HidesAll : List ℕ → List Insertion → List ℕ → Type 0
 HidesAll key [] w = Unit {0}
 HidesAll key (i ∷ is) w = Hides key i w × HidesAll key is (insertedBy i w)
 
 -- a change of a word: an insertion, or a move of a move list
 pub data Alteration : Type 0 where
-  inserts : Insertion → Alteration
-  moves : Step → Alteration
+  inserting : Insertion → Alteration
+  moving : Step → Alteration
 
 -- the word after an alteration
 abbrev pub altered : Alteration → List ℕ → List ℕ
-altered (inserts i) w = insertedBy i w
-altered (moves s) w = moveOf s w .word
+altered (inserting i) w = insertedBy i w
+altered (moving s) w = moveOf s w .word
 
 -- the alteration may be made: the insertion hides its word, or no question of the move is answered no
 abbrev pub Allowed : List ℕ → Alteration → List ℕ → Type 0
-Allowed key (inserts i) w = Hides key i w
-Allowed key (moves s) w = firstNo (moveOf s w .questions) ≡ 0
+Allowed key (inserting i) w = Hides key i w
+Allowed key (moving s) w = firstNo (moveOf s w .questions) ≡ 0
 
 -- alterations one after another, in any order, each of the word that the last one left
 unfoldable pub alterations : List Alteration → List ℕ → List ℕ
 alterations [] w = w
 alterations (c ∷ cs) w = alterations cs (altered c w)
 
--- each of them may be made on the word that the last one left
+-- each alteration may be made on the word that the last one left
 unfoldable pub AllowedAll : List ℕ → List Alteration → List ℕ → Type 0
 AllowedAll key [] w = Unit {0}
 AllowedAll key (c ∷ cs) w = Allowed key c w × AllowedAll key cs (altered c w)

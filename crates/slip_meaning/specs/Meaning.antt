@@ -20,7 +20,7 @@ pub record SameMeaning (word new : List ℕ) : Type 0 where
   -- both files are accepted words
   pub old-accepted : wordAnswer word ≡ 0
   pub new-accepted : wordAnswer new ≡ 0
-  -- The new word carries each pair to exactly the end to which the old word carries it, matrix and labels alike. The
+  -- The new word carries each pair to exactly the pair to which the old word carries it, matrix and labels alike. The
   -- field may be any binary field, such as GF(32) and GF(256). The T-values may be any other than zero, and the first
   -- two need not be 1. The matrix may hold any 64 elements of the field, with any labels below 8.
   pub carried : (F : Operations) → BinaryField F → (ts : List ℕ) → TValues F ts → (p : Pair) → GoodPair F p

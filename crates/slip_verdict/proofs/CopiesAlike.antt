@@ -1,6 +1,6 @@
 -- Demand 3 for halves (document 02, §4): two accepted words that carry every pair alike, as a word and its rewritten
 -- copy do, get the same answer from the second half, under every half of arrays of their sizes, over the half's own
--- field. A half that fails a question of its own gets its number with both.
+-- field. If the half fails a question of its own, both words get the number of that question.
 use Prim.Native.Nat.{ℕ, zero, suc}
 use mathlib.Core.Path.{_≡_, refl, sym, _∙_, subst}
 use mathlib.Core.List.{List}

@@ -35,7 +35,7 @@ module _ (key digest : List ℕ) where
     unfolding keyAnswer
     past-key = all-passed (keyQuestions key) (digestQuestions (keyOf key .field) digest) tt k
 
-    -- a refusal of the digest, and none
+    -- a refusal of the digest, and no refusal
     pub digest-refused : isDigest (keyOf key .field) digest ≡ false → firstNo (firstHalfQuestions key digest) ≡ 8
     digest-refused e = past-key ∙ fails 8 [] e
 
@@ -115,7 +115,7 @@ module _ (h : Half) where
         → firstNo (secondHalfQuestions h word) ≡ firstNo (halfQuestions h)
     half-refused r = refused-there (halfQuestions h) (copyQuestions h word) tt r
 
-    -- under any other the word decides
+    -- under a half that passes its questions the word decides
     pub past-half : firstNo (halfQuestions h) ≡ 0
         → firstNo (secondHalfQuestions h word) ≡ firstNo (copyQuestions h word)
     past-half z = all-passed (halfQuestions h) (copyQuestions h word) tt z

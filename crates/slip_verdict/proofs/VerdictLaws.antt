@@ -1,5 +1,5 @@
--- The two sides of the verdict: the matrix that a word reaches from Pub(S), as the code finds it and of words that
--- carry pairs alike; and the target, as the code finds it.
+-- The two sides of the verdict. First the matrix that a word reaches from Pub(S): as the code computes it, and for two
+-- words that carry pairs alike. Then the target, as the code computes it.
 use Prim.Native.Nat.{ℕ}
 use mathlib.Core.Path.{_≡_, ap, _∙_}
 use mathlib.Core.List.{List}

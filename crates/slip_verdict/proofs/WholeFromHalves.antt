@@ -58,7 +58,7 @@ target-invertible f ts digest second tv m e =
 tested : (f : Field) (m : List ℕ) → Matrix (operations f .size) m → elements f m ≡ true
 tested f m good = below-all (operations f .size) m (λ k h. good .below k)
 
--- so a half that is made of an accepted key passes all its questions
+-- a half that is made of an accepted key passes all its questions
 module _ (key digest : List ℕ) (k : keyAnswer key ≡ 0) where
   made-accepted : Accepted (halfOf (keyOf key) digest)
   unfolding keyOf targetOver

@@ -213,7 +213,7 @@ unfolding identity place rowOf columnOf entry matrixOf valuesFrom tValue shareOf
     horner timesX
 smaller-corner = refl
 
--- the same half with the smaller field named
+-- a half with the smaller field named in place of its own
 abbrev overSmaller : Half → Half
 overSmaller h = record { field = Gf32; «t_values» = h .«t_values»; pair = h .pair; target = h .target }
 

@@ -62,7 +62,7 @@ emptyWord = 0x00 ∷ 0x00 ∷ []
 abbrev pub zeroDigest : List ℕ
 zeroDigest = replicate 32 0
 
--- all are accepted
+-- the key, both words and the digest are accepted
 pub key-accepted : keyAnswer plainKey ≡ 0
 unfolding firstNo valuesFrom every tally eachOnce value digits keyField tValues unpackedRow rowFiller keyLabels
     wholeMatrix
@@ -81,7 +81,7 @@ digest-fits : length zeroDigest ≡ digestBytes (keyField plainKey)
 unfolding keyField
 digest-fits = refl
 
--- what they hold
+-- what the key, the word and the digest hold
 pub key-is : keyOf plainKey ≡ record { field = Gf32; «t_values» = plain; pair = start; second = identity }
 unfolding valuesFrom value digits rowOf columnOf matrixOf keyField tValues unpackedRow keyLabels wholeMatrix keyOf
     identity

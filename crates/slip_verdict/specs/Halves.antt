@@ -1,6 +1,6 @@
 -- The verdict in two halves (document 02, §4). The first takes key and digest and gives a half: the key's field, the
--- T-values, Pub(S) and the target matrix, with which signatures are compared. The second takes a half, which a caller
--- may have made, and a signature: a copy of the slip.
+-- T-values, Pub(S) and the target matrix, with which signatures are compared. The second takes a half and a signature,
+-- which is a copy of the slip. A caller may have made the half.
 use Prim.Native.Nat.{ℕ}
 use mathlib.Core.Path.{_≡_}
 use mathlib.Core.List.{List, [], _∷_, _++_}
@@ -29,7 +29,7 @@ zeroHalf = record { field = Gf32; «t_values» = replicate 8 0; pair = zeroPair;
 abbrev pub firstHalfQuestions : List ℕ → List ℕ → List Question
 firstHalfQuestions key digest = keyQuestions key ++ digestQuestions (keyOf key .field) digest
 
--- an answer, and beside it the half, or zeros
+-- the first half's answer, and the half that it gives; on a refusal the half is all zeros
 pub record MakesHalf (key digest : List ℕ) (answer : ℕ) (half : Half) : Type 0 where
   pub answer-is : answer ≡ firstNo (firstHalfQuestions key digest)
   pub half-is : half ≡ granted (firstNo (firstHalfQuestions key digest)) (halfOf (keyOf key) digest) zeroHalf

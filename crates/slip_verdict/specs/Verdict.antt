@@ -23,7 +23,7 @@ signedOver F ts p w = wordOn F ts w p .matrix
 unfoldable pub targetOver : Operations → Key → List ℕ → List ℕ
 targetOver F key digest = matrixProduct F (wordOn F (key .«t_values») (encoded digest) start .matrix) (key .second)
 
--- both over the key's own field
+-- the two matrices of the verdict, over the key's own field
 abbrev pub signed : Key → List ℕ → List ℕ
 signed key w = signedOver (operations (key .field)) (key .«t_values») (key .pair) w
 

@@ -1,5 +1,5 @@
-// The verdict, whole and in two halves. Is the matrix reached from Pub(S) by the word that of the digest's braid, times
-// the matrix of Pub(S')?
+// The verdict, whole and in two halves. Does the matrix that the word reaches from Pub(S) equal the matrix of the
+// digest's braid times the matrix of Pub(S')?
 use field::Field;
 use key::Key;
 use pair::Pair;
@@ -107,7 +107,7 @@ pub fn second_half(half: Half, word: &[u8]) -> u8
     let t_values = half.t_values;
     let pair = half.pair;
     let target = half.target;
-    let bits = key::bits_of(f);
+    let bits = field::bits_of(f);
     let refusal = pair::pair_answer(pair, &t_values, &target, bits, f);
     if refusal != 0 {
         return refusal;

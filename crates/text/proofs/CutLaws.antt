@@ -1,4 +1,4 @@
--- A part of a buffer that may end before it.
+-- A part of a buffer. The buffer may end before the part does.
 use Prim.Native.Nat.{ℕ, _-_, _≤_, min}
 use native.Mathlib.Nat.{min-eq-left, min-eq-right}
 use native.Mathlib.Decide.{decLe}

@@ -111,7 +111,7 @@ decimal-only ds below some front =
 
 -- ---- as the code counts and writes them
 
--- something is left of a number after its last k digits just if the number is at least 10 to the power k
+-- something is left of a number after its last k digits exactly if the number is at least 10 to the power k
 pub none-left : (n k : ℕ) → n / 10 ^ k ≡ 0 → n < 10 ^ k
 none-left n k e =
     let none : n / 10 ^ k * 10 ^ k ≡ 0 = rw e (zero-mul (10 ^ k)) in

@@ -1,5 +1,5 @@
--- Words that are too long. Over 5,002 bytes a word is refused, by 11, or by 10 where the number that it states is too
--- large, which its first two bytes say: so 5,003 bytes are enough to read of a word of any length.
+-- Words that are too long. Over 5,002 bytes a word is refused: by 11, or by 10 if the number of letters that it states
+-- is too large. Its first two bytes decide which. So 5,003 bytes are enough to read of a word of any length.
 use Prim.Native.Nat.{ℕ, _≤_, _<_}
 use native.Mathlib.Decide.{decLe}
 use native.Mathlib.Omega.{arith}
@@ -39,7 +39,7 @@ long-refused word h e = go (leb (stated word) maxLetters) (sym (long-word word h
     go true z = omega arith
     go false z = omega arith
 
--- 5,003 bytes are enough, and so is more
+-- 5,003 bytes or more are enough
 pub enough-of-word : (n : ℕ) → 5002 < n → Enough n wordAnswer
 enough-of-word n h = enough-long wordAnswer tooLong 2 5002 n (omega arith) h long-word
 

@@ -138,7 +138,7 @@ unfolding total
 total-none zero = refl
 total-none (suc n) = let rest : total (λ a. 0) n ≡ 0 = total-none n in omega arith
 
--- the labels of a list are counted once each, all together
+-- the counts of all labels add up to the length of the list
 total-count : (n : ℕ) (l : List ℕ) → ((k : ℕ) → k < length l → getD l k 0 < n) → total (λ a. count a l) n ≡ length l
 unfolding tally
 total-count n [] below = total-none n

@@ -1,4 +1,4 @@
--- Two word files to check by: the half bytes of an odd word's last byte.
+-- Two refused word files as examples, one for each half byte of an odd word's last byte.
 use mathlib.Core.Path.{_≡_, refl}
 use mathlib.Core.List.{[], _∷_}
 use Rattle.base.specs.Questions.{firstNo}

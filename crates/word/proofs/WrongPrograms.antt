@@ -1,5 +1,6 @@
--- The contracts shut out wrong programs: a word reader with none left at the first letter, a word reader that reads an
--- odd word's last half byte as a letter, and a writer whose reported byte number is not that of the word.
+-- The contracts shut out wrong programs: a word reader that says at the first letter that none is left, a word reader
+-- that reads an odd word's last half byte as a letter, and a writer whose reported number of bytes is not that of the
+-- word.
 use Prim.Native.Nat.{ℕ, _<_}
 use mathlib.Core.Path.{_≡_, refl, sym, ap, _∙_}
 use mathlib.Core.Bool.{true, false, false≢true, true≢false}

@@ -84,7 +84,7 @@ count-first k x xs = go (eqb x k)
 
 -- ---- two labels in the table
 
--- two places of the table are the same just if sign and labels are the same
+-- two places of the table are the same exactly if sign and labels are the same
 slot-equal : (s t p q a b : ℕ) → p < 8 → q < 8 → a < 8 → b < 8
     → eqb (slot s p q) (slot t a b) ≡ eqb s t && (eqb p a && eqb q b)
 slot-equal s t p q a b hp hq ha hb = go (ℕ-discrete s t) (ℕ-discrete p a) (ℕ-discrete q b)
@@ -221,7 +221,7 @@ module _ {w labels counts : List ℕ} {i : ℕ} (h : Walking w labels counts i) 
               ∙ h .rest k;
         })
 
-  -- none is left
+  -- no letter is left
   pub walked : length w ≤ 10000 → length w ≤ i → Counts inOrder w counts
   unfolding slots tally
   walked few e =

@@ -1,5 +1,5 @@
--- A word counted in two halves. From a list of 0 to 7, each once, a word swaps the labels at two places just where it
--- swaps these places from the starting list. So the tables of both halves give the number of the whole word.
+-- A word counted in two halves. From a list of 0 to 7, each once, a word swaps the labels at two places exactly where
+-- it swaps these places from the starting list. So the tables of both halves give the number of the whole word.
 use Prim.Native.Nat.{ℕ, _+_, _-_, _≤_, _<_}
 use mathlib.Core.Path.{_≡_, refl, sym, ap, ap₂, _∙_}
 use mathlib.Core.Bool.{Bool, true, cond, _&&_}
@@ -118,7 +118,7 @@ module _ (names : List ℕ) (size : length names ≡ 8) (order : isOrder names �
       (renamed p q hp hq w (swapped g places) (swapped g labels) (h .1) (labelled-next l c (h .0))
       (length-swapped g labels ∙ ll) (named-next g places labels b (l .strands) ll e))
 
-  -- from this list a word swaps two labels just where it swaps their places from the starting list
+  -- from this list a word swaps two labels exactly where it swaps their places from the starting list
   by-place : (p q : ℕ) → p < 8 → q < 8 → (w : List ℕ) → Lettered w
       → swapping (getD names p 0) (getD names q 0) names w ≡ swapping p q inOrder w
   by-place p q hp hq w letters =

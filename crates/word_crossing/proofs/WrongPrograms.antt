@@ -50,7 +50,7 @@ module _ (f : Operation) (meets : Meets f) where
       (word : List ℕ) (a b : ℕ) → Bytes word → a < 256 → b < 256 → firstNo (crossingQuestions word a b) ≡ 0
       → f word a b .crossings ≡ g a b (codes word)
 
-  -- then g gives what the definition gives
+  -- if f gives what g gives, g gives what the definition gives
   shows : (g : Count) (word : List ℕ) (a b : ℕ) → Gives g → Bytes word → a < 256 → b < 256
       → firstNo (crossingQuestions word a b) ≡ 0
       → crossings a b (codes word) ≡ g a b (codes word)

@@ -1,5 +1,5 @@
 -- How often two strands cross (document 02, §2): the signed number of the letters of a word that swap just these two
--- labels. Then the 28 pairs of labels. Places count from 0 here.
+-- labels. This file also lists the 28 pairs of labels. Places count from 0 here.
 use Prim.Native.Nat.{ℕ, zero, suc, _+_}
 use mathlib.Core.Path.{_≡_}
 use mathlib.Core.Bool.{Bool, cond, not, _&&_, _||_}
@@ -33,7 +33,7 @@ swapping a b labels (c ∷ w) =
 unfoldable pub crossingsFrom : List ℕ → ℕ → ℕ → List ℕ → ℤ
 crossingsFrom labels a b w = exponentSum (swapping a b labels w)
 
--- the signed number of these letters from the starting list
+-- how often the labels a and b cross: the signed number of letters, from the starting list, that swap just these two
 unfoldable pub crossings : ℕ → ℕ → List ℕ → ℤ
 crossings a b w = crossingsFrom inOrder a b w
 

@@ -140,7 +140,8 @@ positive-letter : (g : ℕ) → g ≤ 6 → isLetter g ≡ true
 positive-letter g h = ap (λ (b : Bool). b || isInverse g) (le-leb g 6 h)
 
 module _ (parts : List ℕ) (ps : areParts parts ≡ true) where
-  -- what a letter becomes and then becomes on the way back, in front of a word
+  -- a letter that is converted there and back, in front of a word, has the reduced word of the letter in front of that
+  -- word
   abbrev Back : Bool → ℕ → List ℕ → Type 0
   Back way c v = reduced (converted (not way) parts (run way parts c) ++ v) ≡ reduced (c ∷ v)
 
@@ -198,7 +199,7 @@ module _ (parts : List ℕ) (ps : areParts parts ≡ true) where
       ap (λ (l : List ℕ). reduced (converted true parts l ++ v)) (positive-run false parts g h)
       ∙ there-y (following parts g) g h refl v
 
-  -- an inverse letter, from the letter
+  -- the law of an inverse letter follows from that of the letter
   back-inverse : (way : Bool) (g : ℕ) → isLetter g ≡ true → ((v : List ℕ) → Back way g v)
       → (v : List ℕ) → Back way (inverse g) v
   back-inverse way g e h v =

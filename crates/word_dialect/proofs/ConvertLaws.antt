@@ -15,13 +15,14 @@ use Rattle.word.proofs.LetterLaws.{Lettered}
 use Rattle.word.proofs.WordLaws.{letters-below}
 use Rattle.word.proofs.WriteLaws.{wrote-refused, wrote-same, writable}
 use Rattle.word_dialect.specs.Dialect.{areParts, converted, longQuestion, dialectQuestions}
-use Rattle.word_dialect.specs.steps.Table.{Holds, IsTable, laid, Convertible}
+use Rattle.word_dialect.specs.steps.Table.{HoldsRuns, IsTable, laid, Convertible}
 use Rattle.word_dialect.proofs.ConversionLaws.{converted-lettered}
 use Rattle.word_dialect.proofs.TableLaws.{holds-table, laid-converted}
 
 -- ---- the writer of a converted word
 
-module _ (way : Bool) (w parts out table : List ℕ) (g : Convertible w parts out) (h : Holds way parts 16 table) where
+module _ (way : Bool) (w parts out table : List ℕ) (g : Convertible w parts out)
+    (h : HoldsRuns way parts 16 table) where
   pub codes-below : Below 16 w
   codes-below k = omega (arith, letters-below w (g .lettered) k)
 

@@ -38,7 +38,7 @@ module _ (f : ℕ → List ℕ) where
       let l = ap length whole ∙ length-append (eachBy f (take k w)) (eachBy f (drop k w)) in
       omega arith
 
-  -- what each letter gives passes a test, so all passes it
+  -- if what each letter gives passes a test, the whole result passes it
   pub each-every : (t s : ℕ → Bool) → ((c : ℕ) → t c ≡ true → every s (f c) ≡ true) → (w : List ℕ) → every t w ≡ true
       → every s (eachBy f w) ≡ true
   unfolding eachBy every
@@ -47,7 +47,7 @@ module _ (f : ℕ → List ℕ) where
       every-append s (f c) (eachBy f w)
       ∙ and-both (h c (and-left (t c) (every t w) e)) (each-every t s h w (and-right (t c) (every t w) e))
 
--- two functions that agree at letters
+-- two functions that agree at letters give the same result
 pub each-alike : (f g : ℕ → List ℕ) (t : ℕ → Bool) → ((c : ℕ) → t c ≡ true → f c ≡ g c) → (w : List ℕ)
     → every t w ≡ true
     → eachBy f w ≡ eachBy g w

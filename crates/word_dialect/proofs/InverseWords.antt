@@ -35,7 +35,7 @@ inverted-twice (c ∷ u) e =
     inverted-append (inverted u) (inverse c ∷ [])
     ∙ ap₂ (λ (x : ℕ) (l : List ℕ). x ∷ l) (inverse-twice c (t .0)) (inverted-twice u (t .1))
 
--- words with the same reduced word, after the same front
+-- two words with the same reduced word have the same reduced word after one front
 pub reduced-after : (s x y : List ℕ) → reduced x ≡ reduced y → reduced (s ++ x) ≡ reduced (s ++ y)
 unfolding reduced
 reduced-after [] x y e = e

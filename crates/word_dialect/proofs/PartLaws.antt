@@ -1,5 +1,5 @@
--- Laws of parts: the sum grows part by part, more than seven parts are none of 7, and how many generators come after a
--- generator in its part.
+-- Laws of parts: the sum grows part by part, more than seven parts are no parts of 7, and how many generators come
+-- after a generator in its part.
 use Prim.Native.Nat.{ℕ, suc, _+_, _-_, _*_, _≤_, _<_}
 use mathlib.Core.Path.{_≡_, refl, sym, ap, _∙_}
 use mathlib.Core.Bool.{Bool, true, false, cond, _&&_, false≢true}
@@ -45,7 +45,7 @@ few-parts (p ∷ parts) e =
       few-parts parts (and-right (ltb 0 p) (positive parts) e),
     )
 
--- the two tests that the code makes are all three
+-- the two tests that the code makes give the result of the definition's three tests
 pub parts-are : (parts : List ℕ) → (positive parts && eqb (partSum parts) 7) ≡ areParts parts
 unfolding partSum every
 parts-are [] = refl
@@ -103,7 +103,7 @@ following-past [] g h = refl
 following-past (p ∷ parts) g h =
     let l : p ≤ g = omega arith in in-later p parts g l ∙ following-past parts (g - p) (omega arith)
 
--- the generator after one that has others after it
+-- if n + 1 generators come after a generator, n come after the next one
 pub following-next : (parts : List ℕ) (g n : ℕ) → following parts g ≡ suc n → following parts (g + 1) ≡ n
 unfolding following
 following-next [] g n e = omega arith
@@ -129,7 +129,7 @@ module _ (parts : List ℕ) (e : areParts parts ≡ true) where
   past : following parts 7 ≡ 0
   past = let s = sum-is parts e in following-past parts 7 (omega arith)
 
-  -- room for the run of any generator below 8, of which the last lies in no part
+  -- There is room for the run of any generator below 8. Generator 7 lies in no part.
   pub room-for-run : (g : ℕ) → g < 8 → (g + following parts g < 8) × (following parts g < 7)
   room-for-run g h =
       elim (decLt g 7) [

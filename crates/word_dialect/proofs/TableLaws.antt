@@ -20,7 +20,7 @@ use Rattle.base.proofs.ListLaws.{overlaid-all, overlaid-whole}
 use Rattle.word.specs.Letters.{isLetter, isInverse, generator}
 use Rattle.word.proofs.LetterLaws.{Lettered, letter-below}
 use Rattle.word_dialect.specs.Dialect.{eachBy, inverted, runOf, signedRun, run, converted}
-use Rattle.word_dialect.specs.steps.Table.{codeAt, Steps, Row, Before, tableRun, Holds, IsTable, laid}
+use Rattle.word_dialect.specs.steps.Table.{codeAt, Steps, Row, Before, tableRun, HoldsRuns, IsTable, laid}
 use Rattle.word_dialect.proofs.EachLaws.{each-more, each-alike}
 
 -- ---- the shapes of runs
@@ -142,7 +142,7 @@ module _ (table : List ℕ) (c : ℕ) (room : 8 * c + 8 ≤ length table) (few :
       letter-of-run i (omega arith) ∙ l i k)
 
 module _ (way : Bool) (parts before after : List ℕ) (c : ℕ) (b : c < 16) (size : length after ≡ length before)
-    (all : length before ≡ 128) (same : Before (8 * c) before after) (held : Holds way parts c before) where
+    (all : length before ≡ 128) (same : Before (8 * c) before after) (held : HoldsRuns way parts c before) where
   -- the runs of the codes below c are still there
   still-there : (d : ℕ) → d < c → (getD after (8 * d + 7) 0 ≤ 7) × (tableRun after d ≡ run way parts d)
   still-there d l =
@@ -160,7 +160,7 @@ module _ (way : Bool) (parts before after : List ℕ) (c : ℕ) (b : c < 16) (si
 
   -- one more code
   pub holds-more : {first step number : ℕ} → Steps (run way parts c) first step number → Row after c first step number
-      → Holds way parts (c + 1) after
+      → HoldsRuns way parts (c + 1) after
   holds-more s r =
       let few : getD after (8 * c + 7) 0 ≤ 7 = omega (arith, r .number-there, s .few) in
       below-more (λ d. (getD after (8 * d + 7) 0 ≤ 7) × (tableRun after d ≡ run way parts d)) c still-there (
@@ -172,11 +172,12 @@ module _ (way : Bool) (parts before after : List ℕ) (c : ℕ) (b : c < 16) (si
 
 -- ---- the runs of a word
 
-pub holds-table : (way : Bool) (parts table : List ℕ) → length table ≡ 128 → Holds way parts 16 table → IsTable table
+pub holds-table : (way : Bool) (parts table : List ℕ) → length table ≡ 128 → HoldsRuns way parts 16 table
+    → IsTable table
 holds-table way parts table l h = record { size = l; few = λ c b. h c b .0 }
 
--- the runs of a table of both dialects' runs are the converted word
-pub laid-converted : (way : Bool) (parts table w : List ℕ) → Holds way parts 16 table → Lettered w
+-- if a table holds the runs of all codes, the runs of a word's codes are the converted word
+pub laid-converted : (way : Bool) (parts table w : List ℕ) → HoldsRuns way parts 16 table → Lettered w
     → laid table w ≡ converted way parts w
 unfolding laid converted
 laid-converted way parts table w h e =

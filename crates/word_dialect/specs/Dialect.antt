@@ -69,7 +69,7 @@ converted way parts w = eachBy (run way parts) w
 
 -- ---- the operations
 
--- 34, of the converted word
+-- Has the converted word at most 10,000 letters? 34
 abbrev pub longQuestion : Bool → List ℕ → List ℕ → List Question
 longQuestion way w parts = (leb (length (converted way parts w)) maxLetters else 34) ∷ []
 

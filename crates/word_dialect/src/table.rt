@@ -7,7 +7,7 @@ ghost use mathlib.Core.Bool.{true, false};
 ghost use lib.ListN.{length};
 ghost use Rattle.word.specs.Letters.{isInverse, generator};
 ghost use Rattle.word_dialect.specs.Dialect.{areParts, signedRun};
-ghost use Rattle.word_dialect.specs.steps.Table.{Steps, Row, Before, Holds};
+ghost use Rattle.word_dialect.specs.steps.Table.{Steps, Row, Before, HoldsRuns};
 
 // A run of letters: its first code, the step from each code to the next, modulo 16, and the number of letters.
 struct Run {
@@ -111,9 +111,9 @@ fn lay_run(table: &mut [u8], c: usize, first: u8, step: u8, number: u8)
 // Lays the run of code c, after the runs of the codes below it.
 fn lay_code(table: &mut [u8], way: bool, parts: &[u8], c: u8)
     requires { ⌜
-        (c < 16) × (length (now table) ≡ 128) × (areParts (now parts) ≡ true) × Holds way (now parts) c (now table)
+        (c < 16) × (length (now table) ≡ 128) × (areParts (now parts) ≡ true) × HoldsRuns way (now parts) c (now table)
         ⌝ }
-    ensures { λ _. ⌜ Holds way (now (parts .entry)) (c + 1) (now (table .exit)) ⌝ }
+    ensures { λ _. ⌜ HoldsRuns way (now (parts .entry)) (c + 1) (now (table .exit)) ⌝ }
 {
     let n = following(parts, c % 8);
     let r = run_of(way, c, n);
@@ -123,7 +123,7 @@ fn lay_code(table: &mut [u8], way: bool, parts: &[u8], c: u8)
 // Lays the runs of the sixteen codes.
 pub(crate) fn lay_table(table: &mut [u8], way: bool, parts: &[u8])
     requires { ⌜ (length (now table) ≡ 128) × (areParts (now parts) ≡ true) ⌝ }
-    ensures { λ _. ⌜ Holds way (now (parts .entry)) 16 (now (table .exit)) ⌝ }
+    ensures { λ _. ⌜ HoldsRuns way (now (parts .entry)) 16 (now (table .exit)) ⌝ }
 {
     let mut c = 0;
     while c < 16 {

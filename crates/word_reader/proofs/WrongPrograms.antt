@@ -1,5 +1,5 @@
--- The contracts of `open`, `next` and `moved_on` shut out wrong readers: one with none left at its first letter, one
--- that does not stay past the last letter, and one that has a letter of a refused file.
+-- The contracts of `open`, `next` and `moved_on` shut out wrong readers: one that says at its first letter that none is
+-- left, one that does not stay past the last letter, and one that has a letter of a refused file.
 use Prim.Native.Nat.{ℕ, _<_}
 use mathlib.Core.Path.{_≡_, refl, sym, ap, ap₂, _∙_}
 use mathlib.Core.Bool.{true, false, false≢true, true≢false}

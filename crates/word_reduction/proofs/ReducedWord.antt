@@ -23,12 +23,12 @@ reduced-accepted : (word : List ℕ) → wordAnswer word ≡ 0 → wordAnswer (w
 reduced-accepted word e = wordFile-accepted (reduced (codes word)) (reduced-few word e) (reduced-letters word e)
 
 -- v is the free reduction of w
-pub record Reduces (w v : List ℕ) : Type 0 where
+pub record ReducesTo (w v : List ℕ) : Type 0 where
   pub irreducible : Irreducible v
   pub reached : Cancels w v
   pub unique : (u : List ℕ) → Cancels w u → Irreducible u → u ≡ v
 
-pub reduces : (w : List ℕ) → Lettered w → Reduces w (reduced w)
+pub reduces : (w : List ℕ) → Lettered w → ReducesTo w (reduced w)
 reduces w e =
     record {
       irreducible = reduced-irreducible w;
@@ -58,7 +58,7 @@ module _ (room : ℕ) (word before : List ℕ) {after : List ℕ} {answer bytes 
   output-accepted = written .0
 
   -- the letters of the output are the free reduction of the word's letters
-  pub output-reduced : Reduces (letters word) (letters (take bytes after))
+  pub output-reduced : ReducesTo (letters word) (letters (take bytes after))
   output-reduced =
-      subst₂ Reduces (sym (letters-accepted word word-accepted)) (sym (written .1))
+      subst₂ ReducesTo (sym (letters-accepted word word-accepted)) (sym (written .1))
       (reduces (codes word) (accepted-word word word-accepted .lettered))

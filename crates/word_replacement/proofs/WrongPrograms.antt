@@ -90,7 +90,7 @@ two-letters : wordAnswer (0 ∷ 2 ∷ 1 ∷ []) ≡ 0
 unfolding wordAnswer firstNo codes filler halves value every
 two-letters = refl
 
--- two letters, and the place of the last one
+-- a word of two letters, and the place of the last one: 22
 pub last-letter : {before after : List ℕ} {answer bytes : ℕ} → 5002 ≤ length before
     → ReplacedPair (0 ∷ 2 ∷ 1 ∷ []) 1 before after answer bytes → answer ≡ 22
 unfolding codes halves value

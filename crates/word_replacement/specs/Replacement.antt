@@ -1,5 +1,5 @@
--- Pair replacement, for parts 4 and 3: the two letters at a place of a Y word become what the first row of Appendix A
--- that holds them says.
+-- Pair replacement, for parts 4 and 3: the first row of Appendix A that holds the two letters at a place of a Y word
+-- says what these letters become.
 use Prim.Native.Nat.{ℕ, _+_}
 use mathlib.Core.Path.{_≡_}
 use mathlib.Core.List.{List, [], _∷_, _++_}
@@ -15,7 +15,7 @@ unfoldable pub pairReplaced : ℕ → List ℕ → List ℕ
 pairReplaced place w =
     take place w ++ (replacement relations (getD w place 0) (getD w (place + 1) 0) ++ drop (place + 2) w)
 
--- 34, of the word with the pair replaced
+-- Has the word with the pair replaced at most 10,000 letters? 34
 abbrev pub grownQuestion : List ℕ → ℕ → List Question
 grownQuestion w place = (leb (length (pairReplaced place w)) maxLetters else 34) ∷ []
 

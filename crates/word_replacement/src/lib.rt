@@ -819,7 +819,8 @@ fn rows() -> [u8; 790]
     RELATIONS
 }
 
-// The number of entries before the first place that holds c and d; all but one if no place does.
+// The number of entries before the first place that holds c and d. If no place holds them, it is the number of all
+// entries less one.
 fn find(rows: &[u8], c: u8, d: u8) -> usize
     requires { ⌜ 0 < length (now rows) ⌝ }
     ensures { λ r. ⌜ (r ≡ before c d (now (rows .entry))) × (r < length (now (rows .entry))) ⌝ }

@@ -153,7 +153,7 @@ module _ (file : List ℕ) (n : ℕ) (z : Sized file n) (k : ℕ) (ek : k ≡ ro
   -- the first n codes of all groups are the codes of the file. `rows` are the generators with zero bytes after them
   module _ (rows : List ℕ)
       (er : rows ≡ overlaid (take (length (replicate {A = ℕ} 3750 0)) (generatorPart file)) (replicate 3750 0)) where
-    -- numbers and bytes more than the letters need
+    -- how many more numbers and bytes there are than the letters need
     abbrev more : ℕ
     more = 8 * k - n
 

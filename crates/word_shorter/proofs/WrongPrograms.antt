@@ -22,12 +22,12 @@ two = 0 ∷ 1 ∷ 16 ∷ []
 abbrev empty : List ℕ
 empty = 0 ∷ 0 ∷ []
 
--- of b1 and b2 it is the first
+-- b1 and b2 tie, so the first is given
 pub second-on-a-tie : {answer : ℕ} → Chose one two answer 2 → ⊥
 unfolding shorterAnswer firstNo granted every value codes halves filler
 second-on-a-tie c = let e : _≡_ {A = ℕ} 2 1 = c .which-is in omega arith
 
--- of b1 and the empty word it is the second
+-- the empty word is shorter than b1, so the second is given
 pub the-longer : {answer : ℕ} → Chose one empty answer 1 → ⊥
 unfolding shorterAnswer firstNo granted every value codes halves filler
 the-longer c = let e : _≡_ {A = ℕ} 1 2 = c .which-is in omega arith
@@ -37,7 +37,7 @@ pub second-asked-first : {which : ℕ} → Chose (0 ∷ []) (0 ∷ 1 ∷ []) 11 
 unfolding shorterAnswer firstNo
 second-asked-first c = let e : _≡_ {A = ℕ} 11 9 = c .answer-is in omega arith
 
--- the bytes of b2 on a tie with b1, and the bytes of b1 beside the empty word
+-- the bytes are not those of b2 on a tie with b1, and not those of b1 beside the empty word
 pub bytes-of-the-second : shorter one two ≡ two → ⊥
 unfolding shorter shorterAnswer firstNo granted every value codes halves filler equal
 bytes-of-the-second e = true-false (equal one two) (equal-of e) refl

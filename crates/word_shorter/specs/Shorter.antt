@@ -21,7 +21,7 @@ shorterAnswer a b = firstNo (shorterQuestions a b)
 abbrev pub ofShorter : {A : Type 0} → List ℕ → List ℕ → A → A → A
 ofShorter a b first second = cond (leb (length a) (length b)) first second
 
--- the answer, and which file it is: 1 the first, 2 the second, 0 on a refusal
+-- the answer, and which file is the shorter: 1 the first, 2 the second, 0 on a refusal
 pub record Chose (a b : List ℕ) (answer which : ℕ) : Type 0 where
   pub answer-is : answer ≡ shorterAnswer a b
   pub which-is : which ≡ granted (shorterAnswer a b) (ofShorter a b 1 2) 0

@@ -17,7 +17,7 @@ use Rattle.word_spread.specs.Spread.{rowsOf, those, wordsBetween, ending
 use Rattle.word_spread.proofs.SpreadLaws.{recurrence}
 use Rattle.word_spread.proofs.ListsOfFour.{listed, lists-listed}
 
--- a number of each list, added up after an exchange in each of them
+-- an exchange in each of the 24 lists does not change the sum of a number of each list
 exchanged-0 : (f : List ℕ → ℕ) → total (map (λ l. f (swapped 0 l)) listed) ≡ total (map f listed)
 unfolding total swapped
 exchanged-0 f = omega arith

@@ -10,8 +10,8 @@ use Rattle.base.specs.Lists.{every, tally, valuesFrom, equal, eachOnce}
 use Rattle.base.proofs.ListLaws.{and-left, and-right}
 use Rattle.base.proofs.QuestionLaws.{granted-zero}
 use Rattle.word.specs.Strands.{swapped, listAfter}
-use Rattle.word_spread.specs.Spread.{inFrontOf, rowsOf, those, wordsBetween, fourLabels, isFour, allLists, ending}
-use Rattle.word_spread.specs.Spread.{total, allEndings, Ends}
+use Rattle.word_spread.specs.Spread.{eachInFront, rowsOf, those, wordsBetween, fourLabels, isFour, allLists}
+use Rattle.word_spread.specs.Spread.{ending, total, allEndings, Ends}
 use Rattle.word_spread.specs.declared.Count.{Count}
 use Rattle.word_spread.proofs.ListsOfFour.{lists-listed}
 use Rattle.word_spread.proofs.SpreadAnswer.{passed-35}
@@ -47,7 +47,7 @@ total-alike f g e (l ∷ ls) t =
 
 -- of the 36 words of two letters, 12 bring the list back
 pub two-unmoved : ending 2 fourLabels ≡ 12
-unfolding ending wordsBetween those rowsOf inFrontOf listAfter swapped valuesFrom equal
+unfolding ending wordsBetween those rowsOf eachInFront listAfter swapped valuesFrom equal
 two-unmoved = refl
 
 -- ---- any operation
@@ -57,14 +57,14 @@ module _ (f : Operation) (meets : Meets f) where
     answers : f n labels .answer ≡ 0
     answers = meets n labels .answer-is ∙ passed-35 n labels h four
 
-    -- the number of such words
+    -- the operation gives the number of words that end in the list
     pub counts : f n labels .words ≡ ending n labels
     counts = meets n labels .words-is ∙ granted-zero (ending n labels) 0 (passed-35 n labels h four)
 
     no-other-parity : (n + inversions labels) % 2 ≡ 1 → f n labels .words ≡ 0
     no-other-parity odd = counts ∙ other-parity n labels four odd
 
-  -- all together
+  -- the numbers of the 24 lists together
   pub calls-together : (n : ℕ) → n ≤ 12 → total (map (λ l. f n l .words) allLists) ≡ 6 ^ n
   unfolding allEndings
   calls-together n h =

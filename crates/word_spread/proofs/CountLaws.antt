@@ -14,7 +14,7 @@ use Rattle.base.specs.Lists.{every, values, valuesFrom, equal}
 use Rattle.base.proofs.ListLaws.{length-values, getD-values, every-values}
 use Rattle.word.specs.Strands.{swapped}
 use Rattle.word_spread.specs.Spread.{ending, fourLabels, allLists, allEndings, listAt}
-use Rattle.word_spread.specs.steps.Counting.{Turned, Row, Rows, Counted, MoreAt, Few}
+use Rattle.word_spread.specs.steps.Counting.{SwapPlace, SwapPlaces, Rows, Counted, MoreAt, Few}
 use Rattle.word_spread.proofs.SpreadLaws.{ending-is, no-letters, recurrence, ending-le}
 use Rattle.word_spread.proofs.ListsOfFour.{listed, at-listed, twenty-four, rank, list-four, four-long}
 use Rattle.word_spread.proofs.ListsOfFour.{neighbour-below, neighbour-at}
@@ -25,11 +25,11 @@ use Rattle.word_spread.proofs.ListsOfFour.{neighbour-below, neighbour-a
 abbrev neighbour : ℕ → ℕ → ℕ
 neighbour g k = rank (swapped g (getD listed k []))
 
--- as the code has them: bytes from @ on, which is 64
+-- for each of the 24 lists this place, as the code has it: a byte from '@' on, which is 64
 unfoldable pub neighbourRow : ℕ → List ℕ
 neighbourRow g = values (λ k. 64 + neighbour g k) 24
 
-row-names : (g k : ℕ) → g < 3 → k < 24 → Turned g k (getD (neighbourRow g) k 0 % 32)
+row-names : (g k : ℕ) → g < 3 → k < 24 → SwapPlace g k (getD (neighbourRow g) k 0 % 32)
 unfolding neighbourRow
 row-names g k i h =
     let at : getD (neighbourRow g) k 0 ≡ 64 + rank (swapped g (listAt k)) =
@@ -39,7 +39,7 @@ row-names g k i h =
     let place : getD (neighbourRow g) k 0 % 32 ≡ rank (swapped g (listAt k)) = omega arith in
     record { within = omega arith; stands = ap listAt place ∙ neighbour-at g k i h }
 
-pub row-is : (g : ℕ) → g < 3 → Row g (neighbourRow g)
+pub row-is : (g : ℕ) → g < 3 → SwapPlaces g (neighbourRow g)
 unfolding neighbourRow
 row-is g i =
     record {
@@ -48,13 +48,13 @@ row-is g i =
             size = length-values (λ k. 64 + neighbour g k) 0 24;
             within = λ k h. row-names g k i h .within;
           };
-      turned = λ k h. row-names g k i h;
+      swaps = λ k h. row-names g k i h;
     }
 
--- the number that stands there
-turned-counts : {g k place n : ℕ} {counts : List ℕ} → Turned g k place → Counted n counts
+-- the number at the place of the list after an exchange is how many words end in that list
+swap-counts : {g k place n : ℕ} {counts : List ℕ} → SwapPlace g k place → Counted n counts
     → getD counts place 0 ≡ ending n (swapped g (listAt k))
-turned-counts {place = place} {n = n} t c = c .each place (t .within) ∙ ap (ending n) (t .stands)
+swap-counts {place = place} {n = n} t c = c .each place (t .within) ∙ ap (ending n) (t .stands)
 
 pub more-is : (counts : List ℕ) {b1 b2 b3 : List ℕ} → Rows b1 b2 b3 → (k : ℕ) → k < 24 → {p q r : ℕ}
     → p ≡ getD counts (getD b1 k 0 % 32) 0 → q ≡ getD counts (getD b2 k 0 % 32) 0
@@ -66,15 +66,15 @@ more-is counts rows k h a b c n all =
       a,
       b,
       c,
-      turned-counts (rows .first .turned k h) all,
-      turned-counts (rows .second .turned k h) all,
-      turned-counts (rows .third .turned k h) all,
+      swap-counts (rows .first .swaps k h) all,
+      swap-counts (rows .second .swaps k h) all,
+      swap-counts (rows .third .swaps k h) all,
       recurrence n (listAt k) (four-long (listAt k) (list-four k h)),
     )
 
 -- ---- the word without letters
 
--- it ends in the list 0 to 3, which is the first
+-- the word without letters ends in the list 0 to 3, which is the first
 abbrev pub begun : List ℕ
 begun = set (replicate 24 0) 0 1
 
@@ -98,7 +98,7 @@ counted-none =
 
 -- ---- how large the numbers are
 
--- no more words of fewer than 12 letters end in a list than 6 to the power of 11
+-- for a length below 12, at most 6 to the power of 11 words end in a list
 pub counted-few : (n : ℕ) (counts : List ℕ) → n < 12 → Counted n counts → Few counts
 counted-few n counts h c = record { size = c .size; few = λ k. few k (decLe 24 k) }
   where

@@ -1,6 +1,6 @@
--- As many words end in a list as in the inverse list, which has for each label its place: the same letters backwards
--- lead there. So a program that counts for the inverse list gives the right number. What makes it true: labels may be
--- renamed in both lists, and an exchange of two places of the first list is an exchange of two labels.
+-- As many words end in a list as in its inverse list, which has the place of each label: the letters of a word in
+-- reverse order lead there. So a program that counts for the inverse list gives the right number. The proof uses two
+-- facts. Labels may be renamed in both lists. An exchange of two places of the first list is an exchange of two labels.
 use Prim.Native.Nat.{ℕ, zero, suc, _+_, _*_, _<_}
 use mathlib.Core.Path.{_≡_, refl, sym, ap, ap₂, _∙_}
 use mathlib.Core.Bool.{Bool, true, cond, _&&_}
@@ -51,7 +51,7 @@ renamed-back : (g : ℕ) (l : List ℕ) → map (renamed g) (map (renamed g) l) 
 renamed-back g [] = refl
 renamed-back g (x ∷ l) = ap₂ (λ (y : ℕ) (m : List ℕ). y ∷ m) (renamed-twice g x) (renamed-back g l)
 
--- two lists are equal exactly if they are after renaming
+-- two labels, and two lists, are equal exactly if they are equal after renaming
 renamed-eqb : (g x y : ℕ) → eqb (renamed g x) (renamed g y) ≡ eqb x y
 renamed-eqb g x y = go (ℕ-discrete x y)
   where
@@ -106,7 +106,7 @@ by-labels n labels =
 
 -- ---- the inverse list
 
--- an exchange of places is one of labels of the inverse list
+-- an exchange of two places is an exchange of two labels of the inverse list
 turnRule : ℕ → ℕ → Bool
 turnRule g k = equal (inverseOf (swapped g (getD listed k []))) (map (renamed g) (inverseOf (getD listed k [])))
 

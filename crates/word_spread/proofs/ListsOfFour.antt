@@ -13,7 +13,7 @@ use Rattle.base.specs.Lists.{every, tally, values, valuesFrom, equal, eachOnce}
 use Rattle.base.proofs.ListLaws.{and-left, and-right, and-both, every-getD, every-values, equal-true, beq-true}
 use Rattle.base.proofs.ListLaws.{not-true-false, true-false, getD-values}
 use Rattle.word.specs.Strands.{swapped}
-use Rattle.word_spread.specs.Spread.{inFrontOf, rowsOf, those, isFour, allLists, listAt}
+use Rattle.word_spread.specs.Spread.{eachInFront, rowsOf, those, isFour, allLists, listAt}
 use Rattle.word_spread.specs.steps.Counting.{allSmall, allDiffer, smaller, placeOf}
 
 -- ---- the lists
@@ -29,7 +29,7 @@ listed =
     ∷ []
 
 pub lists-listed : allLists ≡ listed
-unfolding allLists those rowsOf inFrontOf valuesFrom eachOnce every tally
+unfolding allLists those rowsOf eachInFront valuesFrom eachOnce every tally
 lists-listed = refl
 
 pub twenty-four : length allLists ≡ 24
@@ -83,7 +83,7 @@ of-four t e a b c d small =
     c (ltb-true c 4 (and-right (ltb a 4 && ltb b 4) (ltb c 4) abc)))
     d (ltb-true d 4 (and-right (ltb a 4 && ltb b 4 && ltb c 4) (ltb d 4) small))
 
--- of labels below 4: each stands once exactly if no two are equal
+-- four labels below 4 stand once each exactly if no two are equal
 onceRule : ℕ → ℕ → ℕ → ℕ → Bool
 onceRule a b c d = Bool·beq (eachOnce 4 (a ∷ b ∷ c ∷ d ∷ [])) (allDiffer a b c d)
 
@@ -91,7 +91,7 @@ once-rules : everyFour onceRule ≡ true
 unfolding everyFour onceRule every valuesFrom eachOnce tally
 once-rules = refl
 
--- a list of four, if its labels stand in their places
+-- a list of 0 to 3, each once, stands at its place among the 24
 placeRule : ℕ → ℕ → ℕ → ℕ → Bool
 placeRule a b c d =
     not (eachOnce 4 (a ∷ b ∷ c ∷ d ∷ []))
@@ -239,7 +239,7 @@ module _ (k : ℕ) (h : k < 24) where
       let same = ap (λ (l : List ℕ). getD l j 0) (at-listed k) in
       omega (arith, label-below j i)
 
-  -- all four
+  -- all four labels of list k
   pub labels-at : getD (labelRow 0) k 0 % 16 ∷ getD (labelRow 1) k 0 % 16 ∷ getD (labelRow 2) k 0 % 16
       ∷ getD (labelRow 3) k 0 % 16 ∷ [] ≡ listAt k
   labels-at =

@@ -1,5 +1,5 @@
--- A letter changes the parity of a list, so a list of the other parity than the length ends no word. At an even length
--- that are 12 of the 24 lists, and at an odd length the other 12.
+-- A letter changes the parity of a list, so no word ends in a list whose parity is not that of the length. At an even
+-- length these are 12 of the 24 lists, and at an odd length the other 12.
 use Prim.Native.Nat.{ℕ, zero, suc, _+_, _%_, _<_}
 use mathlib.Core.Path.{_≡_, refl, sym, ap, _∙_}
 use mathlib.Core.Bool.{Bool, true, false, cond, _||_}
@@ -17,12 +17,12 @@ use Rattle.word_spread.proofs.SpreadLaws.{ending-is, no-letters, recurr
 use Rattle.word_spread.proofs.ListsOfFour.{listed, at-listed, rank, rank-below, rank-at, list-four, four-long}
 use Rattle.word_spread.proofs.ListsOfFour.{neighbour-below, neighbour-at}
 
--- how many two labels of a list stand in falling order
+-- how many pairs of labels of a list stand in falling order
 unfoldable pub inversions : List ℕ → ℕ
 inversions [] = 0
 inversions (a ∷ l) = tally (λ b. ltb b a) l + inversions l
 
--- an exchange changes whether their number is even
+-- an exchange changes whether the number of inversions is even
 turnRule : ℕ → ℕ → Bool
 turnRule g k = eqb ((inversions (swapped g (getD listed k [])) + inversions (getD listed k [])) % 2) 1
 
@@ -38,7 +38,7 @@ turns g k i h =
     (every-values (turnRule g) (λ k. k) 24
     (every-values (λ g. every (turnRule g) (values (λ k. k) 24)) (λ g. g) 3 turn-rules g i) k h))
 
--- the first list has none
+-- a list with an odd number of inversions is not the starting list
 startRule : ℕ → Bool
 startRule k =
     eqb (inversions (getD listed k []) % 2) 0 || eqb (cond (equal fourLabels (getD listed k [])) 1 0) 0
@@ -62,7 +62,7 @@ starts k h odd =
     one-zero : {m : ℕ} → m ≡ 1 → m ≡ 0 → ⊥
     one-zero e z = omega arith
 
--- of the lists by their places
+-- no word ends in list k if its parity is not that of the length
 none-at : (n k : ℕ) → k < 24 → (n + inversions (listAt k)) % 2 ≡ 1 → ending n (listAt k) ≡ 0
 none-at zero k h odd = starts k h (omega arith)
 none-at (suc n) k h odd =
@@ -73,7 +73,7 @@ none-at (suc n) k h odd =
     let law = rw (add-one n) at (recurrence n (listAt k) (four-long (listAt k) (list-four k h))) in
     omega (arith, law, to 0 (omega arith), to 1 (omega arith), to 2 (omega arith))
 
--- a list of the other parity than the length
+-- no word ends in a list whose parity is not that of the length
 pub other-parity : (n : ℕ) (labels : List ℕ) → isFour labels ≡ true → (n + inversions labels) % 2 ≡ 1
     → ending n labels ≡ 0
 other-parity n labels f odd =

@@ -12,7 +12,7 @@ use Rattle.base.specs.Lists.{valuesFrom, equal}
 use Rattle.base.proofs.ListLaws.{equal-true, equal-of, true-false}
 use Rattle.word.specs.Strands.{swapped, listAfter}
 use Rattle.word.proofs.StrandLaws.{length-swapped, swapped-twice}
-use Rattle.word_spread.specs.Spread.{inFrontOf, rowsOf, those, sixLetters, wordsOf, fourLabels, wordsBetween}
+use Rattle.word_spread.specs.Spread.{eachInFront, rowsOf, those, sixLetters, wordsOf, fourLabels, wordsBetween}
 use Rattle.word_spread.specs.Spread.{ending}
 
 -- ---- rows that pass a test
@@ -48,11 +48,11 @@ module _ (f : List ℕ → Bool) where
 
   -- the first of several numbers in front of rows, and the others
   passing-fronts : (rows : List (List ℕ)) (x : ℕ) (xs : List ℕ)
-      → passing f (inFrontOf rows (x ∷ xs)) ≡ passing (λ row. f (x ∷ row)) rows + passing f (inFrontOf rows xs)
-  unfolding inFrontOf
+      → passing f (eachInFront rows (x ∷ xs)) ≡ passing (λ row. f (x ∷ row)) rows + passing f (eachInFront rows xs)
+  unfolding eachInFront
   passing-fronts rows x xs =
-      passing-append (map (λ row. x ∷ row) rows) (inFrontOf rows xs)
-      ∙ ap (λ (n : ℕ). n + passing f (inFrontOf rows xs)) (passing-front x rows)
+      passing-append (map (λ row. x ∷ row) rows) (eachInFront rows xs)
+      ∙ ap (λ (n : ℕ). n + passing f (eachInFront rows xs)) (passing-front x rows)
 
   -- no more pass than there are
   passing-le : (rows : List (List ℕ)) → passing f rows ≤ length rows
@@ -79,7 +79,7 @@ unfolding those
 stays true = refl
 stays false = refl
 
--- one word has no letters, and it stays
+-- one word has no letters, and it leaves the list unchanged
 pub no-letters : (start labels : List ℕ) → between 0 start labels ≡ cond (equal start labels) 1 0
 unfolding between wordsBetween rowsOf those listAfter
 no-letters start labels = stays (equal start labels)
@@ -88,7 +88,7 @@ no-letters start labels = stays (equal start labels)
 pub first-letter : (n : ℕ) (start labels : List ℕ)
     → between (suc n) start labels
     ≡ 2 * (between n (swapped 0 start) labels + between n (swapped 1 start) labels + between n (swapped 2 start) labels)
-unfolding between wordsBetween rowsOf passing listAfter inFrontOf those
+unfolding between wordsBetween rowsOf passing listAfter eachInFront those
 first-letter n start labels =
     let f : List ℕ → Bool = λ (w : List ℕ). equal (listAfter start w) labels in
     let rows = wordsOf n in
@@ -168,13 +168,13 @@ recurrence n labels l =
 
 -- ---- a bound
 
--- there are as many words as the letters allow
+-- there are 6 to the power n words of n letters
 all-words : (n : ℕ) → length (wordsOf n) ≡ 6 ^ n
-unfolding rowsOf inFrontOf
+unfolding rowsOf eachInFront
 all-words zero = refl
 all-words (suc n) = go (wordsOf n) (all-words n)
   where
-    go : (rows : List (List ℕ)) → length rows ≡ 6 ^ n → length (inFrontOf rows sixLetters) ≡ 6 ^ suc n
+    go : (rows : List (List ℕ)) → length rows ≡ 6 ^ n → length (eachInFront rows sixLetters) ≡ 6 ^ suc n
     go rows e = simp (length-append, length-map) (omega (arith, pow-suc 6 n))
 
 -- no more words end in a list than there are

@@ -1,5 +1,5 @@
--- Wrong counts are shut out by the contract, each by a witness: positive letters alone, words after free reduction, a
--- start from another list, a longer word taken, three labels or a label twice taken, and numbers of 16 bits.
+-- The contract shuts out wrong counts, each by a witness: positive letters alone, words after free reduction, a start
+-- from another list, a length over 12 accepted, three labels or a label twice accepted, and numbers of 16 bits.
 use Prim.Native.Nat.{ℕ, _*_, _≤_, _<_}
 use mathlib.Core.Path.{_≡_, refl, sym, _∙_}
 use mathlib.Core.Bool.{Bool, false, cond, _||_}
@@ -10,7 +10,7 @@ use Rattle.base.specs.Questions.{firstNo}
 use Rattle.base.specs.Lists.{every, tally, valuesFrom, equal, eachOnce}
 use Rattle.word.specs.Reduction.{inFront, reduced}
 use Rattle.word.specs.Strands.{swapped, listAfter}
-use Rattle.word_spread.specs.Spread.{inFrontOf, rowsOf, those, fourLabels, wordsBetween}
+use Rattle.word_spread.specs.Spread.{eachInFront, rowsOf, those, fourLabels, wordsBetween}
 use Rattle.word_spread.specs.Spread.{allLists, total, spreadQuestions}
 use Rattle.word_spread.proofs.ListsOfFour.{twenty-four}
 use Rattle.word_spread.proofs.SpreadAnswer.{too-long, no-list}
@@ -35,12 +35,12 @@ abbrev among : List ℕ → List (List ℕ) → Bool
 among row [] = false
 among row (r ∷ rows) = equal row r || among row rows
 
--- rows, those that stand again later left out
+-- the rows without those that stand again later
 abbrev different : List (List ℕ) → List (List ℕ)
 different [] = []
 different (row ∷ rows) = cond (among row rows) (different rows) (row ∷ different rows)
 
--- the different words that free reduction makes of them
+-- the different words that free reduction makes of all words
 abbrev afterReduction : Counting
 afterReduction n labels = length (different (map reduced (wordsBetween n fourLabels labels)))
 
@@ -51,11 +51,11 @@ startedElsewhere n labels = length (wordsBetween n (1 ∷ 0 ∷ 2 ∷ 3 ∷ []) 
 -- ---- none of them meets the contract
 
 module _ (f : Operation) (meets : Meets f) where
-  -- it gives what g gives, for lengths and lists that pass
+  -- f gives what g gives, for lengths and lists that pass
   abbrev Gives : Counting → Type 0
   Gives g = (n : ℕ) (labels : List ℕ) → firstNo (spreadQuestions n labels) ≡ 0 → f n labels .words ≡ g n labels
 
-  -- length 2, unmoved
+  -- for length 2 and the unmoved list, 12
   at-two : (g : Counting) → Gives g → 12 ≡ g 2 fourLabels
   unfolding firstNo eachOnce every tally valuesFrom
   at-two g gives =
@@ -65,22 +65,22 @@ module _ (f : Operation) (meets : Meets f) where
   fewer m h e = omega arith
 
   pub no-positive-alone : Gives positiveAlone → ⊥
-  unfolding those rowsOf inFrontOf listAfter swapped valuesFrom equal
+  unfolding those rowsOf eachInFront listAfter swapped valuesFrom equal
   no-positive-alone wrong = fewer 3 (omega arith) (at-two positiveAlone wrong)
 
   pub no-reduced-alone : Gives reducedAlone → ⊥
-  unfolding those rowsOf inFrontOf wordsBetween listAfter swapped valuesFrom equal reduced inFront
+  unfolding those rowsOf eachInFront wordsBetween listAfter swapped valuesFrom equal reduced inFront
   no-reduced-alone wrong = fewer 6 (omega arith) (at-two reducedAlone wrong)
 
   pub no-count-after-reduction : Gives afterReduction → ⊥
-  unfolding those rowsOf inFrontOf wordsBetween listAfter swapped valuesFrom equal reduced inFront
+  unfolding those rowsOf eachInFront wordsBetween listAfter swapped valuesFrom equal reduced inFront
   no-count-after-reduction wrong = fewer 7 (omega arith) (at-two afterReduction wrong)
 
   pub no-other-start : Gives startedElsewhere → ⊥
-  unfolding those rowsOf inFrontOf wordsBetween listAfter swapped valuesFrom equal
+  unfolding those rowsOf eachInFront wordsBetween listAfter swapped valuesFrom equal
   no-other-start wrong = fewer 0 (omega arith) (at-two startedElsewhere wrong)
 
-  -- 35 is no 0
+  -- if the question gives 35, f does not answer 0
   refuses : (n : ℕ) (labels : List ℕ) → firstNo (spreadQuestions n labels) ≡ 35 → f n labels .answer ≡ 0 → ⊥
   refuses n labels e z =
       let seen : firstNo (spreadQuestions n labels) ≡ 0 = sym (meets n labels .answer-is) ∙ z in omega arith

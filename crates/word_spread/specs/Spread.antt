@@ -13,14 +13,14 @@ use Rattle.word.specs.Strands.{listAfter}
 -- ---- rows of numbers
 
 -- each of some numbers in front of each of some rows
-unfoldable pub inFrontOf : List (List ℕ) → List ℕ → List (List ℕ)
-inFrontOf rows [] = []
-inFrontOf rows (x ∷ xs) = map (λ row. x ∷ row) rows ++ inFrontOf rows xs
+unfoldable pub eachInFront : List (List ℕ) → List ℕ → List (List ℕ)
+eachInFront rows [] = []
+eachInFront rows (x ∷ xs) = map (λ row. x ∷ row) rows ++ eachInFront rows xs
 
 -- all rows of n numbers from a list. The rows stand in increasing order if the list does
 unfoldable pub rowsOf : List ℕ → ℕ → List (List ℕ)
 rowsOf xs zero = [] ∷ []
-rowsOf xs (suc n) = inFrontOf (rowsOf xs n) xs
+rowsOf xs (suc n) = eachInFront (rowsOf xs n) xs
 
 -- the rows that pass a test
 unfoldable pub those : (List ℕ → Bool) → List (List ℕ) → List (List ℕ)
@@ -49,7 +49,7 @@ isFour labels = eqb (length labels) 4 && eachOnce 4 labels
 unfoldable pub allLists : List (List ℕ)
 allLists = those isFour (rowsOf fourLabels 4)
 
--- list k of them, counted from 0; past the last, no labels
+-- list k of the 24 lists, counted from 0; past the last list, no labels
 abbrev pub listAt : ℕ → List ℕ
 listAt k = getD allLists k []
 
@@ -76,15 +76,15 @@ pub record Ends (n : ℕ) (labels : List ℕ) (answer words : ℕ) : Type 0 wher
   pub answer-is : answer ≡ firstNo (spreadQuestions n labels)
   pub words-is : words ≡ granted (firstNo (spreadQuestions n labels)) (ending n labels) 0
 
--- for all 24 lists at once only the length is asked
+-- All 24 lists at once: is the length at most 12? 35
 abbrev pub lengthQuestions : ℕ → List Question
 lengthQuestions n = (leb n maxLength else 35) ∷ []
 
--- the numbers of the 24 lists
+-- how many words of a length end in each of the 24 lists
 unfoldable pub allEndings : ℕ → List ℕ
 allEndings n = map (ending n) allLists
 
--- numbers, all together
+-- the sum of numbers
 unfoldable pub total : List ℕ → ℕ
 total [] = 0
 total (x ∷ xs) = x + total xs

@@ -3,32 +3,32 @@
 ghost use Prim.Native.Nat.{_%_, _<_};
 ghost use mathlib.Core.Path.{_≡_};
 ghost use lib.ListN.{getD};
-ghost use Rattle.word_spread.specs.steps.Counting.{Places, Row, Rows, Few, MoreAt, OneMore};
+ghost use Rattle.word_spread.specs.steps.Counting.{Places, SwapPlaces, Rows, Few, MoreAt, OneMore};
 
 // For each of the 24 lists, in order, the place of the list that b1 makes of it. Each byte stands for a place: @ is the
 // first of the 24 lists, W the last. The low five bits of the byte are the place. Naming a row copies it, so a count
 // names it once.
 pub(crate) fn by_b1() -> [u8; 24]
-    ensures { λ r. ⌜ Row 0 r ⌝ }
+    ensures { λ r. ⌜ SwapPlaces 0 r ⌝ }
 {
     *b"FGLMRS@ANOTUBCHIVWDEJKPQ"
 }
 
 // For each of the 24 lists the place of the list that b2 makes of it.
 pub(crate) fn by_b2() -> [u8; 24]
-    ensures { λ r. ⌜ Row 1 r ⌝ }
+    ensures { λ r. ⌜ SwapPlaces 1 r ⌝ }
 {
     *b"BD@EACHJFKGINPLQMOTVRWSU"
 }
 
 // For each of the 24 lists the place of the list that b3 makes of it.
 pub(crate) fn by_b3() -> [u8; 24]
-    ensures { λ r. ⌜ Row 2 r ⌝ }
+    ensures { λ r. ⌜ SwapPlaces 2 r ⌝ }
 {
     *b"A@CBEDGFIHKJMLONQPSRUTWV"
 }
 
-// The number of the list that a letter makes of list k, by the letter's row.
+// The number of words that end in the list that a letter makes of list k, by the letter's row.
 fn number_of(counts: &[u32; 24], row: &[u8; 24], k: usize) -> u32
     requires { ⌜ Few (now counts) × Places (now row) × (k < 24) ⌝ }
     ensures { λ r. ⌜ r ≡ getD (now (counts .entry)) (getD (now (row .entry)) k 0 % 32) 0 ⌝ }
@@ -36,9 +36,9 @@ fn number_of(counts: &[u32; 24], row: &[u8; 24], k: usize) -> u32
     counts[(row[k] % 32) as usize]
 }
 
-// How many words with one more letter end in list k. Such a word ends there if the word without its last letter ends in
-// the list that this letter turns into list k, which is the list that it makes of list k. A letter and its inverse swap
-// the same places, so each of the three lists counts twice.
+// How many words with one more letter end in list k. Such a word without its last letter ends in the list that this
+// letter turns into list k. A letter swaps two places, so this list is also the list that the letter makes of list k. A
+// letter and its inverse swap the same places, so each of the three lists counts twice.
 fn more_at(counts: &[u32; 24], b1: &[u8; 24], b2: &[u8; 24], b3: &[u8; 24], k: usize) -> u32
     requires { ⌜ Few (now counts) × Rows (now b1) (now b2) (now b3) × (k < 24) ⌝ }
     ensures { λ r. ⌜ MoreAt (now (counts .entry)) k r ⌝ }

@@ -56,7 +56,7 @@ long-refused file h e = go (leb (lettersStated file) maxLetters) (sym (long-stor
     go true z = omega arith
     go false z = omega arith
 
--- 5,007 bytes are enough, and so is more
+-- 5,007 bytes or more are enough
 pub enough-of-stored : (n : ℕ) → 5006 < n → Enough n storedAnswer
 enough-of-stored n h = enough-long storedAnswer tooLong 2 5006 n (omega arith) h long-stored
 

@@ -1,8 +1,8 @@
 -- The contracts shut out wrong programs, each by an input on which it differs. Storing the seven letters of document
 -- 01's slip: a program that packs the low bit first, writes the generators before the signs, or gives a positive letter
--- the bit 1. Storing with an output of 5,002 bytes. Restoring: a program that takes the number 7 or filler that is not
--- zero, that does not hold the sizes to the letters or to the length, that asks for the sizes before 10, or for the
--- rows before the sizes.
+-- the bit 1. Storing any word: a program that accepts an output of 5,002 bytes. Restoring: a program that accepts the
+-- number 7 or filler that is not zero, that does not compare the sizes with the letters or with the length, that asks
+-- for the sizes before 10, or for the rows before the sizes.
 use Prim.Native.Nat.{ℕ, _≤_}
 use mathlib.Core.Path.{_≡_, refl, sym, ap, _∙_}
 use mathlib.Core.Bool.{false}
@@ -56,7 +56,7 @@ module _ {before after : List ℕ} {bytes : ℕ} (w : WroteStored seven before a
   unfolding equal
   generators-first = others _ refl
 
-  -- 1011010 and a zero bit
+  -- with 1 for a positive letter the signs are 1011010 and a zero bit
   pub one-for-positive : take bytes after ≡ sevenWith (180 ∷ 5 ∷ 57 ∷ 112 ∷ []) → ⊥
   unfolding equal
   one-for-positive = others _ refl

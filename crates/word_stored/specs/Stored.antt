@@ -60,7 +60,8 @@ signBytes file = value 256 (part 2 2 file)
 abbrev pub generatorBytes : List ℕ → ℕ
 generatorBytes file = value 256 (part 4 2 file)
 
--- the two rows, where the number of letters places them
+-- The bytes of the signs and of the generators, and the two rows that they hold. The number of letters decides where
+-- they stand.
 abbrev pub signPart : List ℕ → List ℕ
 signPart file = filePart (storedSizes (lettersStated file)) 3 file
 

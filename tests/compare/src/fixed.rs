@@ -64,13 +64,13 @@ impl Fixed {
         self
     }
 
-    /// The second number is this.
+    /// Expects this second number.
     pub fn second(mut self, number: i64) -> Fixed {
         self.expected.numbers[1] = number;
         self
     }
 
-    /// These bytes come back, or are what the lent pair then is.
+    /// Expects these bytes: those that are returned, or those of the lent pair after the call.
     pub fn bytes(self, bytes: Vec<u8>) -> Fixed {
         Fixed { expected: self.expected.bytes(bytes), ..self }
     }

@@ -105,11 +105,11 @@ pub enum Over {
     Nothing,
     /// The caller names the field.
     Named,
-    /// The length of the key that it takes tells it.
+    /// The length of the key decides.
     Key,
-    /// The length of the digest that it takes tells it.
+    /// The length of the digest decides.
     Digest,
-    /// The key that its shelf holds tells it, and without one the digest.
+    /// The key that the shelf holds decides. Without a key the digest decides.
     Held,
 }
 

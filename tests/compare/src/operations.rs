@@ -35,7 +35,7 @@ use reference::Field;
 
 use crate::operation::Op;
 
-/// All of them, in the order of `walnut.h`.
+/// All operations, in the order of `walnut.h`.
 pub const ALL: [Op; 30] = [
     &product::Product,
     &reciprocal::Reciprocal,
@@ -91,7 +91,7 @@ mod tests {
         assert_eq!(declared.collect::<Vec<_>>(), listed);
     }
 
-    /// The papers have the numbers 0 to 36, and each is some operation's.
+    /// The papers have the numbers 0 to 36, and each is an answer of some operation.
     #[test]
     fn every_number_is_given() {
         let given = |number: u8| ALL.iter().any(|operation| operation.facts().questions.contains(&number));

@@ -1,5 +1,6 @@
--- `arc_laying::lay` meets its contract. The loop's invariant: what is read and what is written are arcs with the
--- same start and other letters, and the plan has right places for what is read; or there is a refusal.
+-- `arc_laying::lay` meets its contract. The loop's invariant: the letters read and the letters written are arcs with
+-- the same start and the same other letters, and the plan has right places for the letters read; or the part was
+-- refused.
 use Prim.Native.Nat.{ℕ, _+_, _*_, _-_, _≤_, _<_}
 use mathlib.Core.Path.{_≡_, refl, _∙_}
 use mathlib.Core.Logic.{_⊎_, inl, inr, ⊎-elim}
@@ -7,7 +8,7 @@ use native.Mathlib.Omega.{arith}
 use borrow.Author.Needs.{needs}
 use lib.ListN.{length}
 use Rattle.arc_laying.specs.Plans.{PlacedAt}
-use Rattle.arc_laying.specs.steps.Laying.{Laid}
+use Rattle.arc_laying.specs.steps.Laying.{LaidSoFar}
 use Rattle.arc_laying.proofs.LayingLaws.{none-laid, relaid, both-parts}
 use Rattle.arc_laying.proofs.lay.Statement.{statement}
 use Rattle.arc_laying.proofs.lay.Tie as tie
@@ -18,7 +19,7 @@ Inv-loop part p under plan out₀ n s₀ out s =
     × (s .read ≤ n)
     × (length out ≡ length out₀)
     × ((s .written ≡ n + 1)
-    ⊎ ((s .written ≤ n) × Laid under p part out (s .read) (s .written) (s .old) (s .new)
+    ⊎ ((s .written ≤ n) × LaidSoFar under p part out (s .read) (s .written) (s .old) (s .new)
     × ((k : ℕ) → k < s .read → PlacedAt under p part plan k)))
 
 abbrev μ-loop : tie.MeasureT-loop

@@ -9,27 +9,27 @@ use Rattle.arc_laying.specs.declared.Laying.{Laying}
 use Rattle.braid_arcs.specs.Arcs.{Arc}
 use Rattle.arc_laying.specs.Plans.{PlacedAt}
 
--- what is read of the part, and what is written, are arcs with the same start and the same other letters
-pub record Laid (under : Bool) (p : ℕ) (part out : List ℕ) (read written old new : ℕ) : Type 0 where
+-- The letters read from the part and the letters written are arcs with the same start and the same other letters.
+pub record LaidSoFar (under : Bool) (p : ℕ) (part out : List ℕ) (read written old new : ℕ) : Type 0 where
   pub others : List ℕ
   pub was : Arc under p (take read part) old others
   pub is : Arc under p (take written out) new others
 
--- before a turn
-pub record Ready (under : Bool) (p : ℕ) (part out : List ℕ) (s : Laying) : Type 0 where
+-- what holds before a turn
+pub record BeforeTurn (under : Bool) (p : ℕ) (part out : List ℕ) (s : Laying) : Type 0 where
   pub reads : s .read ≤ length part
   pub writes : s .written ≤ length part
   pub room : length part ≤ length out
   pub few : length part < 65536
-  pub laid : Laid under p part out (s .read) (s .written) (s .old) (s .new)
+  pub laid : LaidSoFar under p part out (s .read) (s .written) (s .old) (s .new)
 
--- A turn leads from s to r. More is read or written than before, or the turn is refused. A refused part counts as one
--- letter longer than the old part.
-pub record Turned (under : Bool) (p : ℕ) (part out : List ℕ) (s r : Laying) : Type 0 where
+-- A turn leads from s to r, and more letters are read or written. After a refused turn `written` is one more than the
+-- length of the part.
+pub record AfterTurn (under : Bool) (p : ℕ) (part out : List ℕ) (s r : Laying) : Type 0 where
   pub reads : r .read ≤ length part
   pub further : s .read + s .written < r .read + r .written
   pub laid : (r .written ≡ length part + 1)
-      ⊎ ((r .written ≤ length part) × Laid under p part out (r .read) (r .written) (r .old) (r .new))
+      ⊎ ((r .written ≤ length part) × LaidSoFar under p part out (r .read) (r .written) (r .old) (r .new))
 
 -- If a turn is not refused, the plan has right places for the letters that the turn reads.
 abbrev pub Follows : Bool → ℕ → List ℕ → List ℕ → Laying → Laying → Type 0

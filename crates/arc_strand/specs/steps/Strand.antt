@@ -1,4 +1,4 @@
--- One letter and the strand. Only private contracts cite these definitions.
+-- One letter and the strand. Only contracts of functions that are no operation of the papers cite these definitions.
 use Prim.Native.Nat.{ℕ, _≤_, _<_}
 use mathlib.Core.Path.{_≡_}
 use mathlib.Core.Bool.{Bool, true}
@@ -12,7 +12,7 @@ pub record Passed (under : Bool) (x c r : ℕ) : Type 0 where
   pub place : r ≤ 7
   pub arc : (r ≡ x) ⊎ Arc under x (c ∷ []) r []
 
--- d is a letter of two other strands, which is c with the strand at x
+-- With the strand at place x, c is a letter of two other strands. With the strand at place 0 it would be the letter d.
 pub record IsOther (x c d : ℕ) : Type 0 where
   pub letter : isLetter d ≡ true
   pub later : 0 < generator d

@@ -1,5 +1,5 @@
 -- `desk_io::fill` meets its contract and ends. The invariant: the buffer keeps its length, and the bytes counted lie
--- within it. The measure is what is left of it.
+-- within it. The measure is the number of bytes of the buffer that are left.
 use Prim.Native.Nat.{_-_, _≤_}
 use mathlib.Core.Path.{_≡_, sym}
 use mathlib.Core.Bool.{false≢true}

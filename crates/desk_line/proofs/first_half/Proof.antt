@@ -11,7 +11,7 @@ use Rattle.desk_line.proofs.Enough.{enough-of-files}
 use Rattle.desk_line.proofs.first_half.Statement.{statement}
 use Rattle.desk_line.proofs.first_half.Tie as tie
 
--- the half of parts is the half of what these parts are
+-- key and digest may be replaced by equal lists
 half-of-parts : {key digest k d : List ℕ} {answer : ℕ} {half : Half} → key ≡ k → digest ≡ d
     → MakesHalf key digest answer half
     → MakesHalf k d answer half

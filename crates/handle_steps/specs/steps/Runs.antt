@@ -13,7 +13,7 @@ use Rattle.braid_handles.specs.Handles.{hasHandle, afterSteps, stepQuestions}
 use Rattle.handle_row.specs.steps.Gaps.{gapped, beginning, Tables}
 
 -- a row that holds a word of n letters, with room for any word
-pub record Lends (n : ℕ) (row : List ℕ) : Type 0 where
+pub record HoldsWord (n : ℕ) (row : List ℕ) : Type 0 where
   pub few : n ≤ 10000
   pub room : 10000 ≤ length row
   pub lettered : every isLetter (take n row) ≡ true
@@ -27,7 +27,7 @@ pub record Fresh (row latest before : List ℕ) : Type 0 where
 
 -- At most `limit` steps on the word that a row's first n codes hold. The row's first `letters` codes are then the new
 -- word, on a refusal the old word. `left` says whether a handle is left, and no on a refusal.
-pub record TakesOut (limit n : ℕ) (row row′ : List ℕ) (answer letters : ℕ) (left : Bool) : Type 0 where
+pub record StepsOnRow (limit n : ℕ) (row row′ : List ℕ) (answer letters : ℕ) (left : Bool) : Type 0 where
   pub answer-is : answer ≡ firstNo (stepQuestions limit (take n row))
   pub few : letters ≤ 10000
   pub word-is : take letters row′ ≡ granted answer (afterSteps limit (take n row)) (take n row)
@@ -48,11 +48,13 @@ pub record SameRun (m : ℕ) (v : List ℕ) (n : ℕ) (w : List ℕ) : Type 0 wh
   pub word-is : afterSteps m v ≡ afterSteps n w
   pub answer-is : firstNo (stepQuestions m v) ≡ firstNo (stepQuestions n w)
 
--- what is left to do: each step may leave a row that has all its codes after the gap
+-- The number that each turn lowers. It counts the codes after the gap and the steps that are left. A step counts for
+-- 10,002, because it may leave all codes of the row after the gap.
 abbrev pub work : ℕ → ℕ → ℕ
 work steps right = steps * 10002 + (10001 - right)
 
--- n steps on the word w have ended, in the row's codes around the gap. `stop` is 1 if a handle is left, and otherwise 0
+-- n steps on the word w have ended, and the codes around the gap are the word after them. `stop` is 1 if a handle is
+-- left, and otherwise 0.
 pub record Ended (n : ℕ) (w row : List ℕ) (left right stop : ℕ) : Type 0 where
   pub gap : left < right
   pub within : right ≤ 10001
@@ -60,8 +62,8 @@ pub record Ended (n : ℕ) (w row : List ℕ) (left right stop : ℕ) : Type 0 w
   pub word-is : gapped row left right ≡ afterSteps n w
   pub left-is : eqb stop 1 ≡ hasHandle (afterSteps n w)
 
--- One turn, of n steps on the word around a gap. `stop` is 0 if the turns go on, 1 if the limit is reached and a handle
--- is left, 32 if the step is refused.
+-- One turn on the word around a gap, with n steps left before the turn and `steps` left after it. `stop` is 0 if the
+-- turns go on, 1 if the limit is reached and a handle is left, 32 if the step is refused.
 pub record Turned (row : List ℕ) (left right n : ℕ) (row′ latest before : List ℕ) (left′ right′ steps stop : ℕ) : Type 0
   where
     pub goes : stop ≡ 0 → Gap row′ latest before left′ right′

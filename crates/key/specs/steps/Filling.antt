@@ -10,7 +10,7 @@ abbrev pub fileEntry : List ℕ → ℕ → ℕ
 fileEntry m k = entry m (k / 8) (k % 8)
 
 -- a matrix in which the first n entries are in their places, and zeros after them
-pub record Filled (es : List ℕ) (n : ℕ) (m : List ℕ) : Type 0 where
+pub record EntriesPlaced (es : List ℕ) (n : ℕ) (m : List ℕ) : Type 0 where
   pub size : length m ≡ 64
   pub placed : (k : ℕ) → k < n → fileEntry m k ≡ getD es k 0
   pub zeros : (k : ℕ) → n ≤ k → k < 64 → fileEntry m k ≡ 0
@@ -19,5 +19,5 @@ pub record Filled (es : List ℕ) (n : ℕ) (m : List ℕ) : Type 0 where
 -- places, then the entries up to the row's end are in their places.
 abbrev pub RowPut : List ℕ → ℕ → List ℕ → List ℕ → Type 0
 RowPut row r m after =
-    (es : List ℕ) → ((c : ℕ) → c < 8 → getD es (8 * r + c) 0 ≡ getD row c 0) → Filled es (8 * r) m
-    → Filled es (8 * (r + 1)) after
+    (es : List ℕ) → ((c : ℕ) → c < 8 → getD es (8 * r + c) 0 ≡ getD row c 0) → EntriesPlaced es (8 * r) m
+    → EntriesPlaced es (8 * (r + 1)) after

@@ -1,4 +1,4 @@
--- `letters::lines` is safe and ends: the place grows, at most to one more than the most letters.
+-- `letters::lines` is safe and ends: the place grows, up to one more than the greatest number of letters.
 use Prim.Native.Nat.{_≤_, _-_}
 use borrow.Author.Needs.{needs}
 use Rattle.letters.proofs.lines.Statement.{statement}

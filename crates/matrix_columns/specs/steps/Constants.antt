@@ -24,9 +24,9 @@ abbrev pub OverFields : ℕ → List ℕ → (Operations → List ℕ → Type 0
 OverFields bits cs P =
     (p : ℕ) → Degree bits p → (ts : List ℕ) → Constants (polynomials bits p) bits ts cs → P (polynomials bits p) ts
 
--- A step of the code that computes the constants. Only private contracts cite it. From place `at` on, the list holds
--- the products of a number with the first n powers of x. Before place `at` and from place `at + bits` on, the list is
--- unchanged
+-- A step of the code that computes the constants. Only contracts of functions that are no operation of the papers cite
+-- it. From place `at` on, the list holds the products of a number with the first n powers of x. Before place `at` and
+-- from place `at + bits` on, the list is unchanged
 pub record Filled (F : Operations) (bits number at n : ℕ) (before after : List ℕ) : Type 0 where
   pub size : length after ≡ length before
   pub bytes : Below 256 after

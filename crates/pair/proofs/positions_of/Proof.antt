@@ -17,7 +17,7 @@ use Rattle.word.specs.Strands.{lastPosition, inverseList}
 use Rattle.pair.proofs.positions_of.Statement.{statement}
 use Rattle.pair.proofs.positions_of.Tie as tie
 
--- the last position among one place more, which has the label, or another label
+-- the last position of a label among the first i + 1 places, if place i has the label, and if it has another
 here : (labels : List ℕ) (a i : ℕ) → getD labels i 0 ≡ a → lastPosition labels a (i + 1) ≡ i + 1
 unfolding lastPosition
 here labels a i e = rw (add-one i) (rw (eq-eqb (getD labels i 0) a e))
@@ -27,7 +27,7 @@ elsewhere : (labels : List ℕ) (a i : ℕ) → (getD labels i 0 ≡ a → ⊥)
 unfolding lastPosition
 elsewhere labels a i n = rw (add-one i) (rw (ne-eqb (getD labels i 0) a n))
 
--- label by label: the place gets its position, the other labels keep theirs
+-- the label at place i gets its position, and the other labels keep theirs
 stored : (labels positions : List ℕ) (i : ℕ) → length positions ≡ 8 → getD labels i 0 < 8
     → ((a : ℕ) → a < 8 → getD positions a 0 ≡ lastPosition labels a i)
     → (a : ℕ) → a < 8 → getD (set positions (getD labels i 0) (i + 1)) a 0 ≡ lastPosition labels a (i + 1)

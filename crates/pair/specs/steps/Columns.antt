@@ -22,8 +22,8 @@ use Rattle.pair.specs.Action.{Share, tValue, positiveShare, inverseShare
 abbrev pub heldPair : List ℕ → List ℕ → Pair
 heldPair columns labels = pairOf (columnsMatrix columns) labels
 
--- The names that stand at eight places of a list. The loop's labels are places of the list that the loop began with, so
--- the loop works for any list.
+-- The names that stand at eight places of a list. The loop holds such places instead of labels. They are places of the
+-- list that the loop began with, so the loop works for any list.
 unfoldable pub named : List ℕ → List ℕ → List ℕ
 named names places = values (λ k. getD names (getD places k 0) 0) 8
 
@@ -75,8 +75,8 @@ pub record Carried (bits : ℕ) (constants w columns labels columns′ labels′
   pub holds : Held bits constants columns′ labels′
   pub carries : OverFields bits constants (λ F ts. heldPair columns′ labels′ ≡ wordOn F ts w (heldPair columns labels))
 
--- What the first n packed letters leave. `WholeCarried` states what the letters of the first r bytes leave; under
--- sixteen of the n letters then remain.
+-- What the first n packed letters leave. `WholeCarried` states what the letters of the first r bytes leave; fewer than
+-- sixteen of the n letters are then left.
 abbrev pub PackedCarried : ℕ → ℕ → List ℕ → List ℕ → List ℕ → List ℕ → List ℕ → List ℕ → Type 0
 PackedCarried bits n part constants columns labels columns′ labels′ =
     Carried bits constants (take n (halves part)) columns labels columns′ labels′

@@ -37,7 +37,7 @@ returns c =
     let labels = c .before .before .before .before .before .args .labels .now in
     sym (order-refuted labels (every-refuted (λ x. ltb x 8) labels (l .i) (omega arith) (le-ltb _ _ (c .if1 .taken))))
 
--- a label's count is at most that of label 7
+-- one label adds at most as much to the number as label 7 does
 at-most : (k : ℕ) → k < 8 → 256 ^ k ≤ 72057594037927936
 at-most zero h = omega arith
 at-most (suc zero) h = omega arith

@@ -1,5 +1,5 @@
--- A run of one generator's letters, as what it does to three columns at once. These definitions are for the contracts
--- of functions that are no operation of the papers.
+-- What a run of letters of one generator does to three columns at once. These definitions are for the contracts of
+-- functions that are no operation of the papers.
 use Prim.Native.Nat.{ℕ, zero, suc, _+_, _*_, _-_, _<_}
 use mathlib.Core.Path.{_≡_}
 use mathlib.Core.List.{List}
@@ -17,12 +17,12 @@ abbrev pub shareOfGains : Operations → Gains → Share
 shareOfGains F n =
     record { before = λ x. F .mul (n .left) x; own = λ x. F .mul (n .own) x; after = λ x. F .mul (n .right) x }
 
--- no letter
+-- what a run of no letters does
 abbrev pub noGains : Gains
 noGains = record { left = 0; own = 1; right = 0 }
 
--- One more letter, which takes t: the column before gains t × the own column, the own column becomes t × itself, and
--- the column after gains the own column.
+-- A run with one more letter, which takes t: the column before gains t × the own column, the own column becomes t ×
+-- itself, and the column after gains the own column.
 unfoldable pub oneMore : Operations → ℕ → Gains → Gains
 oneMore F t n =
     record { left = F .add (n .left) (F .mul t (n .own)); own = F .mul t (n .own); right = F .add (n .right) (n .own) }
@@ -38,8 +38,9 @@ pub record ThreeMultiples (F : Operations) (bits : ℕ) (table : List ℕ) (at :
   pub own-there : Multiples F bits table (at + 8) (n .own)
   pub right-there : Multiples F bits table (at + 16) (n .right)
 
--- columns after a run with own column g, over every field of polynomials, for all numbers whose constants stand there
-pub record Raised (bits : ℕ) (table : List ℕ) (at g : ℕ) (columns columns′ : List ℕ) : Type 0 where
+-- columns after a run with own column g, over every field of polynomials, for all gains whose constants stand at place
+-- `at`
+pub record RunOnColumns (bits : ℕ) (table : List ℕ) (at g : ℕ) (columns columns′ : List ℕ) : Type 0 where
   pub nine : length columns′ ≡ 9
   pub matrix-is : (p : ℕ) → Degree bits p → (n : Gains) → ThreeMultiples (polynomials bits p) bits table at n
       → columnsMatrix columns′
@@ -51,7 +52,8 @@ ProductIs bits constants at number r =
     (p : ℕ) → Degree bits p → (t : ℕ) → Multiples (polynomials bits p) bits constants at t
     → r ≡ polynomials bits p .mul t number
 
--- r is one more letter, likewise
+-- r is the run n with one more letter, which takes the number whose constants stand at place `at`, over every field of
+-- polynomials
 abbrev pub OneMoreIs : ℕ → List ℕ → ℕ → Gains → Gains → Type 0
 OneMoreIs bits constants at n r =
     (p : ℕ) → Degree bits p → (t : ℕ) → Multiples (polynomials bits p) bits constants at t
@@ -64,7 +66,8 @@ pub record StoredThree (F : Operations) (bits at : ℕ) (n : Gains) (before afte
   pub there : ThreeMultiples F bits after at n
   pub elsewhere : (i : ℕ) → i < at → getD after i 0 ≡ getD before i 0
 
--- the k-th power of the square with own column 6 - 2 j, counted from the first, where label 7 stands in the next place
+-- What power k + 1 of level j does. Level j has the powers of the square of the generator with own column 6 - 2 j,
+-- where label 7 stands at the next place.
 abbrev pub levelGains : Operations → List ℕ → ℕ → ℕ → Gains
 levelGains F ts j k = powerGains F (getD ts (6 - 2 * j) 0) (getD ts 7 0) (suc k)
 

@@ -1,4 +1,4 @@
--- `shelf_charges::replace` meets its contract: the bytes are put at the front of what comes from the place on.
+-- `shelf_charges::replace` meets its contract: the bytes are stored from the place on.
 use borrow.Author.Needs.{needs}
 use Rattle.shelf.proofs.ReplacedLaws.{put-back}
 use Rattle.shelf_charges.proofs.replace.Statement.{statement}

@@ -7,7 +7,7 @@ use native.Mathlib.Nat.{add-zero, mul-zero, mod-eq-of-lt}
 use native.Mathlib.Omega.{arith}
 use lib.ListN.{length, take, set, length-set}
 use Rattle.base.specs.Lists.{valuesFrom}
-use Rattle.slip_digest.specs.steps.Runs.{stepped}
+use Rattle.slip_digest.specs.steps.Runs.{progression}
 use Rattle.slip_digest.proofs.RunLaws.{code-next, one-more}
 use Rattle.slip_digest.proofs.fill.Statement.{statement}
 use Rattle.slip_digest.proofs.fill.Tie as tie
@@ -17,7 +17,7 @@ Inv-loop codes₀ at n first step code₀ i₀ codes code i =
     (i ≤ n)
     × (length codes ≡ length codes₀)
     × (code ≡ (first + step * i) % 16)
-    × (take (at + i) codes ≡ take at codes₀ ++ stepped first step i)
+    × (take (at + i) codes ≡ take at codes₀ ++ progression first step i)
 
 abbrev μ-loop : tie.MeasureT-loop
 μ-loop codes₀ at n first step code₀ i₀ codes code i = n - i

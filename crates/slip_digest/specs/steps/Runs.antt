@@ -4,5 +4,5 @@ use mathlib.Core.List.{List}
 use Rattle.base.specs.Lists.{values}
 
 -- n codes, of which each is `step` more than the last, modulo 16. Only a private contract cites this definition.
-abbrev pub stepped : ℕ → ℕ → ℕ → List ℕ
-stepped first step n = values (λ i. (first + step * i) % 16) n
+abbrev pub progression : ℕ → ℕ → ℕ → List ℕ
+progression first step n = values (λ i. (first + step * i) % 16) n

@@ -28,8 +28,8 @@ abbrev pub powerRun : ℕ → List ℕ
 powerRun h = replicate (2 * powerOf h) (selected h - 1)
 
 -- the list at level l: that of the letters b7 down to b_(l+1), from the list 0 to 7
-unfoldable pub listAt : ℕ → List ℕ
-listAt l = listAfter inOrder (reverse (above l))
+unfoldable pub levelList : ℕ → List ℕ
+levelList l = listAfter inOrder (reverse (above l))
 
 -- a binary field of polynomials, T-values, their constants, and the constants of the powers
 pub record Setting (bits p : ℕ) (ts constants powers : List ℕ) : Type 0 where
@@ -42,7 +42,7 @@ pub record Setting (bits p : ℕ) (ts constants powers : List ℕ) : Type 0 wher
 abbrev pub CarriedFrom : ℕ → List ℕ → List ℕ → ℕ → List ℕ → List ℕ → List ℕ → List ℕ → List ℕ → Type 0
 CarriedFrom bits constants powers l w columns labels columns′ labels′ =
     (p : ℕ) (ts : List ℕ) → Setting bits p ts constants powers → GoodPair (polynomials bits p) (heldPair columns labels)
-    → labels ≡ listAt l
+    → labels ≡ levelList l
     → heldPair columns′ labels′ ≡ wordOn (polynomials bits p) ts w (heldPair columns labels)
 
 -- a half byte is multiplied in from level l

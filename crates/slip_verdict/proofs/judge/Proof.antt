@@ -1,5 +1,5 @@
--- `slip_verdict::judge` meets its contract: each refusal is that of its question, and where digest and word are
--- accepted the half of key and digest, and what the word reaches, decide.
+-- `slip_verdict::judge` meets its contract: each refusal is that of its question. If digest and word are accepted, the
+-- target of key and digest and the matrix that the word reaches decide.
 use Prim.Native.Nat.{ℕ}
 use mathlib.Core.Path.{_≡_, sym, ap, _∙_}
 use mathlib.Core.List.{List}

@@ -1,5 +1,5 @@
--- `slip_verdict::second_half` meets its contract: each refusal is that of its question, and where half and word are
--- accepted what the word reaches decides.
+-- `slip_verdict::second_half` meets its contract: each refusal is that of its question. If half and word are accepted,
+-- the matrix that the word reaches decides.
 use Prim.Native.Nat.{ℕ, _^_}
 use mathlib.Core.Path.{_≡_, sym, ap, _∙_}
 use mathlib.Core.List.{List, _∷_}

@@ -1,5 +1,4 @@
--- `word_crossing::all_crossings` meets its contract: the word's refusal, and where it is accepted the numbers of all
--- pairs.
+-- `word_crossing::all_crossings` meets its contract: the word's refusal, or the numbers of all pairs.
 use mathlib.Core.Path.{sym, _∙_}
 use borrow.Author.Needs.{needs}
 use Rattle.word_crossing.proofs.CrossingAnswer.{all-refused, all-answered}

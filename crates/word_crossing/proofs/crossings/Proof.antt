@@ -1,5 +1,5 @@
--- `word_crossing::crossings` meets its contract: the word's refusal, then 27, and where every question is passed the
--- signed number of the two labels.
+-- `word_crossing::crossings` meets its contract: the word's refusal, then 27, or the signed number of the two labels if
+-- every question is passed.
 use Prim.Native.Nat.{ℕ}
 use mathlib.Core.Path.{_≡_, sym, _∙_}
 use mathlib.Core.Bool.{true}

@@ -43,6 +43,6 @@ OneCounted c labels counts labels′ counts′ =
     (labels′ ≡ swapped (generator c) labels)
     × (counts′ ≡ set counts (slotOf labels c) (getD counts (slotOf labels c) 0 + 1))
 
--- the letters of a sign that find two labels, either way round
+-- how many letters of a sign find two labels, either way round
 abbrev pub finding : List ℕ → ℕ → ℕ → ℕ → ℕ
 finding counts sign a b = getD counts (slot sign a b) 0 + getD counts (slot sign b a) 0

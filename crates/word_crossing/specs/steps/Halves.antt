@@ -26,8 +26,8 @@ pub record Ready (first second middle : List ℕ) : Type 0 where
   pub strands : length middle ≡ 8
   pub order : isOrder middle ≡ true
 
--- The number of two labels in both tables: the generators that find them less the inverses. In the second table their
--- places in the middle list stand for them.
+-- How often the labels a and b cross, by both tables: the generators that find them less the inverses. The second table
+-- counts places, so p and q are the places of a and b in the middle list.
 pub record FoundOf (first second middle : List ℕ) (a b : ℕ) (number : ℤ) : Type 0 where
   pub p : ℕ
   pub q : ℕ

@@ -25,7 +25,7 @@ pub record Steps (run : List ℕ) (first step number : ℕ) : Type 0 where
   pub number-is : number ≡ length run
   pub letters-are : (i : ℕ) → i < number → codeAt first step i ≡ getD run i 0
 
--- what the entries of code c are, if its run has a first code, a step and a number
+-- the entries of code c are a run with this first code, this step and this number of letters
 pub record Row (table : List ℕ) (c first step number : ℕ) : Type 0 where
   pub number-there : getD table (8 * c + 7) 0 ≡ number
   pub letters-there : (i : ℕ) → i < 7 → getD table (8 * c + i) 0 ≡ codeAt first step i
@@ -39,8 +39,8 @@ unfoldable pub tableRun : List ℕ → ℕ → List ℕ
 tableRun table c = take (getD table (8 * c + 7) 0) (part (8 * c) 7 table)
 
 -- the table holds the runs of the codes below k, of at most seven letters each
-abbrev pub Holds : Bool → List ℕ → ℕ → List ℕ → Type 0
-Holds way parts k table =
+abbrev pub HoldsRuns : Bool → List ℕ → ℕ → List ℕ → Type 0
+HoldsRuns way parts k table =
     (c : ℕ) → c < k → (getD table (8 * c + 7) 0 ≤ 7) × (tableRun table c ≡ run way parts c)
 
 -- a table of sixteen runs, of at most seven letters each

@@ -18,8 +18,9 @@ MayCome n stack codes =
     × (every isLetter (take n stack) ≡ true)
     × (every isLetter codes ≡ true)
 
--- What a push of codes leaves: the first r codes are the freely reduced word of the n codes and the codes pushed. The
--- codes after place n do not change. Only private contracts cite it.
+-- What a push of at most one code leaves: the first r codes are the freely reduced word of the n codes and the code
+-- pushed. The codes after place n do not change. Only contracts of functions that are no operation of the papers cite
+-- it.
 abbrev pub Pushed : ℕ → List ℕ → List ℕ → List ℕ → ℕ → Type 0
 Pushed n codes before after r =
     (r ≤ n + 1)

@@ -17,7 +17,8 @@ unfoldable pub flat : List (List ℕ) → List ℕ
 flat [] = []
 flat (row ∷ rows) = row ++ (replicate (10 - length row) 15 ++ flat rows)
 
--- how many entries stand before the first place that holds c and d; all but one if no place does
+-- how many entries stand before the first place that holds c and d. If no place holds them, it is the number of all
+-- entries less one
 unfoldable pub before : ℕ → ℕ → List ℕ → ℕ
 before c d [] = 0
 before c d (x ∷ []) = 0
@@ -28,7 +29,7 @@ unfoldable pub filled : List ℕ → ℕ
 filled [] = 0
 filled (x ∷ l) = cond (eqb x 15) 0 (suc (filled l))
 
--- the inverses around the pair at entry k
+-- the inverse of what stands before entries k and k + 1 in their row, then the inverse of what stands after them
 abbrev pub aroundEntry : ℕ → List ℕ → List ℕ
 aroundEntry k l = inverted (part (k - k % 10) (k % 10) l) ++ inverted (part (k + 2) (filled (drop (k + 2) l)) l)
 

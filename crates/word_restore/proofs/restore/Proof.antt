@@ -50,7 +50,7 @@ agree c = sym (c .before .sizes-answer .ensures) ∙ c .if2 .left
 sizes : (c : tie.After-two-bytes) → Sized (file (at-2 (c .before))) (c .two-bytes .result)
 sizes c = sized (file (at-2 (c .before))) (agree (c .before)) (c .two-bytes .result) (c .two-bytes .ensures .0)
 
--- then the answer is that of the letters and of the filler
+-- if the sizes agree, the answer is that of the letters and of the filler
 answer : (c : tie.After-is-filled) → let s = at-2 (c .before .before) in
     firstNo (restoreQuestions (room s) (file s))
     ≡ cond (every isLetter (storedCodes (file s)) && c .is-filled .result) 0 29

@@ -13,7 +13,7 @@ pub record Sized (file : List ℕ) (n : ℕ) : Type 0 where
   pub few : n ≤ 10000
   pub size : length file ≡ 6 + rowBytes 1 n + rowBytes 3 n
 
--- the codes of groups of eight letters, from the signs in a byte a group and the generators in three
+-- The codes of groups of eight letters. The signs of a group are one byte, its generators are three bytes.
 unfoldable pub groupCodes : List ℕ → List ℕ → ℕ → List ℕ
 groupCodes signs generators groups =
     zipWith letterOf (digits 2 (8 * groups) (value 256 (take groups signs)))

@@ -1,5 +1,5 @@
--- `word_shorter::choose` meets its contract: the first file's refusal, then the second file's, and where both files are
--- accepted the number of the shorter file.
+-- `word_shorter::choose` meets its contract: the first file's refusal, then the second file's, or the number of the
+-- shorter file if both are accepted.
 use Prim.Native.Nat.{ℕ}
 use mathlib.Core.Path.{_≡_, sym, _∙_}
 use mathlib.Core.List.{List}

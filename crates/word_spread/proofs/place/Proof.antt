@@ -1,4 +1,5 @@
--- `word_spread::place` meets its contract: what is taken away is at most 1, and 1 only from a label over another.
+-- `word_spread::place` meets its contract: at most 1 is subtracted from a label, and only from a label that is over
+-- another.
 use Prim.Native.Nat.{ℕ, _+_, _-_, _*_, _≤_}
 use mathlib.Core.Path.{_≡_, refl, ap₂}
 use mathlib.Core.Bool.{Bool, true, false, cond}

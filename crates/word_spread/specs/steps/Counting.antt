@@ -26,7 +26,7 @@ abbrev pub placeOf : ℕ → ℕ → ℕ → ℕ → ℕ
 placeOf a b c d = 6 * a + 2 * (b - smaller a b) + smaller d c
 
 -- the place of the list in which the labels at places g and g + 1 of list k have changed places
-pub record Turned (g k place : ℕ) : Type 0 where
+pub record SwapPlace (g k place : ℕ) : Type 0 where
   pub within : place < 24
   pub stands : listAt place ≡ swapped g (listAt k)
 
@@ -36,31 +36,31 @@ pub record Places (row : List ℕ) : Type 0 where
   pub within : (k : ℕ) → k < 24 → getD row k 0 % 32 < 24
 
 -- for each of the 24 lists the place of the one that has the labels at places g and g + 1 exchanged
-pub record Row (g : ℕ) (row : List ℕ) : Type 0 where
+pub record SwapPlaces (g : ℕ) (row : List ℕ) : Type 0 where
   pub places : Places row
-  pub turned : (k : ℕ) → k < 24 → Turned g k (getD row k 0 % 32)
+  pub swaps : (k : ℕ) → k < 24 → SwapPlace g k (getD row k 0 % 32)
 
 -- the rows of b1, b2 and b3
 pub record Rows (b1 b2 b3 : List ℕ) : Type 0 where
-  pub first : Row 0 b1
-  pub second : Row 1 b2
-  pub third : Row 2 b3
+  pub first : SwapPlaces 0 b1
+  pub second : SwapPlaces 1 b2
+  pub third : SwapPlaces 2 b3
 
 -- for each of the 24 lists the number of words of n letters that end in it
 pub record Counted (n : ℕ) (counts : List ℕ) : Type 0 where
   pub size : length counts ≡ 24
   pub each : (k : ℕ) → k < 24 → getD counts k 0 ≡ ending n (listAt k)
 
--- the number of list k for words of one letter more, whatever the length of those counted
+-- `number` is how many words end in list k that are one letter longer than the words in `counts`
 abbrev pub MoreAt : List ℕ → ℕ → ℕ → Type 0
 MoreAt counts k number = (n : ℕ) → Counted n counts → number ≡ ending (n + 1) (listAt k)
 
--- all numbers for words of one letter more
+-- `more` has the numbers for words that are one letter longer than the words in `counts`
 abbrev pub OneMore : List ℕ → List ℕ → Type 0
 OneMore counts more = (n : ℕ) → Counted n counts → Counted (n + 1) more
 
--- 24 numbers, each at most 6 to the power of 11. (Past the end stands 0.) Then no sum for words of one letter more is
--- over 6 to the power of 12, which is 2,176,782,336 and fits 32 bits
+-- 24 numbers, each at most 6 to the power of 11. Past the end of the list `getD` gives 0. Then no sum for words of one
+-- letter more is over 6 to the power of 12, which is 2,176,782,336 and fits 32 bits.
 pub record Few (counts : List ℕ) : Type 0 where
   pub size : length counts ≡ 24
   pub few : (k : ℕ) → getD counts k 0 ≤ 6 ^ 11

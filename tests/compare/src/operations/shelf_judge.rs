@@ -119,7 +119,7 @@ fn charged(shelf: &[u8], charges: [usize; 2]) -> Vec<u8> {
 }
 
 /// The word file of this number of letters b1. Under a plain key it is no signature of zero bytes: its matrix has the
-/// determinant 1, and that of letters b7 has not.
+/// determinant 1, and the matrix of the digest's letters b7 has another determinant.
 fn ones(letters: usize) -> Vec<u8> {
     [(letters as u16).to_be_bytes().to_vec(), vec![0; letters.div_ceil(2)]].concat()
 }
@@ -184,8 +184,8 @@ const LIMITS: [([usize; 2], usize, bool); 18] = [
     ([0, 65_535], 1, false),
 ];
 
-/// The letters are charged on 14. 36 comes before the verdict: a signature gets 36 too. It comes after the word's
-/// questions, the digest's and those of the place.
+/// The letters are charged on 14. Question 36 comes before the verdict, so a signature gets 36 too. It comes after the
+/// questions of the place, the digest and the word.
 fn limits() -> Vec<Fixed> {
     let mut cases = Vec::new();
     for (field, (charges, letters, admitted)) in Field::BOTH.into_iter().flat_map(|f| LIMITS.map(|l| (f, l)))

@@ -102,8 +102,8 @@ impl Operation for Shorten {
         cases
     }
 
-    /// Shortens the words of each class and counts their letters. Then shortens random words of middle size, before and after
-    /// free reduction.
+    /// Shortens the words of each class and counts their letters. Then shortens random words of middle size, before and
+    /// after free reduction.
     fn small(&self, run: &mut Run) -> Checked {
         for (class, percent, before, after) in SAVED {
             let saved = 100.0 - 100.0 * after[2] as f64 / before as f64;

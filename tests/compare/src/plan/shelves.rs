@@ -164,8 +164,9 @@ impl Run {
         Ok(())
     }
 
-    /// One publisher judges a long slip and goes on to a charge. The other then takes all letters that are left. After
-    /// that a slip of one letter more gets 36, and a slip without letters does not. A new round is started, by either.
+    /// One publisher judges a long slip, and then more slips up to a chosen charge. The other then takes all letters
+    /// that are left. After that a slip of one letter gets 36, and a slip without letters does not. Then either
+    /// publisher starts a new round.
     fn to_the_limits(&mut self, place: usize) -> Checked<History> {
         let mut history = History::default();
         let (first, second) = if place.is_multiple_of(2) { (1, 2) } else { (2, 1) };
@@ -186,7 +187,7 @@ impl Run {
         } else {
             self.judge(&mut history, second, 1, 14)?;
         }
-        // each has its own 10,000 letters, and the amounts over sum to 10,000
+        // each publisher has its own 10,000 letters, and the amounts over 10,000 sum to 10,000
         for publisher in [first, second] {
             self.judge(&mut history, publisher, 1, 36)?;
             self.judge(&mut history, publisher, 0, 14)?;

@@ -76,7 +76,7 @@ struct Desk<'a> {
     without_answer: usize,
 }
 
-/// The numbers of cases, by the field that the key tells and by answer.
+/// The numbers of cases, by the field of the key and by answer.
 #[derive(Default)]
 struct BySize([Counts; 2]);
 

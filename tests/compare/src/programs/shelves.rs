@@ -54,8 +54,8 @@ fn near_the_limits(slips: &[Slip]) -> Shelf {
     shelf
 }
 
-/// Runs one history from a shelf file with these bytes, or without them from a shelf near the limits of a round, with
-/// words of at least 17 letters.
+/// Runs one history from a shelf file with the bytes of `begun`. If `begun` is `None`, the history begins with a shelf
+/// near the limits of a round, and its words have at least 17 letters.
 fn history(
     program: &Path,
     folder: &Path,
@@ -100,7 +100,7 @@ fn history(
             "round" => shelf.round(publisher),
             _ => shelf.judge(publisher, number, &given[0], &given[1]),
         };
-        // on a refusal other than 14 a file without bytes stays as it is too
+        // on a refusal other than 14 the file stays as it is, even a file without bytes
         if answer == 0 || answer == 14 {
             bytes = shelf.bytes();
         }

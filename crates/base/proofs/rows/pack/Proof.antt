@@ -26,7 +26,7 @@ returns c =
     let n = length (a .row .now) in
     r .regroup .ensures
     ∙ (λ i. regrouped (a .row .now) 8 (p .power .ensures i) (s .pre .2 i) (a .bits) 256 (n / 8)
-    (f .filler-values .ensures i) 1)
+    (f .filler-values .ensures i))
     ∙ packed-groups (a .bits) n (a .row .now) (s .pre .1) refl
 
 pub pack-spec : {M : Type 1} → statement M

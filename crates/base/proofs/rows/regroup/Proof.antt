@@ -1,6 +1,6 @@
 -- `base::rows::regroup` meets its contract. The loop's invariant: the first k groups of the output are the digits of
 -- the number that the first k groups of the source write, and the rest of the output is unchanged.
-use Prim.Native.Nat.{ℕ, _+_, _-_, _*_, _/_, _≤_, _<_}
+use Prim.Native.Nat.{ℕ, _+_, _-_, _*_, _≤_, _<_}
 use mathlib.Core.Path.{_≡_, refl, ap, ap₂, _∙_}
 use mathlib.Core.List.{List, _++_}
 use native.Mathlib.Nat.{le-trans, lt-of-lt-of-le, le-mul-of-pos-right, mul-lt-mul-of-pos-right}
@@ -19,12 +19,12 @@ use Rattle.base.proofs.rows.regroup.Statement.{statement}
 use Rattle.base.proofs.rows.regroup.Tie as tie
 
 abbrev Inv-loop : tie.InvT-loop
-Inv-loop src m base dst₀ n to groups up down i₀ j₀ k₀ dst i j k =
+Inv-loop src m base dst₀ n to groups up i₀ j₀ k₀ dst i j k =
     (k ≤ groups) × (i ≡ k * m) × (j ≡ k * n) × (length dst ≡ length dst₀)
     × (dst ≡ overlaid (digits to j (value base (take i src))) dst₀)
 
 abbrev μ-loop : tie.MeasureT-loop
-μ-loop src m base dst₀ n to groups up down i₀ j₀ k₀ dst i j k = groups - k
+μ-loop src m base dst₀ n to groups up i₀ j₀ k₀ dst i j k = groups - k
 
 -- the source and the output have room for the next group
 room : (c : tie.In-loop Inv-loop μ-loop)
@@ -160,14 +160,14 @@ returns c =
     let src = a .src .now in
     let all : left e ≡ drop (l .i) src =
     take-all (length src - l .i) (drop (l .i) src) (omega (arith, length-drop (l .i) src)) in
-    last-back (a .base) (a .to) (l .i) (l .j) (q .number2 .result * a .up / a .down) src (a .dst .now) (l .dst)
+    last-back (a .base) (a .to) (l .i) (l .j) (q .number2 .result * a .up) src (a .dst .now) (l .dst)
     (h .spell2 .last .0)
     (omega (arith, ended e .1, s .pre .output)) (l .inv .3) (l .inv .4) (h .spell2 .ensures)
     ∙ ap (λ (v : ℕ). digits (a .to) (l .j) (value (a .base) (take (l .i) src))
-    ++ digits (a .to) (length (a .dst .now) - l .j) (v * a .up / a .down))
+    ++ digits (a .to) (length (a .dst .now) - l .j) (v * a .up))
     (q .number2 .ensures ∙ ap (value (a .base)) all)
     ∙ ap₂ (λ (i j : ℕ). digits (a .to) j (value (a .base) (take i src))
-    ++ digits (a .to) (length (a .dst .now) - j) (value (a .base) (drop i src) * a .up / a .down))
+    ++ digits (a .to) (length (a .dst .now) - j) (value (a .base) (drop i src) * a .up))
     (ended e .0) (ended e .1)
 
 pub regroup-spec : {M : Type 1} → statement M
@@ -198,7 +198,6 @@ regroup-spec =
     (λ c. omega (arith, room-2 c))
     (λ c. search needs)
     mul-spell
-    (λ c. c .before .before .before .before .before .before .before .pre .down-positive)
     (λ c κs. search needs)
     same-length
     returns)

@@ -25,7 +25,7 @@ module _ (c : tie.After-wide) where
   smaller-fits : length (decimal (c .wide .result)) ≤ 1
   smaller-fits = rw smaller-is (smaller-short (start .args .k) (start .pre .1))
 
--- where it ends
+-- where the first label ends
 first-end : (c : tie.After-decimal) → c .decimal .result ≤ start (c .before) .args .at + 2
 first-end c =
     omega (

@@ -15,7 +15,7 @@ module _ (c : tie.After-list-at) where
   small : (j : ℕ) → j < 4 → getD (c .list-at .result) j 0 < 10
   small j h = rw (c .list-at .ensures) (label-small (start .args .k) (start .pre .1) j h)
 
--- where the first two end, and the last two
+-- where the first two labels end, and where the last two end
 module _ (c : tie.After-two-labels) where
   abbrev listed : tie.After-list-at
   listed = c .before .before

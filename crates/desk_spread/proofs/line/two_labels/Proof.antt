@@ -20,7 +20,7 @@ module _ (c : tie.After-wide) where
   first-short : length (decimal (c .wide .result)) ≤ 1
   first-short = rw (c .wide .ensures) (label-short (start .args .a) (start .pre .1))
 
--- where it ends
+-- where the first label ends
 first-end : (c : tie.After-decimal) → c .decimal .result ≤ start (c .before) .args .at + 2
 first-end c =
     omega (

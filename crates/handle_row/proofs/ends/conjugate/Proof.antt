@@ -1,5 +1,5 @@
--- `handle_row::ends::conjugate` meets its contract. The loop's invariant: what stands for the letters from k on is
--- written, and the letters before k are as they were.
+-- `handle_row::ends::conjugate` meets its contract. The loop's invariant: what replaces the letters from k on is
+-- written, and the letters before k are unchanged.
 use Prim.Native.Nat.{ℕ, _-_}
 use mathlib.Core.Path.{_≡_, subst}
 use native.Mathlib.Omega.{arith}

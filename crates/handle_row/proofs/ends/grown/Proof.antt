@@ -1,4 +1,4 @@
--- `handle_row::ends::grown` meets its contract. The loop's invariant: the sum is how many letters stand for the first k
+-- `handle_row::ends::grown` meets its contract. The loop's invariant: the sum is how many letters replace the first k
 -- letters.
 use Prim.Native.Nat.{ℕ, _-_, _*_, _≤_}
 use mathlib.Core.Path.{_≡_, refl, sym, ap, _∙_}
@@ -7,7 +7,7 @@ use native.Mathlib.Omega.{arith}
 use borrow.Author.Needs.{needs}
 use lib.ListN.{length, take, getD, length-append}
 use lib.Seq.{take-all}
-use Rattle.braid_handles.specs.Handles.{replaced, conjugated}
+use Rattle.braid_handles.specs.Handles.{conjugatedLetter, conjugated}
 use Rattle.handle_row.proofs.EndLaws.{conjugated-more}
 use Rattle.handle_row.proofs.ends.grown.Statement.{statement}
 use Rattle.handle_row.proofs.ends.grown.Tie as tie
@@ -30,7 +30,7 @@ loop-again c =
     let part = a .part .now in (
       omega arith,
       sym (ap length (conjugated-more (a .a) part (l .k) (omega arith))
-          ∙ length-append (conjugated (a .a) (take (l .k) part)) (replaced (a .a) (getD part (l .k) 0))
+          ∙ length-append (conjugated (a .a) (take (l .k) part)) (conjugatedLetter (a .a) (getD part (l .k) 0))
           ∙ omega (arith, z .ensures .0, l .inv .1)),
       omega (arith, z .ensures .1),
     )

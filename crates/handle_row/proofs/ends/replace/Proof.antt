@@ -3,7 +3,7 @@ use mathlib.Core.Path.{ap}
 use native.Mathlib.Omega.{arith}
 use borrow.Author.Needs.{needs}
 use lib.ListN.{length, length-set}
-use Rattle.handle_row.proofs.EndLaws.{replaced-three, replaced-one, writes-three, writes-one}
+use Rattle.handle_row.proofs.EndLaws.{conjugated-three, conjugated-one, writes-three, writes-one}
 use Rattle.handle_row.proofs.ends.replace.Statement.{statement}
 use Rattle.handle_row.proofs.ends.replace.Tie as tie
 
@@ -23,13 +23,13 @@ returns-2 c =
 sub-from : tie.Need-sub-from
 sub-from c =
     let s = c .before .before .before in
-    omega (arith, s .pre .enough, ap length (replaced-three (s .args .a) (s .args .d) (c .before .if1 .taken)))
+    omega (arith, s .pre .enough, ap length (conjugated-three (s .args .a) (s .args .d) (c .before .if1 .taken)))
 
 -- there is room for one code
 sub-part-2 : tie.Need-sub-part-2
 sub-part-2 c =
     let s = c .before .before in
-    omega (arith, s .pre .enough, ap length (replaced-one (s .args .a) (s .args .d) (c .if1 .left)))
+    omega (arith, s .pre .enough, ap length (conjugated-one (s .args .a) (s .args .d) (c .if1 .left)))
 
 pub replace-spec : {M : Type 1} → statement M
 replace-spec =

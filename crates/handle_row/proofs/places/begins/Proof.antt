@@ -5,7 +5,7 @@ use native.Mathlib.Omega.{arith}
 use borrow.Author.Needs.{needs}
 use lib.ListN.{getD}
 use Rattle.word.specs.Letters.{generator}
-use Rattle.handle_row.specs.steps.Gaps.{slot, latestOf}
+use Rattle.handle_row.specs.steps.Gaps.{letterSlot, latestOf}
 use Rattle.handle_row.proofs.Beginnings.{own-inside, later-less, other-letter, handle-begins}
 use Rattle.handle_row.proofs.places.begins.Statement.{statement}
 use Rattle.handle_row.proofs.places.begins.Tie as tie
@@ -21,7 +21,7 @@ module _ (c : tie.After-wide2) where
   next : ℕ
   next = getD (start c .args .row .now) (start c .args .right) 0
 
-  own-is : c .before .before .wide .result ≡ latestOf (slot next) (start c .args .row .now) (start c .args .left)
+  own-is : c .before .before .wide .result ≡ latestOf (letterSlot next) (start c .args .row .now) (start c .args .left)
   unfolding next
   own-is =
       let k = at-slot c .slot-of in

@@ -1,5 +1,6 @@
 -- `handle_steps::turns::run` meets its contract. The loop's invariant: the row has a gap, no handle is before it, and
--- the steps that are left end as all steps on the word do. The measure: each step may make all codes unread again.
+-- the steps that are left end as all steps on the word do. The measure is `work`, because a step may put all codes
+-- after the gap again.
 use mathlib.Core.Path.{_≡_, refl, sym, _∙_}
 use native.Mathlib.Omega.{arith}
 use lib.ListN.{length}

@@ -11,14 +11,14 @@ use Rattle.base.specs.Digits.{part}
 use Rattle.base.specs.Packing.{Below, rowBytes}
 use Rattle.base.proofs.RowLaws.{length-unpacked}
 use Rattle.base.proofs.PackLaws.{group-next}
-use Rattle.key.specs.steps.Filling.{Filled}
-use Rattle.key.proofs.EntryLaws.{filled-none, whole-put}
+use Rattle.key.specs.steps.Filling.{EntriesPlaced}
+use Rattle.key.proofs.EntryLaws.{placed-none, whole-put}
 use Rattle.key_reader.proofs.RowsRead.{held, row-ends, row-at, last-at}
 use Rattle.key_reader.proofs.parts.matrix_at.Statement.{statement}
 use Rattle.key_reader.proofs.parts.matrix_at.Tie as tie
 
 abbrev Inv-loop : tie.InvT-loop
-Inv-loop file at bits m₀ end₀ r₀ m end r = (r ≤ 7) × (end ≡ at + r * bits) × Filled (held file at bits) (8 * r) m
+Inv-loop file at bits m₀ end₀ r₀ m end r = (r ≤ 7) × (end ≡ at + r * bits) × EntriesPlaced (held file at bits) (8 * r) m
 
 abbrev μ-loop : tie.MeasureT-loop
 μ-loop file at bits m₀ end₀ r₀ m end r = 7 - r
@@ -26,7 +26,7 @@ abbrev μ-loop : tie.MeasureT-loop
 loop-holds : tie.Need-loop-holds Inv-loop μ-loop
 loop-holds c =
     let a = c .before .args in
-    (omega arith, sym (ap (λ (k : ℕ). a .at + k) (zero-mul (a .bits)) ∙ add-zero _), filled-none _)
+    (omega arith, sym (ap (λ (k : ℕ). a .at + k) (zero-mul (a .bits)) ∙ add-zero _), placed-none _)
 
 -- the file holds bytes
 below : (k : tie.After-shared-slice-known Inv-loop μ-loop) → Below 256 (k .before .args .file .now)
@@ -98,7 +98,7 @@ returns c =
     ap (λ (x : ℕ). set (l .m) (c .place .result) x)
     (sym (last-at (a .file .now) (a .at) (a .bits) (below k) (s .pre .3) (l .end) some (s .pre .1) (ended o)))
     ∙ whole-put es (length-unpacked (a .bits) 57 (part (a .at) (rowBytes (a .bits) 57) (a .file .now))) (l .m)
-    (c .place .ensures .0) (subst (λ (r : ℕ). Filled es (8 * r) (l .m)) seven (l .inv .2))
+    (c .place .ensures .0) (subst (λ (r : ℕ). EntriesPlaced es (8 * r) (l .m)) seven (l .inv .2))
 
 pub matrix-at-spec : {M : Type 1} → statement M
 matrix-at-spec =

@@ -7,7 +7,7 @@ use native.Mathlib.Nat.{add-zero}
 use native.Mathlib.Omega.{arith}
 use borrow.Author.Needs.{needs}
 use lib.ListN.{length, getD, length-set}
-use Rattle.key.specs.steps.Filling.{Filled}
+use Rattle.key.specs.steps.Filling.{EntriesPlaced}
 use Rattle.key.proofs.EntryLaws.{row-more}
 use Rattle.key_reader.proofs.parts.put_row.Statement.{statement}
 use Rattle.key_reader.proofs.parts.put_row.Tie as tie
@@ -16,8 +16,8 @@ abbrev Inv-loop : tie.InvT-loop
 Inv-loop m₀ row r c₀ m c =
     (c ≤ 8)
     × (length m ≡ 64)
-    × ((es : List ℕ) → ((k : ℕ) → k < 8 → getD es (8 * r + k) 0 ≡ getD row k 0) → Filled es (8 * r) m₀
-    → Filled es (8 * r + c) m)
+    × ((es : List ℕ) → ((k : ℕ) → k < 8 → getD es (8 * r + k) 0 ≡ getD row k 0) → EntriesPlaced es (8 * r) m₀
+    → EntriesPlaced es (8 * r + c) m)
 
 abbrev μ-loop : tie.MeasureT-loop
 μ-loop m₀ row r c₀ m c = 8 - c
@@ -25,7 +25,7 @@ abbrev μ-loop : tie.MeasureT-loop
 loop-holds : tie.Need-loop-holds Inv-loop μ-loop
 loop-holds c =
     let a = c .args in
-    (omega arith, c .pre .0, λ es e f. subst (λ (k : ℕ). Filled es k (a .m .now)) (sym (add-zero (8 * a .r))) f)
+    (omega arith, c .pre .0, λ es e f. subst (λ (k : ℕ). EntriesPlaced es k (a .m .now)) (sym (add-zero (8 * a .r))) f)
 
 place-requires : tie.Need-place-requires Inv-loop μ-loop
 place-requires c κs = (omega arith, omega arith)
@@ -48,7 +48,7 @@ returns c es e f =
     let l = c .before .loop in
     let r = c .before .before .args .r in
     let all : 8 * r + l .c ≡ 8 * (r + 1) = omega arith in
-    subst (λ (k : ℕ). Filled es k (l .m)) all (l .inv .2 es e f)
+    subst (λ (k : ℕ). EntriesPlaced es k (l .m)) all (l .inv .2 es e f)
 
 pub put-row-spec : {M : Type 1} → statement M
 put-row-spec =

@@ -10,7 +10,7 @@ use Rattle.text.proofs.TextLaws.{added-byte, added-then}
 use Rattle.text.proofs.number.signed.Statement.{statement}
 use Rattle.text.proofs.number.signed.Tie as tie
 
--- the text, from 0 on and below
+-- the text of an integer from 0 on, and of an integer below 0
 from-zero : (c : tie.Then1) → signedText (c .before .before .before .args .n) ≡ decimal (c .before .size .result)
 from-zero c =
     let s = c .before .before .before in

@@ -1,5 +1,5 @@
--- `text::number::spell` meets its contract. The loop's invariant: from place i on stand the last digits of the number,
--- shown, and `rest` is what is left of it.
+-- `text::number::spell` meets its contract. The loop's invariant: the bytes from place i on show the last digits of the
+-- number, and `rest` is the number without these digits.
 use Prim.Native.Nat.{ℕ, suc, _+_, _-_, _/_, _^_}
 use mathlib.Core.Path.{_≡_, refl, ap, _∙_, subst}
 use native.Mathlib.Omega.{arith}

@@ -8,7 +8,7 @@ use mir.Facts.{toZ-ofZ}
 use Rattle.word_crossing.proofs.walk.number.Statement.{statement}
 use Rattle.word_crossing.proofs.walk.number.Tie as tie
 
--- the place of the second label, and before it that of the first, and the start
+-- the states after the place of the second label, after the place of the first label, and at the start
 abbrev second : tie.After-first2 → tie.After-place-of2
 second c = c .before .before .before
 

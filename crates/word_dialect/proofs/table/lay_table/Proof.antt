@@ -4,13 +4,13 @@ use mathlib.Core.Path.{_≡_, refl, ap, _∙_}
 use native.Mathlib.Omega.{arith}
 use borrow.Author.Count.{below-none}
 use lib.ListN.{length}
-use Rattle.word_dialect.specs.steps.Table.{Holds}
+use Rattle.word_dialect.specs.steps.Table.{HoldsRuns}
 use Rattle.word_dialect.proofs.table.lay_table.Statement.{statement}
 use Rattle.word_dialect.proofs.table.lay_table.Tie as tie
 
 abbrev Inv-loop : tie.InvT-loop
 Inv-loop table₀ way parts c₀ table c =
-    (c ≤ 16) × (length table ≡ length table₀) × Holds way parts c table
+    (c ≤ 16) × (length table ≡ length table₀) × HoldsRuns way parts c table
 
 abbrev μ-loop : tie.MeasureT-loop
 μ-loop table₀ way parts c₀ table c = 16 - c

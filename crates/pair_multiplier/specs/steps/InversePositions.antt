@@ -7,7 +7,7 @@ use lib.ListN.{length}
 use Rattle.word.specs.Strands.{areInverse}
 
 -- eight labels and eight positions that are inverse to each other
-pub record Placed (labels positions : List ℕ) : Type 0 where
+pub record InversePositions (labels positions : List ℕ) : Type 0 where
   pub strands : length labels ≡ 8
   pub places : length positions ≡ 8
   pub inverse : areInverse labels positions ≡ true
