@@ -967,8 +967,8 @@ static size_t shorten_by_arcs(uint8_t *w, size_t n, unsigned effort)
     return n;
 }
 
-/* The shorter of two words: arcs on the word, and arcs on the word without handles if that has fewer letters to begin
-   with. Letters swap and cancel before and after. Returns the bytes written, 0 on a refusal. */
+/* The shorter of two words: arcs on the word, and arcs on the word without handles unless that is refused. Letters swap
+   and cancel before and after. Returns the bytes written, 0 on a refusal. */
 size_t plain_shorten(const uint8_t *word, size_t wn, uint16_t effort, uint8_t *out, size_t len)
 {
     uint8_t first[LETTERS + 2], second[LETTERS + 2];
@@ -980,14 +980,13 @@ size_t plain_shorten(const uint8_t *word, size_t wn, uint16_t effort, uint8_t *o
         first[k] = second[k] = (uint8_t)code_at(word + 2, k);
     if (effort)
         m = take_handles(second, n, 65535, &left);
-    if (m != ROOM)
-        m = swap_cancel(second, m);
     n = swap_cancel(first, n);
-    bool tried = m < n;
     n = swap_cancel(first, shorten_by_arcs(first, n, effort));
-    if (tried)
+    if (m != ROOM) {
+        m = swap_cancel(second, m);
         m = swap_cancel(second, shorten_by_arcs(second, m, effort));
-    return tried && m < n ? write_codes(second, m, out) : write_codes(first, n, out);
+    }
+    return m < n ? write_codes(second, m, out) : write_codes(first, n, out);
 }
 
 /* The length of a run of letters and the letters, for each of the sixteen codes. */

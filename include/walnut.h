@@ -99,7 +99,7 @@ extern "C" {
 /* The version of this header and of its library. The first number is also the number after libwalnut.so. */
 #define WALNUT_VERSION_MAJOR 1
 #define WALNUT_VERSION_MINOR 1
-#define WALNUT_VERSION_PATCH 0
+#define WALNUT_VERSION_PATCH 1
 
 /* The version as one number, as walnut_version gives it: 10203 is 1.2.3. */
 #define WALNUT_VERSION (10000 * WALNUT_VERSION_MAJOR + 100 * WALNUT_VERSION_MINOR + WALNUT_VERSION_PATCH)
@@ -368,11 +368,15 @@ WALNUT_MUST_USE walnut_handles walnut_handle_reduce(const uint8_t *word, size_t 
    the same for the second, or 0. Changes nothing. */
 WALNUT_MUST_USE walnut_choice walnut_shorter(const uint8_t *a, size_t an, const uint8_t *b, size_t bn);
 
-/* Writes a shorter word file that means what the word means: it carries every pair where the word does, and every slip
-   gets the same verdict with it. It never has more letters than the word, and it is freely reduced. Which of the words
-   with this meaning it is, is not promised. The same word and effort always give the same bytes. The effort is the
-   number of steps of the search for each letter. 0 only swaps and cancels letters, 5 is usual, and more takes longer
-   and saves little. Answers: 15, 9, 10, 11, 12, 13, 0. Changes the reported bytes of out, on 0 only. */
+/* Writes a word file of the same braid: it carries every pair where the word does, every slip gets the same verdict
+   with it, and crossings stay. It is freely reduced and never has more letters than the word. The effort is the number
+   of steps of the search for each letter, so the time grows with letters times effort; 5 is usual. Effort 0 only swaps
+   and cancels: letter by letter, a letter and its inverse before it go if the generators of all letters between them
+   differ from theirs by at least 2, and the other letters keep their order. With an effort over 0 it is left free
+   which word of the braid it is. It then has no more letters than effort 0 leaves, and no more than effort 0 leaves of
+   what walnut_handle_reduce writes with the limit 65535, if that is not refused. More effort may leave more letters
+   than less. The same word and effort always give the same bytes. Answers: 15, 9, 10, 11, 12, 13, 0. Changes the
+   reported bytes of out, on 0 only. */
 WALNUT_MUST_USE walnut_written walnut_shorten(const uint8_t *word, size_t n, uint16_t effort, uint8_t *out, size_t len);
 
 /* The verdict: is the word a signature of the digest under the key? Answers: 1 to 7, 26, 8 to 14, or 0 for yes. Changes

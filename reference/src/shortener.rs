@@ -1,8 +1,9 @@
 //! Shortening by arcs. An arc is a strand along a part of the word, where the strand goes over at each of its
 //! crossings, or under at each. The shortener lifts the strand off and lays it again by a shortest way.
 //!
-//! The papers do not ask for this operation. The contract of the proved code does not say which word it returns. This
-//! module is written from the rules of the proved code's search, so that tests can compare the two words byte for byte.
+//! The papers do not ask for this operation. With an effort over 0 the contract of the proved code does not say which
+//! word it returns. This module is written from the rules of the proved code's search, so that tests can compare the two
+//! words byte for byte.
 //! It first splits a part of the word into the strand's two ends and the gaps of the other letters. It makes the plan
 //! from the ends and the gaps alone. Words are lists, and the new part is spliced in.
 
@@ -227,21 +228,18 @@ pub fn with_arcs(codes: &[u8], effort: u16) -> Vec<u8> {
 
 // ---- The operation ----
 
-/// Applies arcs to a word that [`swap_cancelled`] returned, and then swaps and cancels again.
-fn route(cancelled: &[u8], effort: u16) -> Vec<u8> {
-    swap_cancelled(&with_arcs(cancelled, effort))
+/// Swaps and cancels, applies arcs, and then swaps and cancels again.
+fn route(codes: &[u8], effort: u16) -> Vec<u8> {
+    swap_cancelled(&with_arcs(&swap_cancelled(codes), effort))
 }
 
 /// The shorter of two words. The first is the route of the word itself. The second is the route of the word after
-/// handle reduction. On a tie the result is the first. The second is tried only if the effort is not 0, handle
-/// reduction does not refuse the word, and its word has fewer letters than the word itself, both after swaps and
-/// cancellations.
+/// handle reduction. On a tie the result is the first. There is no second if the effort is 0 or handle reduction
+/// refuses the word.
 pub fn shortened(codes: &[u8], effort: u16) -> Vec<u8> {
-    let own = swap_cancelled(codes);
-    let first = route(&own, effort);
+    let first = route(codes, effort);
     let reduced = if effort > 0 { without_handles(codes) } else { None };
-    let other = reduced.map(|reduced| swap_cancelled(&reduced)).filter(|other| other.len() < own.len());
-    match other.map(|other| route(&other, effort)) {
+    match reduced.map(|reduced| route(&reduced, effort)) {
         Some(second) if second.len() < first.len() => second,
         _ => first,
     }

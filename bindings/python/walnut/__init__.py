@@ -18,7 +18,7 @@ import operator
 import os
 from typing import Any, Iterable, List, Optional, Tuple, TypeVar, Union
 
-__version__ = "1.1.0"
+__version__ = "1.1.1"
 
 __all__ = [
     "Answer", "Bytes", "DIGEST_BYTES", "Field", "GF256", "GF32", "Half", "KEY_BYTES", "Key", "LARGE_DIGEST_BYTES",
@@ -822,8 +822,8 @@ def shorter(a: Bytes, b: Bytes) -> bytes:
 
 def shorten(word: Bytes, effort: int = 5) -> bytes:
     """A word file that means what the word means, has at most as many letters, and is freely reduced. The effort is the
-    number of steps of the search for each letter: 0 only swaps and cancels. The result depends on word and effort
-    alone."""
+    number of steps of the search for each letter: 0 only swaps and cancels, and 5 is usual. With any effort it has at
+    most as many letters as effort 0 leaves. The result depends on word and effort alone."""
     out = (c_uint8 * WORD_BYTES)()
     steps = _whole(effort, 65535, "effort", "effort")
     written = _lib.walnut_shorten(*_slices(word=word), steps, out, WORD_BYTES)

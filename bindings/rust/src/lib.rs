@@ -302,7 +302,8 @@ pub fn shorter<'a>(a: &'a [u8], b: &'a [u8]) -> Result<&'a [u8], Refusal> {
 
 /// Writes a word file that means what the word means, has at most as many letters, and is freely reduced; gives the part
 /// of the output that holds it. The effort is the number of steps of the search for each letter: 0 only swaps and
-/// cancels, and 5 is usual. The word written depends on word and effort alone.
+/// cancels, and 5 is usual. With any effort it has at most as many letters as effort 0 leaves. The word written depends
+/// on word and effort alone.
 pub fn shorten<'a>(word: &[u8], effort: u16, out: &'a mut [u8]) -> Result<&'a mut [u8], Refusal> {
     // SAFETY: see above.
     let file = unsafe { walnut_shorten(word.as_ptr(), word.len(), effort, out.as_mut_ptr(), out.len()) };

@@ -40,8 +40,8 @@ fn before(c: u8, under: bool) -> u8
     (c % 8 + 1) % 8
 }
 
-// One step: the longest arc through the letter at the place drawn is laid anew. The number drawn gives the place, over
-// or under, the end at which the plan begins, and the side taken at a tie.
+// One step: the longest arc through the letter at the place drawn is laid anew. The number drawn gives the place,
+// whether the arc goes over or under, the end at which the plan begins, and the side taken at a tie.
 fn one_step(
     codes: &mut [u8],
     n: usize,
@@ -67,7 +67,7 @@ fn one_step(
     relay(codes, n, b, e, p, under, plan, out)
 }
 
-// The search: as many steps as the effort says, for each letter.
+// The search. It makes `effort` steps for each letter that the word has at the start.
 pub fn search(codes: &mut [u8], n: usize, effort: u16) -> usize
     requires { ⌜ (n ≤ length (now codes)) × (n ≤ 10000) ⌝ }
     ensures { λ r. ⌜ Searched n (now (codes .entry)) (now (codes .exit)) r ⌝ }

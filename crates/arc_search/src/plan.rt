@@ -34,7 +34,7 @@ fn moved(c: u8, x: u8) -> u8
     x
 }
 
-// The letter that a pass comes to after j letters of n.
+// The place of the letter that a pass reads after j of n letters.
 fn turned(j: usize, n: usize, last_first: bool) -> usize
     requires { ⌜ j < n ⌝ }
     ensures { λ r. ⌜ r < n ⌝ }
@@ -64,8 +64,8 @@ fn distances(x: u8) -> [u8; 9] {
     steps
 }
 
-// The gap of a letter, and the side to which the strand gives way: twice the gap, and 1 more for the left side. The
-// steps still to come from the gap are then known. The answer is 16 for the strand's own letter.
+// The gap of a letter, and the side to which the strand gives way: twice the gap, and 1 more for the left side. Also
+// stores the number of steps still to come from the gap. The answer is 16 for the strand's own letter.
 fn side(c: u8, x: u8, coin: bool, steps: &mut [u8; 9]) -> u8
     requires { ⌜ x ≤ 7 ⌝ }
 {

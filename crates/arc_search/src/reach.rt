@@ -1,4 +1,4 @@
-// How far a strand goes over all others, or under all others, from a letter back and on.
+// How far a strand goes over all others, or under all others, backward and forward from a letter.
 ghost use Prim.Native.Nat.{_+_, _≤_, _<_};
 ghost use lib.ListN.{length};
 
@@ -40,7 +40,7 @@ fn lowest(k: usize) -> usize
     k - 256
 }
 
-// The highest place to which an arc may go on from place k of n letters.
+// The highest place to which an arc may go forward from place k of n letters.
 fn highest(k: usize, n: usize) -> usize
     requires { ⌜ (k ≤ n) × (k < 65536) ⌝ }
     ensures { λ r. ⌜ (k ≤ r) × (r ≤ k + 256) × (r ≤ n) ⌝ }
@@ -71,7 +71,7 @@ pub(crate) fn back(codes: &[u8], k: usize, x: u8, under: bool) -> Reach
     Reach { at, strand }
 }
 
-// Goes on from place k of a word of n codes, over at most 256 letters.
+// Goes forward from place k of a word of n codes, over at most 256 letters.
 pub(crate) fn on(codes: &[u8], n: usize, k: usize, x: u8, under: bool) -> Reach
     requires { ⌜ (k ≤ n) × (n ≤ length (now codes)) × (n < 65536) × (x ≤ 7) ⌝ }
     ensures { λ r. ⌜ (k ≤ r .at) × (r .at ≤ k + 256) × (r .at ≤ n) × (r .strand ≤ 7) ⌝ }

@@ -95,36 +95,39 @@ none-irreducible : Irreducible []
 none-irreducible k h = absurd (omega (arith, h))
 
 -- what shortening and rewriting make if a file could not be read, and if all could
-pub shortens-unread : {read : Bool} {key digest word : List ℕ} {made : Made} → read ≡ false → Bare false noAnswer made
-    → Shortens read key digest word made
+pub shortens-unread : {effort : ℕ} {read : Bool} {key digest word : List ℕ} {made : Made} → read ≡ false
+    → Bare false noAnswer made
+    → Shortens effort read key digest word made
 shortens-unread e b =
     record {
       new = [];
       makes = unread _ _ e b;
-      not-longer = omega arith;
+      saves = λ z. absurd (unanswered b z);
       irreducible = none-irreducible;
       keeps = λ z. absurd (unanswered b z);
       opens = λ z. absurd (unanswered b z);
     }
 
 -- a slip that is refused
-pub shortens-refused : {key digest word : List ℕ} {made : Made} → (verdict key digest word ≡ 0 → ⊥)
+pub shortens-refused : {effort : ℕ} {key digest word : List ℕ} {made : Made} → (verdict key digest word ≡ 0 → ⊥)
     → Bare true (verdict key digest word) made
-    → Shortens true key digest word made
+    → Shortens effort true key digest word made
 shortens-refused h b =
     record {
       new = [];
       makes = refused _ _ h b;
-      not-longer = omega arith;
+      saves = λ z. absurd (h (sym (b .answer-is) ∙ z));
       irreducible = none-irreducible;
       keeps = λ z. absurd (h (sym (b .answer-is) ∙ z));
       opens = λ z. absurd (h (sym (b .answer-is) ∙ z));
     }
 
-pub shortens-as : {read : Bool} {k d w key digest word : List ℕ} {made : Made} → read ≡ true → k ≡ key → d ≡ digest
+pub shortens-as : {effort : ℕ} {read : Bool} {k d w key digest word : List ℕ} {made : Made} → read ≡ true → k ≡ key
+    → d ≡ digest
     → w ≡ word
-    → Shortens true k d w made → Shortens read key digest word made
-shortens-as {made = made} e p q r s = transport (λ i. Shortens (sym e i) (p i) (q i) (r i) made) s
+    → Shortens effort true k d w made → Shortens effort read key digest word made
+shortens-as {effort = effort} {made = made} e p q r s =
+    transport (λ i. Shortens effort (sym e i) (p i) (q i) (r i) made) s
 
 pub rewrites-unread : {read : Bool} {word moves : List ℕ} {made : Made} → read ≡ false → Bare false noAnswer made
     → Rewrites read word moves made

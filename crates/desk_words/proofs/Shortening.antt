@@ -26,7 +26,7 @@ module _ (key digest word : List ℕ) (z : verdict key digest word ≡ 0) where
 
   -- what is made of the slip, by the shortener's contract. Its output of 5,006 bytes has room, so question 15 is passed
   module _ (made : Made) (r : made .read ≡ true)
-      (s : Shortened word (replicate 5006 0) (made .file) (made .answer) (made .bytes)) where
+      {effort : ℕ} (s : Shortened effort word (replicate 5006 0) (made .file) (made .answer) (made .bytes)) where
     made-new : MakesNew true (verdict key digest word) (wordFile (s .new)) made
     unfolding wordAnswer
     made-new = makes-as (opened-word ∙ sym z) (wrote-makes _ r (s .wrote) (passes 15 _ refl))
@@ -37,12 +37,12 @@ module _ (key digest word : List ℕ) (z : verdict key digest word ≡ 0) where
     made-means : SameMeaning word (take (made .bytes) (made .file))
     made-means = rw (made-file made-new made-answer) (s .means made-answer)
 
-    pub shortens-opened : Shortens true key digest word made
+    pub shortens-opened : Shortens effort true key digest word made
     shortens-opened =
         record {
           new = s .new;
           makes = made-new;
-          not-longer = s .not-longer made-answer;
+          saves = λ _. s .saves made-answer;
           irreducible = s .irreducible;
           keeps = λ _. made-means;
           opens = λ _. same-opens _ made-means;

@@ -1,5 +1,5 @@
 -- The verbs of the desk that make a new file: what they answer, what they write, and how large a buffer has to be.
-use Prim.Native.Nat.{ℕ, _≤_}
+use Prim.Native.Nat.{ℕ}
 use mathlib.Core.Path.{_≡_}
 use mathlib.Core.Bool.{Bool, true, cond}
 use mathlib.Core.List.{List, []}
@@ -13,6 +13,7 @@ use Rattle.word_stored.specs.Stored.{maxStored, storedFile, storedCodes, stored
 use Rattle.slip_verdict.specs.Verdict.{verdict}
 use Rattle.move_kinds.specs.Rewriting.{rewritten, rewriterQuestions}
 use Rattle.slip_meaning.specs.Meaning.{SameMeaning}
+use Rattle.word_shortener.specs.Shortener.{Saves}
 use Rattle.desk_words.specs.declared.Made.{Made}
 
 -- the bytes to write: the new file where every file could be read and the answer is 0, and otherwise none
@@ -37,11 +38,12 @@ shortFile word = wordFile (reduced (codes word))
 
 -- Shortening a slip gives the verdict's answer and the file of a new word. This word is not longer and opens the slip
 -- too.
-pub record Shortens (read : Bool) (key digest word : List ℕ) (made : Made) : Type 0 where
-  -- The letters of the new word. The contract leaves free which word it is. The next five lines hold of it.
+pub record Shortens (effort : ℕ) (read : Bool) (key digest word : List ℕ) (made : Made) : Type 0 where
+  -- The letters of the new word. With effort over 0 the contract leaves free which word it is. The next five lines hold
+  -- of it.
   pub new : List ℕ
   pub makes : MakesNew read (verdict key digest word) (wordFile new) made
-  pub not-longer : length new ≤ length (codes word)
+  pub saves : made .answer ≡ 0 → Saves effort (codes word) new
   pub irreducible : Irreducible new
   pub keeps : made .answer ≡ 0 → SameMeaning word (take (made .bytes) (made .file))
   pub opens : made .answer ≡ 0 → verdict key digest (take (made .bytes) (made .file)) ≡ 0

@@ -115,7 +115,7 @@ fn rewritten(word: &[u8], moves: &[u8]) -> Made
 fn short(word: &[u8], effort: u16) -> Made
     ensures { λ r.
         ⌜
-        (r .read ≡ true) × Shortened (now (word .entry)) (replicate 5006 0) (r .file) (r .answer) (r .bytes)
+        (r .read ≡ true) × Shortened effort (now (word .entry)) (replicate 5006 0) (r .file) (r .answer) (r .bytes)
         ⌝ }
 {
     let mut file = [0u8; word_store::MAX_STORED];
@@ -133,7 +133,7 @@ fn short(word: &[u8], effort: u16) -> Made
 // The word of a slip, made shorter if the slip opens. The new word is judged before it is given. No contract asks for
 // this second verdict, which is proved to be 0.
 fn shortened(key: &[u8], digest: &[u8], word: &[u8], effort: u16) -> Made
-    ensures { λ r. ⌜ Shortens true (now (key .entry)) (now (digest .entry)) (now (word .entry)) r ⌝ }
+    ensures { λ r. ⌜ Shortens effort true (now (key .entry)) (now (digest .entry)) (now (word .entry)) r ⌝ }
 {
     let answer = slip_verdict::verify(key, digest, word);
     if answer != 0 {
@@ -158,11 +158,11 @@ pub fn shorten(
     k: Got,
     d: Got,
     w: Got,
-    effort: u16,
+    n: u16,
 ) -> Made
     ensures { λ r.
         ⌜
-        Shortens (k .read && d .read && w .read) (take (k .bytes) (now (key .entry)))
+        Shortens n (k .read && d .read && w .read) (take (k .bytes) (now (key .entry)))
         (take (d .bytes) (now (digest .entry))) (take (w .bytes) (now (word .entry))) r
         ⌝ }
     ensures { λ _.
@@ -179,7 +179,7 @@ pub fn shorten(
     if !desk_line::all_read(k, d, w) {
         return Made::unread();
     }
-    shortened(k_read, d_read, w_read, effort)
+    shortened(k_read, d_read, w_read, n)
 }
 
 // Rewrites the word in a file by the move list in another file.

@@ -1,24 +1,21 @@
--- Laws of the letters among codes, and of two letters that cancel across letters that are far from them.
-use Prim.Native.Nat.{ℕ, zero, suc, _+_, _-_, _<_, suc-le-suc}
-use mathlib.Core.Path.{_≡_, refl, sym, ap, ap₂, subst, _∙_}
+-- Laws of the letters among codes, and of a letter behind them.
+use Prim.Native.Nat.{ℕ, zero, suc, _+_, _<_, suc-le-suc}
+use mathlib.Core.Path.{_≡_, refl, ap, subst, _∙_}
 use mathlib.Core.Bool.{Bool, true, false, cond, _||_, false≢true}
-use mathlib.Core.List.{List, [], _∷_, _++_, append-assoc, append-nil}
+use mathlib.Core.List.{List, [], _∷_, _++_}
 use native.Mathlib.Omega.{arith}
 use native.Mathlib.Nat.{zero-lt-suc}
 use native.Mathlib.Decide.{decLt}
 use borrow.Author.Tests.{le-leb}
 use lib.Dec.{leb}
-use lib.ListN.{length, take, drop, getD, set, length-append, length-drop}
-use lib.Seq.{split-at, set-at, length-take-le, getD-drop, getD-take}
+use lib.ListN.{length, getD, set}
 use Rattle.base.specs.Lists.{every}
 use Rattle.base.proofs.ListLaws.{and-left, and-right, and-both}
 use Rattle.word.specs.Letters.{isLetter, generator, inverse, far}
-use Rattle.word.proofs.LetterLaws.{Lettered, inverse-letter}
-use Rattle.braid_same.specs.SameBraid.{SameBraid}
-use Rattle.braid_same.proofs.Laws.{same-none, same-then, same-append}
-use Rattle.braid_same.proofs.Relations.{cancelled}
-use Rattle.braid_same.proofs.Turns.{far-passes}
+use Rattle.word.proofs.LetterLaws.{inverse-letter, inverse-generator}
+use Rattle.swap_cancel.specs.SwapCancel.{letterBehind}
 use Rattle.swap_cancel.specs.steps.Marking.{kept}
+use Rattle.swap_cancel.proofs.SwapCancelLaws.{behind-cases, own-near}
 
 -- ---- the letters among codes
 
@@ -48,25 +45,7 @@ pub kept-none : (c : ℕ) → isLetter c ≡ false → kept (c ∷ []) ≡ []
 unfolding kept
 kept-none c e = kept-mark c [] e
 
--- they are letters
-pub kept-lettered : (w : List ℕ) → Lettered (kept w)
-unfolding kept every
-kept-lettered [] = refl
-kept-lettered (c ∷ w) = go (isLetter c) refl (kept-lettered w)
-  where
-    go : (b : Bool) → isLetter c ≡ b → Lettered (kept w) → Lettered (cond b (c ∷ kept w) (kept w))
-    go true e h = and-both e h
-    go false e h = h
-
--- all codes of a word of letters are kept
-pub kept-all : (w : List ℕ) → Lettered w → kept w ≡ w
-unfolding kept every
-kept-all [] e = refl
-kept-all (c ∷ w) e =
-    kept-letter c w (and-left (isLetter c) (every isLetter w) e)
-    ∙ ap (λ (l : List ℕ). c ∷ l) (kept-all w (and-right (isLetter c) (every isLetter w) e))
-
--- if each letter among codes passes a test, the kept letters all do
+-- if each letter among codes passes a test, the kept letters all do, and back
 every-kept : (f : ℕ → Bool) (m : List ℕ)
     → ((j : ℕ) → j < length m → isLetter (getD m j 0) ≡ true → f (getD m j 0) ≡ true)
     → every f (kept m) ≡ true
@@ -77,6 +56,18 @@ every-kept f (c ∷ m) h = go (isLetter c) refl (every-kept f m (λ j l e. h (su
     go : (b : Bool) → isLetter c ≡ b → every f (kept m) ≡ true → every f (cond b (c ∷ kept m) (kept m)) ≡ true
     go true e r = and-both (h zero (zero-lt-suc (length m)) e) r
     go false e r = r
+
+kept-every : (f : ℕ → Bool) (m : List ℕ) → every f (kept m) ≡ true
+    → (j : ℕ) → j < length m → isLetter (getD m j 0) ≡ true → f (getD m j 0) ≡ true
+unfolding kept every
+kept-every f [] h j l e = absurd (omega arith)
+kept-every f (c ∷ m) h zero l e =
+    and-left (f c) (every f (kept m)) (subst (λ (v : List ℕ). every f v ≡ true) (kept-letter c m e) h)
+kept-every f (c ∷ m) h (suc j) l e = kept-every f m (go (isLetter c) h) j (omega arith) e
+  where
+    go : (b : Bool) → every f (cond b (c ∷ kept m) (kept m)) ≡ true → every f (kept m) ≡ true
+    go true t = and-right (f c) (every f (kept m)) t
+    go false t = t
 
 -- ---- letters that are far
 
@@ -101,75 +92,63 @@ far-from c d own below above = go (decLt (generator c) (generator d))
         or-right (leb (generator c + 2) (generator d)) (leb (generator d + 2) (generator c))
         (le-leb (generator d + 2) (generator c) (omega (arith, own, below)))
 
--- ---- a letter and its inverse go
+-- ---- a letter behind the letters among codes
 
--- c, letters that are far from c, and the inverse of c
-across : (c : ℕ) (m : List ℕ) → isLetter c ≡ true → Lettered m → every (far c) m ≡ true
-    → SameBraid (c ∷ (m ++ (inverse c ∷ []))) m
-across c m e l f =
-    same-then (same-append (far-passes c m e l f) (same-none (inverse c ∷ [])))
-    (subst (λ (x : List ℕ). SameBraid ((m ++ (c ∷ [])) ++ (inverse c ∷ [])) x) (append-nil m)
-    (subst (λ (x : List ℕ). SameBraid x (m ++ [])) (sym (append-assoc m (c ∷ []) (inverse c ∷ [])))
-    (same-append (same-none m) (cancelled c e))))
+module _ (c : ℕ) (letter : isLetter c ≡ true) where
+  -- place p holds the inverse of c, and each letter after it is far from c: the letter at place p goes
+  pub behind-goes : (w : List ℕ) (p : ℕ) → p < length w → getD w p 0 ≡ inverse c
+      → ((j : ℕ) → p < j → j < length w → isLetter (getD w j 0) ≡ true → far c (getD w j 0) ≡ true)
+      → letterBehind (kept w) c ≡ kept (set w p 15)
+  unfolding kept
+  behind-goes [] p l at f = absurd (omega arith)
+  behind-goes (d ∷ w) zero l at f =
+      let far-all = every-kept (far c) w (λ j b t. f (suc j) (omega arith) (omega arith) t) in
+      let first : isLetter d ≡ true = rw at (inverse-letter c letter) in
+      ap (λ (v : List ℕ). letterBehind v c) (kept-letter d w first)
+      ∙ behind-cases (λ v. v ≡ kept w) d (kept w) c (λ q t. refl) (λ n. absurd (n at far-all))
+  behind-goes (d ∷ w) (suc p) l at f =
+      go (isLetter d) (behind-goes w p (omega arith) at (λ j a b t. f (suc j) (omega arith) (omega arith) t))
+    where
+      near : every (far c) (kept w) ≡ true → ⊥
+      near t =
+          own-near c (inverse c) (inverse-generator c letter)
+          (subst (λ (x : ℕ). far c x ≡ true) at
+          (kept-every (far c) w t p (omega arith) (rw at (inverse-letter c letter))))
 
-module _ (a m r : List ℕ) (c : ℕ) (e : isLetter c ≡ true)
-    (f : (j : ℕ) → j < length m → isLetter (getD m j 0) ≡ true → far c (getD m j 0) ≡ true) where
-  -- the kept letters of a word with c and its inverse, and of the word with two marks for them
-  parted-same : SameBraid (kept (a ++ (c ∷ (m ++ (inverse c ∷ r))))) (kept (a ++ (15 ∷ (m ++ (15 ∷ r)))))
-  parted-same =
-      let with : kept (a ++ (c ∷ (m ++ (inverse c ∷ r)))) ≡ kept a ++ ((c ∷ (kept m ++ (inverse c ∷ []))) ++ kept r) =
-      kept-append a (c ∷ (m ++ (inverse c ∷ r)))
-      ∙ ap (λ (x : List ℕ). kept a ++ x)
-      (kept-letter c (m ++ (inverse c ∷ r)) e
-      ∙ ap (λ (x : List ℕ). c ∷ x)
-      (kept-append m (inverse c ∷ r)
-      ∙ ap (λ (x : List ℕ). kept m ++ x) (kept-letter (inverse c) r (inverse-letter c e))
-      ∙ sym (append-assoc (kept m) (inverse c ∷ []) (kept r)))) in
-      let without : kept (a ++ (15 ∷ (m ++ (15 ∷ r)))) ≡ kept a ++ (kept m ++ kept r) =
-      kept-append a (15 ∷ (m ++ (15 ∷ r)))
-      ∙ ap (λ (x : List ℕ). kept a ++ x)
-      (kept-mark 15 (m ++ (15 ∷ r)) refl
-      ∙ kept-append m (15 ∷ r)
-      ∙ ap (λ (x : List ℕ). kept m ++ x) (kept-mark 15 r refl)) in
-      rw (with, without)
-      (same-append (same-none (kept a))
-      (same-append (across c (kept m) e (kept-lettered m) (every-kept (far c) m f)) (same-none (kept r))))
+      go : (b : Bool) → letterBehind (kept w) c ≡ kept (set w p 15)
+          → letterBehind (cond b (d ∷ kept w) (kept w)) c ≡ cond b (d ∷ kept (set w p 15)) (kept (set w p 15))
+      go true rest =
+          behind-cases (λ v. v ≡ d ∷ kept (set w p 15)) d (kept w) c (λ q t. absurd (near t))
+          (λ n. ap (λ (v : List ℕ). d ∷ v) rest)
+      go false rest = rest
 
--- two stores
-sets-parted : (a m r : List ℕ) (c d p k : ℕ) → length a ≡ p → length a + suc (length m) ≡ k
-    → set (set (a ++ (c ∷ (m ++ (d ∷ r)))) p 15) k 15 ≡ a ++ (15 ∷ (m ++ (15 ∷ r)))
-sets-parted a m r c d p k e f =
-    ap (λ (l : List ℕ). set l k 15)
-    (set-at a c (m ++ (d ∷ r)) 15 p e ∙ sym (append-assoc a (15 ∷ m) (d ∷ r)))
-    ∙ set-at (a ++ (15 ∷ m)) d r 15 k (length-append a (15 ∷ m) ∙ f)
-    ∙ append-assoc a (15 ∷ m) (15 ∷ r)
+  -- each inverse of c has a letter after it that is not far from c: the letter c stays
+  pub behind-stays : (w : List ℕ)
+      → ((j : ℕ) → j < length w → getD w j 0 ≡ inverse c
+      → ((i : ℕ) → j < i → i < length w → isLetter (getD w i 0) ≡ true → far c (getD w i 0) ≡ true) → ⊥)
+      → letterBehind (kept w) c ≡ kept w ++ (c ∷ [])
+  unfolding kept letterBehind
+  behind-stays [] h = refl
+  behind-stays (d ∷ w) h =
+      go (isLetter d) (behind-stays w (λ j l e f. h (suc j) (omega arith) e (λ i a b t. later j i a b t f)))
+    where
+      later : (j i : ℕ) → suc j < i → i < length (d ∷ w) → isLetter (getD (d ∷ w) i 0) ≡ true
+          → ((i : ℕ) → j < i → i < length w → isLetter (getD w i 0) ≡ true → far c (getD w i 0) ≡ true)
+          → far c (getD (d ∷ w) i 0) ≡ true
+      later j zero a b t f = absurd (omega arith)
+      later j (suc i) a b t f = f i (omega arith) (omega arith) t
 
--- the letter at place p and its inverse at place k are marked
-pub marked-same : (w : List ℕ) (p k c : ℕ) → p < k → k < length w → isLetter c ≡ true → getD w p 0 ≡ c
-    → getD w k 0 ≡ inverse c
-    → ((j : ℕ) → p < j → j < k → isLetter (getD w j 0) ≡ true → far c (getD w j 0) ≡ true)
-    → SameBraid (kept w) (kept (set (set w p 15) k 15))
-marked-same w p k c h l e at-p at-k f =
-    let a = take p w in
-    let rest = drop (suc p) w in
-    let q : ℕ = k - suc p in
-    let m = take q rest in
-    let r = drop (suc q) rest in
-    let in-rest : q < length rest = omega (arith, length-drop (suc p) w) in
-    let long-a = length-take-le p w (omega arith) in
-    let long-m = length-take-le q rest (omega arith) in
-    let sum : suc p + q ≡ k = omega arith in
-    let at-q : getD rest q 0 ≡ inverse c = getD-drop (suc p) w q 0 ∙ ap (λ (j : ℕ). getD w j 0) sum ∙ at-k in
-    let whole : w ≡ a ++ (c ∷ (m ++ (inverse c ∷ r))) =
-    split-at w p 0 (omega arith)
-    ∙ ap₂ (λ (d : ℕ) (x : List ℕ). a ++ (d ∷ x)) at-p
-    (split-at rest q 0 in-rest ∙ ap (λ (d : ℕ). m ++ (d ∷ r)) at-q) in
-    let marks = sets-parted a m r c (inverse c) p k long-a (omega arith) in
-    let far-m : (j : ℕ) → j < length m → isLetter (getD m j 0) ≡ true → far c (getD m j 0) ≡ true =
-    λ j b t.
-    let at-j : getD m j 0 ≡ getD w (suc p + j) 0 =
-    getD-take q rest j 0 (omega arith) ∙ getD-drop (suc p) w j 0 in
-    ap (far c) at-j ∙ f (suc p + j) (omega arith) (omega arith) (ap isLetter (sym at-j) ∙ t) in
-    subst (λ (t : List ℕ). SameBraid (kept t) (kept (set (set t p 15) k 15))) (sym whole)
-    (subst (λ (t : List ℕ). SameBraid (kept (a ++ (c ∷ (m ++ (inverse c ∷ r))))) (kept t)) (sym marks)
-    (parted-same a m r c e far-m))
+      first : d ≡ inverse c → every (far c) (kept w) ≡ true → ⊥
+      first q t = h zero (omega arith) q after
+        where
+          after : (i : ℕ) → 0 < i → i < length (d ∷ w) → isLetter (getD (d ∷ w) i 0) ≡ true
+              → far c (getD (d ∷ w) i 0) ≡ true
+          after zero a b e = absurd (omega arith)
+          after (suc i) a b e = kept-every (far c) w t i (omega arith) e
+
+      go : (b : Bool) → letterBehind (kept w) c ≡ kept w ++ (c ∷ [])
+          → letterBehind (cond b (d ∷ kept w) (kept w)) c ≡ cond b (d ∷ kept w) (kept w) ++ (c ∷ [])
+      go true rest =
+          behind-cases (λ v. v ≡ d ∷ (kept w ++ (c ∷ []))) d (kept w) c (λ q t. absurd (first q t))
+          (λ n. ap (λ (v : List ℕ). d ∷ v) rest)
+      go false rest = rest

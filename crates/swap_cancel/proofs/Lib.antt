@@ -1,3 +1,4 @@
+pub mod SwapCancelLaws
 pub mod KeptLaws
 pub mod MarkingLaws
 pub mod PackingLaws

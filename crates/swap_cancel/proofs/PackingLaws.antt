@@ -6,19 +6,15 @@ use native.Mathlib.Omega.{arith}
 use native.Mathlib.Numerals.{add-one}
 use lib.ListN.{length, take, drop, getD}
 use lib.Seq.{take-suc, drop-drop, getD-drop}
-use Rattle.word.specs.Reduction.{reduced}
-use Rattle.word.proofs.ReductionLaws.{reduced-front}
 use Rattle.swap_cancel.specs.steps.Marking.{kept}
-use Rattle.swap_cancel.proofs.KeptLaws.{kept-append, kept-lettered}
+use Rattle.swap_cancel.proofs.KeptLaws.{kept-append}
 
 -- one more code
 pub next-kept : (w : List ℕ) (k : ℕ) → k < length w
-    → reduced (reduced (kept (take k w)) ++ kept (getD w k 0 ∷ [])) ≡ reduced (kept (take (k + 1) w))
+    → kept (take k w) ++ kept (getD w k 0 ∷ []) ≡ kept (take (k + 1) w)
 next-kept w k h =
-    reduced-front (kept (take k w)) (kept (getD w k 0 ∷ [])) (kept-lettered (take k w))
-    ∙ ap reduced
-    (sym (kept-append (take k w) (getD w k 0 ∷ []))
-    ∙ ap kept (sym (take-suc w k 0 h) ∙ ap (λ (m : ℕ). take m w) (sym (add-one k))))
+    sym (kept-append (take k w) (getD w k 0 ∷ []))
+    ∙ ap kept (sym (take-suc w k 0 h) ∙ ap (λ (m : ℕ). take m w) (sym (add-one k)))
 
 -- two rows that are the same from place a on are the same from any later place on
 pub same-on : (v w : List ℕ) (a b : ℕ) → a ≤ b → drop a v ≡ drop a w → drop b v ≡ drop b w

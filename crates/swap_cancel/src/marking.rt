@@ -1,4 +1,5 @@
-// The first pass: letters that cancel are marked. For each generator a row has the latest letter that is not marked.
+// The first pass: letters that cancel are marked. For each generator `last` has the place after
+// its latest letter that is not marked.
 use word::inverse;
 ghost use Prim.Native.Nat.{_+_, _-_, _%_, _≤_, _<_};
 ghost use mathlib.Core.Path.{_≡_};
@@ -7,8 +8,8 @@ ghost use mathlib.Core.Logic.{_⊎_};
 ghost use lib.ListN.{length, take, getD};
 ghost use Rattle.base.specs.Lists.{every};
 ghost use Rattle.word.specs.Letters.{isLetter};
-ghost use Rattle.braid_same.specs.SameBraid.{SameBraid};
-ghost use Rattle.swap_cancel.specs.steps.Marking.{kept, SameKept, Marked, Partner};
+ghost use Rattle.swap_cancel.specs.SwapCancel.{swapCancelled};
+ghost use Rattle.swap_cancel.specs.steps.Marking.{kept, Marked, OneRead, Partner, Alone};
 
 // The code that marks a letter. It is no letter.
 const MARK: u8 = 15;
@@ -22,7 +23,11 @@ fn wide(x: u16) -> usize
 // The place after the letter that cancels with c, or 0 if there is none.
 fn partner(codes: &[u8], last: &[u16], c: u8) -> usize
     requires { ⌜ (length (now last) ≡ 10) × (getD (now last) (c % 8 + 1) 0 ≤ length (now codes)) ⌝ }
-    ensures { λ r. ⌜ (r ≡ 0) ⊎ Partner (now (codes .entry)) (now (last .entry)) c r ⌝ }
+    ensures { λ r.
+        ⌜
+        ((r ≡ 0) × Alone (now (codes .entry)) (now (last .entry)) c)
+        ⊎ Partner (now (codes .entry)) (now (last .entry)) c r
+        ⌝ }
 {
     let g = (c % 8) as usize;
     let p = wide(last[g + 1]);
@@ -38,7 +43,7 @@ fn partner(codes: &[u8], last: &[u16], c: u8) -> usize
     p
 }
 
-// Marks the letter at place k and its partner before place p.
+// Marks the letter at place k and its partner at place p - 1.
 fn mark(codes: &mut [u8], n: usize, k: usize, p: usize, before: &[u16], last: &mut [u16])
     requires { ⌜
         Marked n (now codes) (now before) (now last) k × (k < n) × (p ≤ k)
@@ -47,7 +52,7 @@ fn mark(codes: &mut [u8], n: usize, k: usize, p: usize, before: &[u16], last: &m
     ensures { λ _.
         ⌜
         Marked n (now (codes .exit)) (now (before .entry)) (now (last .exit)) (k + 1)
-        × SameKept n (now (codes .entry)) (now (codes .exit))
+        × OneRead (now (codes .entry)) (now (codes .exit)) k
         ⌝ }
 {
     let g = (codes[k] % 8) as usize;
@@ -72,7 +77,7 @@ fn read_one(codes: &mut [u8], n: usize, k: usize, before: &mut [u16], last: &mut
     ensures { λ _.
         ⌜
         Marked n (now (codes .exit)) (now (before .exit)) (now (last .exit)) (k + 1)
-        × SameKept n (now (codes .entry)) (now (codes .exit))
+        × OneRead (now (codes .entry)) (now (codes .exit)) k
         ⌝ }
 {
     let p = partner(codes, last, codes[k]);
@@ -89,7 +94,7 @@ pub(crate) fn mark_all(codes: &mut [u8], n: usize, before: &mut [u16])
         (n ≤ 10000) × (n ≤ length (now codes)) × (n ≤ length (now before))
         × (every isLetter (take n (now codes)) ≡ true)
         ⌝ }
-    ensures { λ _. ⌜ SameBraid (take n (now (codes .entry))) (kept (take n (now (codes .exit)))) ⌝ }
+    ensures { λ _. ⌜ kept (take n (now (codes .exit))) ≡ swapCancelled (take n (now (codes .entry))) ⌝ }
 {
     let mut last = [0u16; 10];
     let mut k = 0;

@@ -9,7 +9,7 @@ use Rattle.slip_verdict.specs.declared.Half.{Half}
 
 -- the version of the library as one number: 10,000 for each major version, 100 for each minor one, 1 for each patch
 abbrev pub version : ℕ
-version = 10000 * 1 + 100 * 1 + 0
+version = 10000 * 1 + 100 * 1 + 1
 
 -- the key of its parts: whether the field is the larger one, the T-values, the pair Pub(S), the matrix of Pub(S')
 abbrev pub keyFrom : Bool → List ℕ → Pair → List ℕ → Key

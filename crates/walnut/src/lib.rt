@@ -68,7 +68,7 @@ pub struct HalvedForC {
 pub extern "C" fn walnut_version() -> u32
     ensures { λ r. ⌜ r ≡ version ⌝ }
 {
-    10100
+    10101
 }
 
 #[no_mangle]
@@ -269,7 +269,8 @@ pub extern "C" fn walnut_shorter(a: &[u8], b: &[u8]) -> Choice
 
 #[no_mangle]
 pub extern "C" fn walnut_shorten(word: &[u8], effort: u16, out: &mut [u8]) -> Written
-    ensures { λ r. ⌜ Shortened (now (word .entry)) (now (out .entry)) (now (out .exit)) (r .answer) (r .bytes) ⌝ }
+    ensures { λ r.
+        ⌜ Shortened effort (now (word .entry)) (now (out .entry)) (now (out .exit)) (r .answer) (r .bytes) ⌝ }
 {
     word_shortener::shorten_word(word, effort, out)
 }

@@ -1,3 +1,4 @@
 pub mod RouteLaws
 pub mod ShortenerLaws
 pub mod ShorteningKeepsMeaning
+pub mod WrongShorteners

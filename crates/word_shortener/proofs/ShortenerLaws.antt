@@ -1,23 +1,22 @@
 -- What shortening promises follows from a word that is the same braid: a refusal leaves the output, and otherwise the
 -- writer of words writes the new word.
 use Prim.Native.Nat.{ℕ, _≤_}
-use mathlib.Core.Path.{_≡_, refl, sym, ap, subst, _∙_}
+use mathlib.Core.Path.{_≡_, refl, sym, subst, _∙_}
 use mathlib.Core.List.{List, []}
 use native.Mathlib.Omega.{arith}
 use borrow.Author.Tests.{le-leb}
-use lib.ListN.{length, take, length-take}
-use lib.Seq.{length-take-le}
+use lib.ListN.{length, take}
 use Rattle.base.specs.Questions.{firstNo}
 use Rattle.base.specs.Lists.{every}
 use Rattle.base.proofs.QuestionLaws.{passes}
 use Rattle.word.specs.Words.{codes, wordQuestions, wordAnswer, WroteWord}
 use Rattle.word.proofs.ReadLaws.{accepted-word}
 use Rattle.word.proofs.WriteLaws.{wrote-refused, writable, wrote-same}
-use Rattle.braid_same.specs.SameBraid.{SameBraid}
 use Rattle.braid_same.proofs.Laws.{same-lettered}
 use Rattle.slip_meaning.proofs.SameBraids.{written-means}
-use Rattle.swap_cancel.specs.SwapCancel.{Cancelled}
+use Rattle.swap_cancel.proofs.SwapCancelLaws.{swapped-length}
 use Rattle.word_shortener.specs.Shortener.{shortenerQuestions, Shortened}
+use Rattle.word_shortener.specs.steps.Routes.{BothWays}
 
 module _ (word out : List ℕ) where
   -- if the output has room, the answer is that of the word's questions
@@ -26,10 +25,10 @@ module _ (word out : List ℕ) where
   past-room h = passes 15 (wordQuestions word) (le-leb 5002 (length out) h)
 
   -- a refusal leaves the output unchanged
-  pub not-shortened : {answer bytes : ℕ} (n : ℕ) → (answer ≡ n) × (bytes ≡ 0)
+  pub not-shortened : {effort answer bytes : ℕ} (n : ℕ) → (answer ≡ n) × (bytes ≡ 0)
       → firstNo (shortenerQuestions (length out) word) ≡ n
       → (n ≡ 0 → ⊥)
-      → Shortened word out out answer bytes
+      → Shortened effort word out out answer bytes
   unfolding every
   not-shortened n r e h =
       record {
@@ -37,24 +36,22 @@ module _ (word out : List ℕ) where
         wrote = wrote-refused _ _ out n r e h;
         lettered = refl;
         irreducible = λ k l s. omega arith;
-        not-longer = λ z. absurd (h (sym (r .0) ∙ z));
+        saves = λ z. absurd (h (sym (r .0) ∙ z));
         means = λ z. absurd (h (sym (r .0) ∙ z));
       }
 
   -- the word of a row is shortened and written
-  pub shortened : {answer bytes n r : ℕ} {row now after : List ℕ} → 5002 ≤ length out → wordAnswer word ≡ 0
-      → take n row ≡ codes word
-      → n ≤ length row
-      → Cancelled n row now r
+  pub shortened : {effort answer bytes r : ℕ} {old now after : List ℕ} → 5002 ≤ length out → wordAnswer word ≡ 0
+      → old ≡ codes word
+      → BothWays effort old now r
       → WroteWord (take r now) out after answer bytes
-      → Shortened word out after answer bytes
-  shortened {n = n} {r = r} {row = row} {now = now} room a is in-row c w =
-      let same : SameBraid (codes word) (take r now) =
-      subst (λ (v : List ℕ). SameBraid v (take r now)) is (c .same) in
+      → Shortened effort word out after answer bytes
+  shortened {effort = effort} {r = r} {now = now} room a is b w =
+      let ways : BothWays effort (codes word) now r = subst (λ (v : List ℕ). BothWays effort v now r) is b in
+      let same = ways .laid .same in
       let accepted = accepted-word word a in
-      let count : n ≡ length (codes word) = sym (length-take-le n row in-row) ∙ ap length is in
-      let fewer : length (take r now) ≤ length (codes word) = omega (arith, length-take r now, c .not-longer) in
-      let few : length (take r now) ≤ 10000 = omega (arith, accepted .count, accepted .few) in
+      let fewer = swapped-length (codes word) in
+      let few : length (take r now) ≤ 10000 = omega (arith, ways .saves .not-longer, accepted .count, accepted .few) in
       record {
         new = take r now;
         wrote =
@@ -63,7 +60,7 @@ module _ (word out : List ℕ) where
             ∙ sym (past-room room ∙ a))
             refl w;
         lettered = same-lettered same (accepted .lettered);
-        irreducible = c .irreducible;
-        not-longer = λ z. fewer;
+        irreducible = ways .laid .irreducible;
+        saves = λ z. ways .saves;
         means = λ z. written-means word (take r now) a same few;
       }

@@ -1,1 +1,2 @@
 pub mod Shortener
+pub mod steps

@@ -10,10 +10,11 @@ ghost use Rattle.word_shortener.specs.Shortener.{Shortened};
 
 mod routes; // routes.rt: the two ways to a shorter word
 
-// Shortening: 15, then the word. It writes a word with the same meaning and not more letters. `effort` is the number of
+// Shortening: 15, then the word. It writes a word with the same meaning and no more letters. `effort` is the number of
 // steps of the search for each letter. Effort 0 swaps and cancels letters, and searches nothing.
 pub fn shorten_word(word: &[u8], effort: u16, out: &mut [u8]) -> Written
-    ensures { λ r. ⌜ Shortened (now (word .entry)) (now (out .entry)) (now (out .exit)) (r .answer) (r .bytes) ⌝ }
+    ensures { λ r.
+        ⌜ Shortened effort (now (word .entry)) (now (out .entry)) (now (out .exit)) (r .answer) (r .bytes) ⌝ }
 {
     if out.len() < MAX_BYTES {
         return Written::refused(15);

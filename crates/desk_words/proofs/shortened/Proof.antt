@@ -33,7 +33,7 @@ module _ (c : tie.After-short) where
   answered : c .short .result .answer ≡ 0
   answered = made-answer key digest word opened _ (c .short .ensures .0) (c .short .ensures .1)
 
-  shortens : Shortens true key digest word (c .short .result)
+  shortens : Shortens (at .args .effort) true key digest word (c .short .result)
   shortens = shortens-opened key digest word opened _ (c .short .ensures .0) (c .short .ensures .1)
 
 -- a slip that is refused

@@ -1,25 +1,21 @@
 -- `swap_cancel::swap_cancel` meets its contract.
-use lib.ListN.{take}
-use Rattle.word.proofs.ReductionLaws.{reduced-irreducible}
-use Rattle.braid_same.proofs.Laws.{same-then}
-use Rattle.braid_same.proofs.Cancelling.{reduced-same}
-use Rattle.swap_cancel.specs.steps.Marking.{kept}
-use Rattle.swap_cancel.proofs.KeptLaws.{kept-lettered}
+use mathlib.Core.Path.{sym, ap, _∙_}
+use native.Mathlib.Omega.{arith}
+use lib.ListN.{length}
+use lib.Seq.{length-take-le}
 use borrow.Author.Needs.{needs}
 use Rattle.swap_cancel.proofs.swap_cancel.Statement.{statement}
 use Rattle.swap_cancel.proofs.swap_cancel.Tie as tie
 
 returns : tie.Need-returns
 returns c =
-    let n = c .before .before .before .before .before .before .before .before .before .before .before .args .n in
+    let b = c .before .before .before .before .before .before .before .before .before .before .before in
     let m = c .before .before .before .before .before .before .before .mark-all in
-    let p = c .before .before .pack-kept .ensures in
-    let w = kept (take n (m .last .0)) in
-    record {
-      not-longer = p .0;
-      same = rw (p .1) (same-then (m .ensures) (reduced-same w (kept-lettered _)));
-      irreducible = rw (p .1) (reduced-irreducible w);
-    }
+    let p = c .before .before .pack-kept in
+    let word = p .ensures .1 ∙ m .ensures in
+    let fits =
+    length-take-le (p .result) (p .last .0) (omega (arith, p .ensures .0, p .kept .0, m .kept .0, b .pre .1)) in
+    record { word-is = word; count-is = sym fits ∙ ap length word }
 
 pub swap-cancel-spec : {M : Type 1} → statement M
 swap-cancel-spec =

@@ -2,24 +2,27 @@
 use Prim.Native.Nat.{ℕ, _+_, _-_, _≤_, _<_}
 use mathlib.Core.Path.{_≡_}
 use mathlib.Core.Bool.{true, cond}
-use mathlib.Core.List.{List, [], _∷_}
-use lib.ListN.{length, take, getD}
+use mathlib.Core.List.{List, [], _∷_, _++_}
+use mathlib.Core.Logic.{_⊎_}
+use lib.ListN.{length, take, drop, getD}
 use Rattle.word.specs.Letters.{isLetter, generator, inverse}
 use Rattle.word.specs.Words.{maxLetters}
-use Rattle.braid_same.specs.SameBraid.{SameBraid}
+use Rattle.swap_cancel.specs.SwapCancel.{letterBehind}
 
 -- the letters among the codes. A mark is no letter
 unfoldable pub kept : List ℕ → List ℕ
 kept [] = []
 kept (c ∷ w) = cond (isLetter c) (c ∷ kept w) (kept w)
 
--- the letters among the first n codes are the same braid in both rows
-abbrev pub SameKept : ℕ → List ℕ → List ℕ → Type 0
-SameKept n before after = SameBraid (kept (take n before)) (kept (take n after))
+-- the code at place j is a letter of generator g
+abbrev pub HasLetter : List ℕ → ℕ → ℕ → Type 0
+HasLetter w g j = (isLetter (getD w j 0) ≡ true) × (generator (getD w j 0) ≡ g)
 
--- no letter of generator g stands from place a to place b
-abbrev pub Clear : List ℕ → ℕ → ℕ → ℕ → Type 0
-Clear w g a b = (j : ℕ) → a ≤ j → j < b → isLetter (getD w j 0) ≡ true → generator (getD w j 0) ≡ g → ⊥
+-- m is the place after the latest letter of generator g before place k, and 0 if there is none
+pub record Newest (w : List ℕ) (g m k : ℕ) : Type 0 where
+  pub read : m ≤ k
+  pub none-later : (j : ℕ) → m ≤ j → j < k → HasLetter w g j → ⊥
+  pub is-there : 0 < m → HasLetter w g (m - 1)
 
 -- The first k codes of a word of n codes were read. `last` has at g + 1 the place after the latest letter of generator
 -- g, and 0 if there is none. `before` has for each letter what `last` was before the letter was read.
@@ -28,10 +31,23 @@ pub record Marked (n : ℕ) (codes before last : List ℕ) (k : ℕ) : Type 0 wh
   pub in-row : n ≤ length codes
   pub room : n ≤ length before
   pub ten : length last ≡ 10
+  pub lowest : getD last 0 0 ≡ 0
+  pub highest : getD last 8 0 ≡ 0
   pub fresh : (j : ℕ) → k ≤ j → j < n → isLetter (getD codes j 0) ≡ true
-  pub latest : (g : ℕ) → g < 7 → (getD last (g + 1) 0 ≤ k) × Clear codes g (getD last (g + 1) 0) k
+  pub latest : (g : ℕ) → g < 7 → Newest codes g (getD last (g + 1) 0) k
   pub earlier : (p : ℕ) → p < k → isLetter (getD codes p 0) ≡ true
-      → (getD before p 0 ≤ p) × Clear codes (generator (getD codes p 0)) (getD before p 0) p
+      → Newest codes (generator (getD codes p 0)) (getD before p 0) p
+
+-- the letter at place k is read: it stands behind the letters kept so far, and no later code changes
+abbrev pub OneRead : List ℕ → List ℕ → ℕ → Type 0
+OneRead codes after k =
+    (kept (take (k + 1) after) ≡ letterBehind (kept (take k codes)) (getD codes k 0))
+    × (drop (k + 1) after ≡ drop (k + 1) codes)
+
+-- a code stands behind the first n codes if it is a letter, and no code after place n changes
+abbrev pub Packed : ℕ → ℕ → List ℕ → List ℕ → ℕ → Type 0
+Packed n c before after r =
+    (r ≤ n + 1) × (take r after ≡ take n before ++ kept (c ∷ [])) × (drop (n + 1) after ≡ drop (n + 1) before)
 
 -- place p - 1 holds the letter that cancels with c
 pub record Partner (codes last : List ℕ) (c p : ℕ) : Type 0 where
@@ -40,3 +56,11 @@ pub record Partner (codes last : List ℕ) (c p : ℕ) : Type 0 where
   pub below : getD last (generator c) 0 < p
   pub above : getD last (generator c + 2) 0 < p
   pub cancels : getD codes (p - 1) 0 ≡ inverse c
+
+-- No letter cancels with c: the latest letter of c's generator has one of a neighbouring generator after it, or is not
+-- the inverse of c.
+abbrev pub Alone : List ℕ → List ℕ → ℕ → Type 0
+Alone codes last c =
+    (getD last (generator c + 1) 0 ≤ getD last (generator c) 0)
+    ⊎ ((getD last (generator c + 1) 0 ≤ getD last (generator c + 2) 0)
+    ⊎ (getD codes (getD last (generator c + 1) 0 - 1) 0 ≡ inverse c → ⊥))

@@ -6,7 +6,7 @@ use mathlib.Core.List.{List}
 use native.Mathlib.Omega.{arith}
 use borrow.Author.Needs.{needs}
 use borrow.Author.Tests.{lt-leb}
-use lib.ListN.{length, take}
+use lib.ListN.{length, take, length-take}
 use lib.Seq.{length-take-le}
 use Rattle.base.specs.Lists.{every}
 use Rattle.base.proofs.QuestionLaws.{fails}
@@ -14,6 +14,7 @@ use Rattle.word.specs.Letters.{isLetter}
 use Rattle.word.specs.Words.{codes, wordQuestions, wordAnswer}
 use Rattle.word.proofs.ReadLaws.{accepted-word, count-few}
 use Rattle.word.proofs.UnpackedWord.{bytes-fit, unpacked}
+use Rattle.swap_cancel.proofs.SwapCancelLaws.{swapped-length}
 use Rattle.word_shortener.proofs.ShortenerLaws.{past-room, not-shortened, shortened}
 use Rattle.word_shortener.proofs.shorten_word.Statement.{statement}
 use Rattle.word_shortener.proofs.shorten_word.Tie as tie
@@ -55,7 +56,10 @@ few c =
 fits : (c : tie.After-shorten-codes) → c .shorten-codes .result ≤ length (c .shorten-codes .last .0)
 fits c =
     let u = c .before .before .before .before in
-    omega (arith, c .shorten-codes .ensures .not-longer, few u, c .shorten-codes .kept .0, u .unpack .kept .1 .0)
+    let row = u .unpack .last .1 .0 in
+    let fewer = swapped-length (take (letters u) row) in
+    let part = length-take (letters u) row in
+    omega (arith, c .shorten-codes .ensures .laid .not-longer, few u, c .shorten-codes .kept .0, u .unpack .kept .1 .0)
 
 returns : tie.Need-returns
 returns c =
@@ -102,8 +106,8 @@ returns-3 c =
     let u = r .before .before .before .before in
     let b = at-unpack u in
     let s = at-2 b in
-    shortened (word s) (out s) (b .before .before .if1 .left) (accepted b) (row-is u)
-    (omega (arith, few u, u .unpack .kept .1 .0)) (r .shorten-codes .ensures) (c .before .before .write-word .ensures)
+    shortened (word s) (out s) (b .before .before .if1 .left) (accepted b) (row-is u) (r .shorten-codes .ensures)
+    (c .before .before .write-word .ensures)
 
 pub shorten-word-spec : {M : Type 1} → statement M
 shorten-word-spec =

@@ -1,5 +1,6 @@
-//! Shortening. The contract does not say which word is written. The library and the reference do the same search, so
-//! their new words must have the same bytes. The new word must also have the properties that hold for every search.
+//! Shortening. With an effort over 0 the contract does not say which word is written. The library and the reference do
+//! the same search, so their new words must have the same bytes. The new word must also have the properties that hold
+//! for every search.
 
 use reference::reduce::freely_reduced;
 use reference::shortener::without_handles;

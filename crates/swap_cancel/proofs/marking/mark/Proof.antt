@@ -1,7 +1,7 @@
 -- `swap_cancel::marking::mark` meets its contract.
 use native.Mathlib.Omega.{arith}
 use lib.ListN.{length-set}
-use Rattle.swap_cancel.proofs.MarkingLaws.{marks, marks-same}
+use Rattle.swap_cancel.proofs.MarkingLaws.{marks, marks-read}
 use borrow.Author.Needs.{needs}
 use Rattle.swap_cancel.proofs.marking.mark.Statement.{statement}
 use Rattle.swap_cancel.proofs.marking.mark.Tie as tie
@@ -17,7 +17,7 @@ returns c =
     let before = a .before .now in
     let last = a .last .now in (
       marks (a .n) codes before last (a .k) (b .pre .0) (b .pre .1) (a .p) (b .pre .3),
-      marks-same (a .n) codes before last (a .k) (b .pre .0) (b .pre .1) (a .p) (b .pre .3),
+      marks-read (a .n) codes before last (a .k) (b .pre .0) (b .pre .1) (a .p) (b .pre .3),
     )
 
 pub mark-spec : {M : Type 1} → statement M

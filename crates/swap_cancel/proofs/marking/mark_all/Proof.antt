@@ -1,18 +1,19 @@
--- `swap_cancel::marking::mark_all` meets its contract. The loop's invariant: the letters that are not marked are the
--- same braid as the word, and the rows have the latest letters.
-use Prim.Native.Nat.{ℕ, _-_, _≤_}
-use mathlib.Core.Path.{_≡_, refl, sym, subst, _∙_}
+-- `swap_cancel::marking::mark_all` meets its contract. The loop's invariant: the letters that are not marked are what
+-- swapping and cancelling leaves of the codes read, the other codes are unchanged, and the rows have the latest
+-- letters.
+use Prim.Native.Nat.{ℕ, _+_, _-_, _≤_}
+use mathlib.Core.Path.{_≡_, refl, sym, ap₂, subst, _∙_}
 use mathlib.Core.List.{List, [], _∷_}
 use native.Mathlib.Omega.{arith}
 use borrow.Author.Tests.{eqb-true}
 use lib.Dec.{eqb}
-use lib.ListN.{length, take, getD}
+use lib.ListN.{length, take, drop, getD}
 use Rattle.base.specs.Lists.{every}
 use Rattle.base.proofs.ListLaws.{every-all}
-use Rattle.braid_same.specs.SameBraid.{SameBraid}
-use Rattle.braid_same.proofs.Laws.{same-none, same-then}
+use Rattle.swap_cancel.specs.SwapCancel.{letterBehind, lettersBehind, swapCancelled}
 use Rattle.swap_cancel.specs.steps.Marking.{kept, Marked}
-use Rattle.swap_cancel.proofs.KeptLaws.{kept-all}
+use Rattle.swap_cancel.proofs.SwapCancelLaws.{swapped-next}
+use Rattle.swap_cancel.proofs.PackingLaws.{same-on, same-at}
 use Rattle.swap_cancel.proofs.MarkingLaws.{none-marked}
 use Rattle.swap_cancel.proofs.marking.mark_all.Statement.{statement}
 use Rattle.swap_cancel.proofs.marking.mark_all.Tie as tie
@@ -23,7 +24,8 @@ Inv-loop codes₀ n before₀ last₀ k₀ codes before last k =
     × Marked n codes before last k
     × (length codes ≡ length codes₀)
     × (length before ≡ length before₀)
-    × SameBraid (take n codes₀) (kept (take n codes))
+    × (kept (take k codes) ≡ swapCancelled (take k codes₀))
+    × (drop k codes ≡ drop k codes₀)
 
 abbrev μ-loop : tie.MeasureT-loop
 μ-loop codes₀ n before₀ last₀ k₀ codes before last k = n - k
@@ -36,17 +38,17 @@ unfolding every
 zeros j = eqb-true (getD ten-zeros j 0) 0 (every-all (λ (x : ℕ). eqb x 0) refl ten-zeros refl j)
 
 loop-holds : tie.Need-loop-holds Inv-loop μ-loop
+unfolding kept lettersBehind
 loop-holds c =
     let b = c .before .before in
-    let a = b .args in
-    let word = take (a .n) (a .codes .now) in
-    let same = subst (λ (v : List ℕ). SameBraid word v) (sym (kept-all word (b .pre .3))) (same-none word) in (
+    let a = b .args in (
       omega arith,
       none-marked (a .n) (a .codes .now) (a .before .now) ten-zeros (b .pre .0) (b .pre .1) (b .pre .2) refl zeros
           (b .pre .3),
       refl,
       refl,
-      same,
+      refl,
+      refl,
     )
 
 slice-aggregate-read-one : tie.Need-slice-aggregate-read-one Inv-loop μ-loop
@@ -58,12 +60,16 @@ read-one-requires c κs = (c .before .before .before .before .loop .inv .1, omeg
 loop-again : tie.Need-loop-again Inv-loop μ-loop
 loop-again c =
     let r = c .before .before .before .before .before .read-one in
-    let l = c .before .before .before .before .before .before .before .before .before .before .loop in (
+    let l = c .before .before .before .before .before .before .before .before .before .before .loop in
+    let s = c .before .before .before .before .before .before .before .before .before .before .before .before .before in
+    let row = s .args .codes .now in
+    let same = same-at (l .codes) row (l .k) (l .inv .5) in (
       omega arith,
       r .ensures .0,
       r .kept .0 ∙ l .inv .2,
       r .kept .1 .1 .1 .0 ∙ l .inv .3,
-      same-then (l .inv .4) (r .ensures .1),
+      r .ensures .1 .0 ∙ ap₂ letterBehind (l .inv .4) same ∙ swapped-next row (l .k) (omega arith),
+      r .ensures .1 .1 ∙ same-on (l .codes) row (l .k) (l .k + 1) (omega arith) (l .inv .5),
     )
 
 same-length : tie.Need-same-length Inv-loop μ-loop
@@ -73,7 +79,11 @@ same-length-2 : tie.Need-same-length-2 Inv-loop μ-loop
 same-length-2 c = c .before .loop .inv .3
 
 returns : tie.Need-returns Inv-loop μ-loop
-returns c = c .before .loop .inv .4
+returns c =
+    let l = c .before .loop in
+    let a = c .before .before .before .before .args in
+    let e : l .k ≡ a .n = omega arith in
+    subst (λ (k : ℕ). kept (take k (l .codes)) ≡ swapCancelled (take k (a .codes .now))) e (l .inv .4)
 
 pub mark-all-spec : {M : Type 1} → statement M
 mark-all-spec =

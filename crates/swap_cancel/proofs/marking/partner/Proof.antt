@@ -1,20 +1,14 @@
 -- `swap_cancel::marking::partner` meets its contract.
-use mathlib.Core.Path.{refl, sym, _∙_}
+use Prim.Native.Nat.{ℕ, _-_}
+use mathlib.Core.Path.{refl, sym, ap, _∙_}
 use mathlib.Core.Logic.{inl, inr}
 use native.Mathlib.Omega.{arith}
+use lib.ListN.{getD}
 use borrow.Author.Needs.{needs}
 use Rattle.swap_cancel.proofs.marking.partner.Statement.{statement}
 use Rattle.swap_cancel.proofs.marking.partner.Tie as tie
 
-returns : tie.Need-returns
-returns c = inl refl
-
-returns-2 : tie.Need-returns-2
-returns-2 c = inl refl
-
-returns-3 : tie.Need-returns-3
-returns-3 c = inl refl
-
+-- the letter that cancels is found
 returns-4 : tie.Need-returns-4
 returns-4 c =
     let own = c .before .before .before .before .before .before .before .before .before .wide .ensures in
@@ -27,6 +21,23 @@ returns-4 c =
       above = omega arith;
       cancels = c .if3 .left ∙ c .before .inverse .ensures;
     }
+
+-- no letter cancels
+returns : tie.Need-returns
+returns c =
+    let own = c .before .before .before .wide .ensures in
+    let below = c .before .wide2 .ensures in
+    inl (refl, inl (omega arith))
+
+returns-2 : tie.Need-returns-2
+returns-2 c = inl (refl, inr (inl (omega arith)))
+
+returns-3 : tie.Need-returns-3
+returns-3 c =
+    let w = c .before .before .before .before .before .before .before .before .before in
+    let codes = w .before .before .before .before .args .codes .now in
+    let at-own = ap (λ (i : ℕ). getD codes (i - 1) 0) (w .wide .ensures) in
+    inl (refl, inr (inr (λ e. c .if3 .taken (at-own ∙ e ∙ sym (c .before .inverse .ensures)))))
 
 pub partner-spec : {M : Type 1} → statement M
 partner-spec =

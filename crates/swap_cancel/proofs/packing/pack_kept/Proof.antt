@@ -1,14 +1,11 @@
--- `swap_cancel::packing::pack_kept` meets its contract. The loop's invariant: the first codes are the freely reduced
--- letters of the codes read, and the codes that are not read are unchanged.
+-- `swap_cancel::packing::pack_kept` meets its contract. The loop's invariant: the first codes are the letters of the
+-- codes read, and the codes that are not read are unchanged.
 use Prim.Native.Nat.{ℕ, _+_, _-_, _≤_}
 use mathlib.Core.Path.{_≡_, refl, ap, ap₂, _∙_}
 use mathlib.Core.List.{List, [], _∷_, _++_}
 use native.Mathlib.Omega.{arith}
 use lib.ListN.{length, take, drop}
-use Rattle.word.specs.Reduction.{reduced}
-use Rattle.word.proofs.ReductionLaws.{reduced-irreducible, reduced-lettered}
 use Rattle.swap_cancel.specs.steps.Marking.{kept}
-use Rattle.swap_cancel.proofs.KeptLaws.{kept-lettered}
 use Rattle.swap_cancel.proofs.PackingLaws.{next-kept, same-on, same-at}
 use Rattle.swap_cancel.proofs.packing.pack_kept.Statement.{statement}
 use Rattle.swap_cancel.proofs.packing.pack_kept.Tie as tie
@@ -18,24 +15,18 @@ Inv-loop codes₀ n count₀ k₀ codes count k =
     (k ≤ n)
     × (count ≤ k)
     × (length codes ≡ length codes₀)
-    × (take count codes ≡ reduced (kept (take k codes₀)))
+    × (take count codes ≡ kept (take k codes₀))
     × (drop k codes ≡ drop k codes₀)
 
 abbrev μ-loop : tie.MeasureT-loop
 μ-loop codes₀ n count₀ k₀ codes count k = n - k
 
 loop-holds : tie.Need-loop-holds Inv-loop μ-loop
-unfolding kept reduced
+unfolding kept
 loop-holds c = (omega arith, omega arith, refl, refl, refl)
 
 settle-requires : tie.Need-settle-requires Inv-loop μ-loop
-settle-requires c κs =
-    let l = c .before .before .before .loop in
-    let w = kept (take (l .k) (c .before .before .before .before .before .args .codes .now)) in (
-      omega arith,
-      rw (l .inv .3) (reduced-irreducible w),
-      rw (l .inv .3) (reduced-lettered w (kept-lettered _)),
-    )
+settle-requires c κs = omega arith
 
 loop-again : tie.Need-loop-again Inv-loop μ-loop
 loop-again c =
@@ -48,7 +39,7 @@ loop-again c =
       omega (arith, s .ensures .0, l .inv .1),
       s .kept .0 ∙ l .inv .2,
       s .ensures .1
-          ∙ ap₂ (λ (u : List ℕ) (c : ℕ). reduced (u ++ kept (c ∷ []))) (l .inv .3) same
+          ∙ ap₂ (λ (u : List ℕ) (c : ℕ). u ++ kept (c ∷ [])) (l .inv .3) same
           ∙ next-kept row (l .k) (omega arith),
       same-on (s .last .0) (l .codes) (l .count + 1) (l .k + 1) (omega (arith, l .inv .1)) (s .ensures .2)
           ∙ same-on (l .codes) row (l .k) (l .k + 1) (omega arith) (l .inv .4),
@@ -59,7 +50,7 @@ returns c =
     let l = c .before .loop in
     let a = c .before .before .before .args in
     let e : l .k ≡ a .n = omega arith in
-    (omega arith, l .inv .3 ∙ ap (λ (k : ℕ). reduced (kept (take k (a .codes .now)))) e)
+    (omega arith, l .inv .3 ∙ ap (λ (k : ℕ). kept (take k (a .codes .now))) e)
 
 pub pack-kept-spec : {M : Type 1} → statement M
 pack-kept-spec =

@@ -1,6 +1,6 @@
 -- `word_shortener::routes::by_arcs` meets its contract.
 use native.Mathlib.Omega.{arith}
-use Rattle.word_shortener.proofs.RouteLaws.{arcs-cancelled, arcs-lettered}
+use Rattle.word_shortener.proofs.RouteLaws.{arcs-laid, arcs-lettered}
 use borrow.Author.Needs.{needs}
 use Rattle.word_shortener.proofs.routes.by_arcs.Statement.{statement}
 use Rattle.word_shortener.proofs.routes.by_arcs.Tie as tie
@@ -17,7 +17,7 @@ swap-cancel-requires c κs =
 returns : tie.Need-returns
 returns c =
     let s = c .before .before .before .before .before .before in
-    arcs-cancelled (s .search .ensures) (c .before .before .swap-cancel .ensures)
+    arcs-laid (s .search .ensures) (c .before .before .swap-cancel .ensures) (s .before .before .before .pre .2)
 
 pub by-arcs-spec : {M : Type 1} → statement M
 by-arcs-spec = tie.close (tie.spec (λ c κs. search needs) swap-cancel-requires (λ c. search needs) returns)
