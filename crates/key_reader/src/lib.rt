@@ -39,9 +39,17 @@ fn read_over(file: &[u8], f: Field) -> KeyRead
     ensures { λ r. ⌜ ReadsKey (now (file .entry)) (r .answer) (r .key) ⌝ }
 {
     let bits = field::bits_of(f);
+    let numbers = parts::numbers_answer(file, bits);
+    if numbers != 0 {
+        return KeyRead::refused(numbers);
+    }
     let t_values = parts::t_values(file, bits);
+    let values = parts::t_values_answer(&t_values);
+    if values != 0 {
+        return KeyRead::refused(values);
+    }
     let labels = parts::labels(file, bits);
-    let answer = parts::answer(file, &t_values, &labels, bits);
+    let answer = parts::list_answer(file, &labels, bits);
     if answer != 0 {
         return KeyRead::refused(answer);
     }

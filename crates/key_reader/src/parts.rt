@@ -1,17 +1,19 @@
-// The parts of a key file whose elements have `bits` bits, and questions 2 to 7, which come before the matrices are
-// unpacked.
+// The parts of a key file whose elements have `bits` bits, and questions 2 to 7. Each part is unpacked after the
+// questions about the parts before it.
 ghost use mathlib.Core.Path.{_≡_};
 ghost use mathlib.Core.Bool.{_&&_};
+ghost use mathlib.Core.List.{[], _∷_};
 ghost use lib.Dec.{eqb};
 ghost use Prim.Native.Nat.{_+_, _-_, _<_, _≤_};
-ghost use lib.ListN.{length};
-ghost use Rattle.base.specs.Questions.{firstNo};
+ghost use lib.ListN.{length, take, drop};
+ghost use Rattle.base.specs.Questions.{_else_, firstNo};
 ghost use Rattle.base.specs.Digits.{part};
 ghost use Rattle.base.specs.Packing.{rowBytes, unpackedRow};
 ghost use Rattle.key.specs.Keys.{tValues, keyLabels, entries, wholeMatrix, matrixFiller, firstBytes};
 ghost use Rattle.key.specs.steps.Places.{fileBytes};
 ghost use Rattle.key.specs.steps.Filling.{RowPut};
-ghost use Rattle.key.specs.Keys.{secondBytes, partQuestions};
+ghost use Rattle.key.specs.Keys.{secondBytes, startsWithOnes, partQuestions};
+ghost use Rattle.pair_operands.specs.Operands.{nonzero};
 
 // Unpacks the eight numbers of `bits` bits that end before place `end`. They are the last digits of the number that the
 // eight bytes before this place write.
@@ -90,14 +92,10 @@ fn filler_is_zero(file: &[u8], bits: usize) -> bool
     base::filler_is_zero(&file[after..], bits, 57)
 }
 
-// Questions 2 to 7, in order: the number of the first question answered no, or 0 if there is none. The caller has
-// already unpacked the T-values and the list.
-pub(crate) fn answer(file: &[u8], ts: &[u8; 8], labels: &[u8; 8], bits: usize) -> u8
-    requires { ⌜
-        (bits ≤ 8) × (length (now file) ≡ fileBytes bits) × (now ts ≡ tValues bits (now file))
-        × (now labels ≡ keyLabels bits (now file))
-        ⌝ }
-    ensures { λ r. ⌜ r ≡ firstNo (partQuestions bits (now (file .entry))) ⌝ }
+// Questions 2 and 3, about the numbers N and q: the number of the first question answered no, or 0 if there is none.
+pub(crate) fn numbers_answer(file: &[u8], bits: usize) -> u8
+    requires { ⌜ (bits ≤ 8) × (length (now file) ≡ fileBytes bits) ⌝ }
+    ensures { λ r. ⌜ r ≡ firstNo (take 2 (partQuestions bits (now (file .entry)))) ⌝ }
 {
     let strands = file[0];
     if strands != 8 {
@@ -108,12 +106,31 @@ pub(crate) fn answer(file: &[u8], ts: &[u8; 8], labels: &[u8; 8], bits: usize) -
     if size != wanted {
         return 3;
     }
+    0
+}
+
+// Questions 4 and 5, about the T-values: the number of the first question answered no, or 0 if there is none.
+pub(crate) fn t_values_answer(ts: &[u8; 8]) -> u8
+    ensures { λ r.
+        ⌜
+        r ≡ firstNo ((nonzero (now (ts .entry)) else 4) ∷ (startsWithOnes (now (ts .entry)) else 5) ∷ [])
+        ⌝ }
+{
     if !pair_operands::all_nonzero(ts) {
         return 4;
     }
     if !key::starts_with_ones(ts) {
         return 5;
     }
+    0
+}
+
+// Questions 6 and 7, about the list and the filler: the number of the first question answered no, or 0 if there is
+// none. The caller has already unpacked the list.
+pub(crate) fn list_answer(file: &[u8], labels: &[u8; 8], bits: usize) -> u8
+    requires { ⌜ (bits ≤ 8) × (length (now file) ≡ fileBytes bits) × (now labels ≡ keyLabels bits (now file)) ⌝ }
+    ensures { λ r. ⌜ r ≡ firstNo (drop 4 (partQuestions bits (now (file .entry)))) ⌝ }
+{
     if !pair_operands::is_order(labels) {
         return 6;
     }

@@ -7,7 +7,7 @@ use field_logarithms::times;
 use matrix::SIZE;
 use matrix::place;
 ghost use mathlib.Core.Path.{_≡_};
-ghost use mathlib.Core.Bool.{_&&_};
+ghost use mathlib.Core.Bool.{_&&_, false};
 ghost use Prim.Native.Nat.{_+_, _<_, _≤_};
 ghost use lib.ListN.{length};
 ghost use Rattle.field.specs.Fields.{bits, modulus, operations};
@@ -128,24 +128,8 @@ fn clear(m: &mut [u8; 64], table: &[u16], inverses: &[u8], n: usize, f: Field) -
     true
 }
 
-// Has the matrix an inverse? The caller lends the tables of the field.
-fn eliminated(m: [u8; 64], table: &[u16], inverses: &[u8], f: Field) -> bool
-    requires { ⌜ ProductsBy f (now table) × (now inverses ≡ reciprocals (bits f) (modulus f)) ⌝ }
-    ensures { λ r. ⌜ r ≡ invertible (operations f) 8 (entry m) ⌝ }
-{
-    let mut a = m;
-    let mut n = SIZE;
-    while 0 < n {
-        n -= 1;
-        let found = clear(&mut a, table, inverses, n, f);
-        if !found {
-            return false;
-        }
-    }
-    true
-}
-
-// Has each of two matrices an inverse? The caller lends the tables of the field.
+// Has each of two matrices an inverse? The caller lends the tables of the field. The matrices take turns, column by
+// column: the processor works on one while it waits for entries of the other.
 fn both_eliminated(
     first: [u8; 64],
     second: [u8; 64],
@@ -156,15 +140,25 @@ fn both_eliminated(
     requires { ⌜ ProductsBy f (now table) × (now inverses ≡ reciprocals (bits f) (modulus f)) ⌝ }
     ensures { λ r. ⌜ r ≡ (invertible (operations f) 8 (entry first) && invertible (operations f) 8 (entry second)) ⌝ }
 {
-    if !eliminated(first, table, inverses, f) {
-        return false;
+    let mut a = first;
+    let mut b = second;
+    let mut n = SIZE;
+    while 0 < n {
+        n -= 1;
+        let found = clear(&mut a, table, inverses, n, f);
+        if !found {
+            return false;
+        }
+        let also = clear(&mut b, table, inverses, n, f);
+        if !also {
+            return false;
+        }
     }
-    eliminated(second, table, inverses, f)
+    true
 }
 
-// Has each of two matrices an inverse? The tables are copied once for both. For entries that are not field elements,
-// products and reciprocals use only the low bits; sums and the test for zero use the whole byte.
-pub fn both_invertible(first: [u8; 64], second: [u8; 64], f: Field) -> bool
+// Has each of two matrices an inverse? The tables are copied once for both.
+fn both_by_tables(first: [u8; 64], second: [u8; 64], f: Field) -> bool
     ensures { λ r. ⌜ r ≡ (invertible (operations f) 8 (entry first) && invertible (operations f) 8 (entry second)) ⌝ }
 {
     match f {
@@ -179,4 +173,28 @@ pub fn both_invertible(first: [u8; 64], second: [u8; 64], f: Field) -> bool
             both_eliminated(first, second, &table, &inverses, f)
         }
     }
+}
+
+// Has the last column a pivot? A matrix without one has no inverse, and no table is needed to see it.
+fn has_pivot(m: &[u8; 64], f: Field) -> bool
+    ensures { λ r. ⌜ (r ≡ false → invertible (operations f) 8 (entry (now (m .entry))) ≡ false) ⌝ }
+{
+    let p = pivot_row(m, 7);
+    let x = m[place(p, 7)];
+    if x == 0 {
+        return false;
+    }
+    true
+}
+
+// Has each of two matrices an inverse? A first matrix of zeros is refused before the tables are copied. For entries
+// that are not field elements, products and reciprocals use only the low bits; sums and the test for zero use the whole
+// byte.
+pub fn both_invertible(first: [u8; 64], second: [u8; 64], f: Field) -> bool
+    ensures { λ r. ⌜ r ≡ (invertible (operations f) 8 (entry first) && invertible (operations f) 8 (entry second)) ⌝ }
+{
+    if !has_pivot(&first, f) {
+        return false;
+    }
+    both_by_tables(first, second, f)
 }

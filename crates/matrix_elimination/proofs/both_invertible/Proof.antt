@@ -1,36 +1,22 @@
--- `matrix_elimination::both_invertible` meets its contract: it eliminates by the tables of the field that the match
--- finds.
+-- `matrix_elimination::both_invertible` meets its contract: if the first matrix has no pivot, not both have an inverse.
+use mathlib.Core.Path.{sym, ap}
+use mathlib.Core.Bool.{Bool, _&&_}
+use Rattle.field.specs.Fields.{operations}
+use Rattle.matrix.specs.Layout.{entry}
+use Rattle.matrix.specs.Elimination.{invertible}
+use borrow.Author.Tests.{not-true}
 use borrow.Author.Needs.{needs}
 use Rattle.matrix_elimination.proofs.both_invertible.Statement.{statement}
 use Rattle.matrix_elimination.proofs.both_invertible.Tie as tie
 
-both-eliminated-requires : tie.Need-both-eliminated-requires
-both-eliminated-requires c κs =
-    let r = c .before .before in
-    let l = r .before in
-    rw (l .before .enum-told .given .1) (l .small-logarithms .ensures, r .small-reciprocals .ensures)
-
-both-eliminated-requires-2 : tie.Need-both-eliminated-requires-2
-both-eliminated-requires-2 c κs =
-    let r = c .before .before in
-    let l = r .before in
-    rw (l .before .enum-told2 .given .1) (l .large-logarithms .ensures, r .large-reciprocals .ensures)
+returns : tie.Need-returns
+returns c =
+    let a = c .before .before .before .args in
+    sym
+    (ap (λ (b : Bool). b && invertible (operations (a .f)) 8 (entry (a .second)))
+    (c .before .has-pivot .ensures (not-true (c .before .has-pivot .result) (c .if1 .taken))))
 
 pub both-invertible-spec : {M : Type 1} → statement M
 both-invertible-spec =
     tie.close
-    (tie.spec
-    (λ c. search needs)
-    (λ c κs. search needs)
-    (λ c κs. search needs)
-    (λ c. search needs)
-    (λ c. search needs)
-    both-eliminated-requires
-    (λ c. search needs)
-    (λ c κs. search needs)
-    (λ c κs. search needs)
-    (λ c. search needs)
-    (λ c. search needs)
-    both-eliminated-requires-2
-    (λ c. search needs)
-    (λ c. search needs))
+    (tie.spec (λ c κs. search needs) returns (λ c κs. search needs) (λ c. search needs))
