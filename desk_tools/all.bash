@@ -1,8 +1,11 @@
 # Sourced by ./walnut: `judge --all` and `shorten --all`, on every slip of a folder. One run of a program takes many
 # slips. A bad slip is reported and does not stop the run.
 
-# The files of the slips by KIND/NAME, and what a slip lacks by NAME. Texts of answers, reasons that were found before,
-# and lengths of keys are kept.
+# The last part of a pipe runs in this shell, so that it can set variables. This needs no /dev/fd.
+shopt -s lastpipe
+
+# `part` has the files of the slips by KIND/NAME, and `lacks` what a slip lacks by NAME. The other tables keep texts,
+# reasons and lengths of keys that were already found, and count the refusals.
 declare -A part=() lacks=() texts=() reasons=() key_bytes=() refusals=()
 names=()
 
@@ -49,7 +52,7 @@ listed() {
             leave_out "$each"
         fi
     done
-    [ ${#found[@]} -eq 0 ] || mapfile -d '' -t names < <(printf '%s\0' "${found[@]}" | LC_ALL=C sort -zu)
+    [ ${#found[@]} -eq 0 ] || printf '%s\0' "${found[@]}" | LC_ALL=C sort -zu | mapfile -d '' -t names
 }
 
 leave_out() {
@@ -91,10 +94,10 @@ told() {
 # The texts of all answers, from answers.txt.
 read_texts() {
     local number text rest
-    while IFS='|' read -r number text rest; do
+    grep '^[0-9]* |' "$root/answers.txt" | while IFS='|' read -r number text rest; do
         text=${text# }
         texts[${number%% *}]=${text% }
-    done < <(grep '^[0-9]* |' "$root/answers.txt")
+    done
 }
 
 # reason ANSWER KEY DIGEST SIGNATURE: sets $reason to the file that a refusal is about, and to the place in it.
@@ -114,11 +117,11 @@ reason() {
             quoted "$4" && reason+=", and the signature is $quoted"
             return 0
             ;;
-    esac || bytes=0 hex= place="it is not there now"
+    esac || bytes=0 text=no place="it is not there now"
     quoted "$file"
     [ "$bytes" -ne 1 ] || many=
     reason="$quoted, $bytes byte$many; $place"
-    if [ "$bytes" -ge 4 ] && [[ ${hex:0:96} =~ ^(\ 3[0-9]|\ [46][1-6]|\ 0[9a-d]|\ 20)+$ ]]; then
+    if [ "$bytes" -ge 4 ] && [ "$text" = yes ]; then
         reason+="; it looks like hexadecimal text: 'xxd -r -p' converts such text to bytes"
     fi
     case $1 in [1-7] | 26) reasons[$1/$2]=$reason ;; esac
@@ -128,7 +131,7 @@ reason() {
 place_in_digest() {
     [ -n "${key_bytes[$1]-}" ] || key_bytes[$1]=$(size "$1") || key_bytes[$1]=0
     place="this key needs a digest of ${digest_bytes[${key_bytes[$1]}]-$(digest_sizes)} bytes"
-    read_hex "$2" 65
+    in_bytes read_bytes "$2" 65
 }
 
 # unread_of FILE..: sets $reason to the files that may not be read. The program has said why it could not read a file.
@@ -181,8 +184,52 @@ slip() {
 # ---- the two commands: add_.. adds the arguments of a slip, run_.. runs the program, opened_.. reports a slip that
 # opened, and shut_.. says more about another one.
 
-add_judge() { arguments+=("${part[key/$1]-$key}" "${part[digest/$1]}" "${part[sig/$1]}"); }
-run_judge() { "$bin/slips" "$@"; }
+# add ARGUMENT..: adds arguments to the next run, and to $length the bytes that the system counts for them. Each has an
+# end and a pointer.
+add() {
+    arguments+=("$@")
+    in_bytes weigh "$@"
+}
+weigh() {
+    local IFS= all
+    all="$*"
+    length=$((length + ${#all} + 9 * $#))
+}
+
+# Slips are judged inside their folder, $there, where names are shorter, so that one run takes more slips. $inside is
+# what the names lose, and $its_key is KEY as it is named there. If KEY has no other name, the names stay as they are.
+go_inside() {
+    there=$folder inside=$folder/ its_key=$key
+    case $folder in /*) ;; *) there=./$folder ;; esac
+    case $key in
+        '' | /*) ;;
+        *) its_key=$PWD/$key && [ "$its_key" -ef "$key" ] || there=. inside= its_key=$key ;;
+    esac
+}
+add_judge() {
+    local own=${part[key/$1]-}
+    own=${own#"$inside"}
+    add "${own:-$its_key}" "${part[digest/$1]#"$inside"}" "${part[sig/$1]#"$inside"}"
+}
+run_judge() {
+    local said status
+    { said=$(cd -P "$there" && exec "$bin/slips" "$@" 2>&1 >&3 3>&-); status=$?; } 3>&1
+    [ -z "$said" ] || printf '%s\n' "$said" | as_given >&2
+    return "$status"
+}
+
+# as_given: the program's messages, with names as the user gave them.
+as_given() {
+    local line
+    while IFS= read -r line; do
+        case $line in
+            "$its_key: "*) line=$key${line#"$its_key"} ;;
+            /*) ;;
+            *) line=$inside$line ;;
+        esac
+        printf '%s\n' "$line"
+    done
+}
 opened_judge() { told "$1" 'answer 0' 'the slip is good'; }
 shut_judge() { :; }
 
@@ -190,7 +237,7 @@ shut_judge() { :; }
 add_shorten() {
     local new=$folder/$1.new
     fault_of "$new" "${part[key/$1]-$key}" "${part[digest/$1]}" || { say "$fault"; new+=/.; }
-    arguments+=("${part[key/$1]-$key}" "${part[digest/$1]}" "${part[sig/$1]}" "$new")
+    add "${part[key/$1]-$key}" "${part[digest/$1]}" "${part[sig/$1]}" "$new"
 }
 run_shorten() { "$bin/new_word" shorten "$beside" "${numbers[@]}" "$@" 2>"$said"; }
 opened_shorten() {
@@ -203,22 +250,22 @@ shut_shorten() {
     [ ! -f "$folder/$1.new" ] || say "an older $quoted is still there: do not send it" || :
 }
 
-# some NAME..: runs the program once on those of these slips that lack nothing, and reports on all of them, in order.
+# some NAME..: runs the program once on its arguments, those of these slips that lack nothing, and reports on all slips,
+# in order.
 some() {
-    local arguments=() each line done=0
-    for each in "$@"; do
-        [ -n "${lacks[$each]-}" ] || "add_$verb" "$each"
-    done
+    local each line done=0
     # The program's exit status comes as a last line, because `wait` of bash 5.2 sometimes gives a wrong status.
     {
+        [ ${#arguments[@]} -eq 0 ] || "run_$verb" "${arguments[@]}" </dev/null
+        echo "ended $?"
+    } | {
         for each in "$@"; do
             slip "$each" || break
             done=$((done + 1))
             progress
         done
         IFS= read -r line && [ "$line" = 'ended 0' ] || { ended=no; cat >/dev/null; }
-    } < <([ ${#arguments[@]} -eq 0 ] || "run_$verb" "${arguments[@]}" </dev/null
-        echo "ended $?")
+    }
     no_progress
     # The names that cannot be written were reported before the run.
     [ "$verb" = judge ] || grep -v '\.new/\.: ' -- "$said" >&2
@@ -245,17 +292,21 @@ summary() {
     [ "$refused" -eq 0 ] || exit 4
 }
 
-# most_bytes: the bytes of names that one run of a program takes. A shorter run of shorten says sooner what it did.
+# most_bytes: the bytes of arguments that one run of a program takes. For judge it is the limit of the system, less the
+# environment and room for one more slip. A shorter run of shorten says sooner what it did.
 most_bytes() {
     local most
     [ "$verb" = judge ] || { echo 50000 && return; }
     most=$(getconf ARG_MAX 2>/dev/null) || most=131072
-    echo $(((most < 2097152 ? most : 2097152) / 2))
+    # Linux takes at most 6 MB, also where the limit is larger
+    [ "$most" -le 6291456 ] || most=6291456
+    set -- $(env | wc -lc)
+    echo $((most - 8 * $1 - $2 - 20000))
 }
 
 # every VERB PROGRAM FOLDER [KEY]: judges or shortens every slip of the folder.
 every() {
-    local some=() length=0 most each
+    local some=() arguments=() length=0 most each
     verb=$1 folder=$3 key=${4-} shown=$((SECONDS + 1))
     [ ! -f "$folder" ] || [ ! -d "$key" ] || say "the names seem to be in the wrong order; the order is FOLDER KEY"
     if [ ! -d "$folder" ] || [ ! -r "$folder" ]; then
@@ -273,16 +324,15 @@ every() {
         exit 1
     fi
     read_texts
-    [ "$verb" = judge ] || to_write
+    if [ "$verb" = judge ]; then go_inside; else to_write; fi
     most=$(most_bytes)
     for each in "${names[@]}"; do
         lacking "$each"
-        [ -z "$lack" ] || lacks[$each]=$lack
+        if [ -n "$lack" ]; then lacks[$each]=$lack; else "add_$verb" "$each"; fi
         some+=("$each")
-        length=$((length + ${#key} + 4 * (${#folder} + ${#each} + 17)))
         if [ "$length" -gt "$most" ]; then
             some "${some[@]}"
-            some=() length=0
+            some=() arguments=() length=0
         fi
     done
     [ ${#some[@]} -eq 0 ] || some "${some[@]}"

@@ -46,8 +46,8 @@ bundle() {
     named "$@"
     not_installed bundle
     place "$1"
-    local folder
     beside_place "$1"
+    # The exit trap removes this folder, so it is not a local variable.
     folder=$(mktemp -d) || exit 1
     trap 'rm -rf -- "$beside" "$folder"' EXIT
     # pkg-config finds the unpacked library from the place of its own file

@@ -23,9 +23,8 @@ size() { [ -f "$1" ] && stat -L -c %s -- "$1"; }
 
 # first_two FILE [PLACE]: the number in two bytes of the file, at a place or at its beginning.
 first_two() {
-    local high low
-    read -r high low < <(od -An -tu1 -j"${2-0}" -N2 -- "$1")
-    echo $((${high:-0} * 256 + ${low:-0}))
+    set -- $(od -An -tu1 -j"${2-0}" -N2 -- "$1")
+    echo $((${1:-0} * 256 + ${2:-0}))
 }
 
 joined() {
@@ -85,23 +84,47 @@ kind_hint() {
 }
 
 # ---- where a refused file is wrong. These functions set $place, in the words of `show`, and $bytes, the file's length.
-# They fail if the file is not regular, or cannot be read.
+# They fail if the file is not regular, or cannot be read. They start no process for a word, so that the places of
+# thousands of words are found in seconds.
 
-# read_hex FILE MOST: sets $hex to the file's first bytes, each as a space and two hexadecimal digits, and $bytes to its
-# length.
-read_hex() {
-    [ -f "$1" ] && hex=$(od -An -v -tx1 -w"$2" -N"$2" -- "$1" 2>/dev/null) || return 1
-    bytes=$((${#hex} / 3))
+# in_bytes FUNCTION ARGUMENT..: runs a function in the locale C, where a character is a byte. The function has no
+# standard error, because bash warns there, when it returns, if this machine does not have the user's locale.
+in_bytes() { in_c "$@" 2>/dev/null; }
+in_c() { local LC_ALL=C; "$@"; }
+
+# read_bytes FILE MOST: sets $raw to the file's first bytes, at most so many, and $bytes to its length. $text says if
+# the file begins with hexadecimal text. A variable cannot hold a zero byte: $raw has the byte 1 there, and $zero has its
+# place. This function and the next run by in_bytes.
+read_bytes() {
+    local piece more=yes
+    raw= zero=() text=no
+    [ -f "$1" ] || return 1
+    while [ "$more" = yes ] && [ ${#raw} -lt "$2" ]; do
+        IFS= read -r -d '' -n $(($2 - ${#raw})) piece || more=no
+        raw+=$piece
+        if [ "$more" = yes ] && [ ${#raw} -lt "$2" ]; then
+            zero[${#raw}]=yes
+            raw+=$'\1'
+        fi
+    done <"$1" || return 1
+    [[ ! ${raw:0:32} =~ ^[0-9A-Fa-f[:space:]]+$ ]] || text=yes
+    bytes=${#raw}
     [ "$bytes" -lt "$2" ] || bytes=$(stat -L -c %s -- "$1")
 }
 
-# part_of FIRST BYTES: sets $part to the digits of these bytes of $hex.
+# part_of FIRST BYTES: sets $part to these bytes of $raw, each as two hexadecimal digits.
 part_of() {
-    part=${hex:3 * $1:3 * $2}
-    part=${part// /}
+    local k code
+    part=
+    for ((k = $1; k < $1 + $2 && k < ${#raw}; k++)); do
+        code=0
+        [ -n "${zero[k]-}" ] || printf -v code %d "'${raw:k:1}"
+        printf -v code %02x $((code & 255))
+        part+=$code
+    done
 }
 
-# digits_of BITS FIRST BYTES: sets $digits to the eight numbers of so many bits in these bytes of $hex.
+# digits_of BITS FIRST BYTES: sets $digits to the eight numbers of BITS bits in these bytes of $raw.
 digits_of() {
     local k part
     part_of "$2" "$3"
@@ -111,22 +134,37 @@ digits_of() {
     done
 }
 
-# place_in_matrix ANSWER NAME FIRST BYTES: adds to $place what is wrong with the matrix in these bytes of $hex.
+# no_inverse MATRIX: succeeds if this matrix of $key, in hexadecimal digits, has no inverse. The program desk decides it:
+# it judges the key with this matrix in both places, and answers 26 or, because there is no digest, 8.
+no_inverse() {
+    local line answer
+    line=$(printf '%b' "$(sed 's/../\\x&/g' <<<"${key:0:2*first}$1${key:2*list:6}$1")" | "$bin/desk" 2>/dev/null)
+    is_answer "$line" && [ "$answer" = 26 ]
+}
+
+# place_in_matrix ANSWER NAME FIRST BYTES: adds to $place what is wrong with the matrix in these bytes of $raw.
 place_in_matrix() {
     local part last=$(($3 + $4 - 1))
     part_of "$3" "$4"
     if [ "$1" = 7 ] && ((16#0${part: -1} & 7)); then
         place+="; byte $last: ${part: -2}, whose last 3 bits, the filler after the matrix of $2, must be 0"
-    elif [ "$1" = 26 ] && [[ ! $part =~ [^0] ]]; then
-        place+="; bytes $3 to $last: the matrix of $2 has no inverse; it is zero"
+    elif [ "$1" = 26 ] && no_inverse "$part"; then
+        place+="; bytes $3 to $last: the matrix of $2 has no inverse"
+        [[ $part =~ [^0] ]] || place+="; it is zero"
     fi
 }
 
-# place_in_key ANSWER KEY: a refused key. After 3 bytes it has the T-values, a matrix, the list and a matrix.
+# place_in_key ANSWER KEY: a refused key. For 26 the program desk must be there.
 place_in_key() {
-    local bits=5 size label missing= part
+    [ "$1" != 26 ] || (need desk) || :
+    in_bytes key_place "$@"
+}
+
+# key_place ANSWER KEY: a key has 3 bytes, the T-values, a matrix, the list and a matrix.
+key_place() {
+    local bits=5 size label missing= part key
     place=
-    read_hex "$2" 129 || return 1
+    read_bytes "$2" 129 || return 1
     [ "$bytes" -ne 128 ] || bits=8
     size=$((7 * bits + 1))
     local first=$((3 + bits)) list=$((3 + bits + size)) second=$((6 + bits + size))
@@ -149,6 +187,7 @@ place_in_key() {
             place="bytes $list to $((list + 2)): the list is ${digits[*]}; missing:$missing"
             ;;
         7 | 26)
+            part_of 0 "$bytes" && key=$part
             place_in_matrix "$1" 'Pub(S)' "$first" "$size"
             place_in_matrix "$1" "Pub(S')" "$second" "$size"
             place=${place#; }
@@ -158,25 +197,34 @@ place_in_key() {
     esac
 }
 
+# The bytes with a half that is 7 or 15, for a pattern.
+no_letters=$'\x07\x0f\x17\x1f\x27\x2f\x37\x3f\x47\x4f\x57\x5f\x67\x6f\x70-\x7f'
+no_letters+=$'\x87\x8f\x97\x9f\xa7\xaf\xb7\xbf\xc7\xcf\xd7\xdf\xe7\xef\xf0-\xff'
+
 # place_in_word ANSWER WORD: a refused word.
-place_in_word() {
-    local letters row byte half part many=s
+place_in_word() { in_bytes word_place "$@"; }
+word_place() {
+    local letters row byte part half=0 many=s
     place=
-    read_hex "$2" 5003 || return 1
-    part_of 0 2
-    letters=$((16#0$part))
+    read_bytes "$2" 5003 || return 1
     case $1 in
         9) place="a word has at least 2 bytes" ;;
         12)
-            row=${hex:6}
-            row=${row%%[7f]*}
-            byte=$((2 + ${#row} / 3)) half=$((${#row} % 3 - 1))
+            row=${raw:2}
+            row=${row%%[$no_letters]*}
+            byte=$((2 + ${#row}))
             part_of "$byte" 1
+            [[ $part == [7f]* ]] || half=1
             place="byte $byte: $part, so the letter at place $((2 * byte - 4 + half)) has the code"
             place+=" $((16#0${part:half:1})); 7 and 15 are not letters"
             ;;
-        13) place="byte $((bytes - 1)): ${hex: -2}, whose low half is unused and must be 0" ;;
+        13)
+            part_of $((bytes - 1)) 1
+            place="byte $((bytes - 1)): $part, whose low half is unused and must be 0"
+            ;;
         *)
+            part_of 0 2
+            letters=$((16#0$part))
             [ "$letters" -ne 1 ] || many=
             place="its first two bytes state $letters letter$many, so it needs $((2 + (letters + 1) / 2)) bytes"
             ;;

@@ -112,14 +112,16 @@ def in_order(name, said, texts, about):
 
 
 def tree(folder, programs):
-    """Makes a copy of ./walnut with other programs and with an `rt` that does nothing. `programs` is a folder, or the
-    text of a shell script for each name. Returns the options with which `run` starts the copy."""
+    """Makes a copy of ./walnut with other programs, which use no crate, and with an `rt` that does nothing. `programs` is
+    a folder, or the text of a shell script for each name. Returns the options with which `run` starts the copy."""
     folder = os.path.abspath(folder)
     os.makedirs(os.path.join(folder, "target", "bin"))
     os.makedirs(os.path.join(folder, "crates", "none"))
     os.makedirs(os.path.join(folder, "path"))
-    for name in ("walnut", "desk", "answers.txt", "crates.txt"):
+    for name in ("walnut", "desk", "answers.txt"):
         shutil.copy(os.path.join(ROOT, name), folder)
+    listed = "".join(["# Programs that ./walnut runs\n", *(f"{name}:\n" for name in PROGRAMS)])
+    put(os.path.join(folder, "crates.txt"), listed.encode())
     shutil.copytree(os.path.join(ROOT, "desk_tools"), os.path.join(folder, "desk_tools"))
     script(os.path.join(folder, "path", "rt"), "exit 0")
     put(os.path.join(folder, "crates", "none", "file"), b"")

@@ -712,13 +712,13 @@ def version() -> int:
 def product(field: Field, a: int, b: int) -> int:
     """The product of two elements of a field."""
     element = _lib.walnut_product(_large(field), _byte(a, "a"), _byte(b, "b"))
-    return _granted(element.answer, element.value)
+    return _granted(element.answer, int(element.value))
 
 
 def reciprocal(field: Field, a: int) -> int:
     """The reciprocal of an element other than zero of a field."""
     element = _lib.walnut_reciprocal(_large(field), _byte(a, "a"))
-    return _granted(element.answer, element.value)
+    return _granted(element.answer, int(element.value))
 
 
 def read_key(file: Bytes) -> Key:
@@ -747,7 +747,7 @@ def write_key(field: Field, t_values: Bytes, labels: Bytes, first: Bytes, second
 def read_word(file: Bytes) -> int:
     """The number of letters of a word file; codes and spelled give the letters."""
     word = _lib.walnut_read_word(*_slices(file=file))
-    return _granted(word.answer, word.letters)
+    return _granted(word.answer, int(word.letters))
 
 
 def write_word(letters: Union[str, Iterable[Letter]]) -> bytes:
@@ -860,14 +860,14 @@ def second_half(half: Half, word: Bytes) -> None:
 def cloaks(key: Bytes, labels: Bytes, word: Bytes) -> bool:
     """Does the word cloak for the list under the key's T-values, over the key's field?"""
     cloak = _lib.walnut_cloaks(*_slices(key=key, labels=labels, word=word))
-    return _granted(cloak.answer, cloak.yes)
+    return _granted(cloak.answer, bool(cloak.yes))
 
 
 def crossings(word: Bytes, a: int, b: int) -> int:
     """How often the strands with labels a and b cross in the word, from the list 0 to 7: its generators that swap just
     these two, less its inverse letters that do."""
     crossing = _lib.walnut_crossings(*_slices(word=word), _label(a, "a"), _label(b, "b"))
-    return _granted(crossing.answer, crossing.crossings)
+    return _granted(crossing.answer, int(crossing.crossings))
 
 
 def words_ending(length: int, labels: Bytes) -> int:
@@ -877,4 +877,4 @@ def words_ending(length: int, labels: Bytes) -> int:
     most = SPREAD_LENGTH + 1
     count = _lib.walnut_words_ending(_whole(min(_index(length, "length"), most), most, "length", "length"),
                                      *_slices(labels=labels))
-    return _granted(count.answer, count.words)
+    return _granted(count.answer, int(count.words))

@@ -1,4 +1,4 @@
-// Questions with numbers, lists, digits; numbers of any width packed into bytes; bytes copied and compared.
+// Questions with numbers, lists, digits; bytes copied and compared.
 ghost use Prim.Native.Nat.{_+_, _≤_, _<_};
 ghost use mathlib.Core.Path.{_≡_};
 ghost use lib.ListN.{length, take};
@@ -6,15 +6,9 @@ ghost use Rattle.base.specs.Lists.{overlaid, equal};
 ghost use Rattle.base.specs.Digits.{value, part};
 
 mod digits; // digits.rt: the number that digits write, and the digits of a number
-mod rows; // rows.rt: rows of numbers packed into bytes
 
 pub use digits::number;
 pub use digits::spell;
-pub use rows::filler_is_zero;
-pub use rows::pack;
-pub use rows::pack_at;
-pub use rows::power;
-pub use rows::row_bytes;
 
 // Copies bytes of `from` to the front of `out`, as many as fit.
 pub fn put(out: &mut [u8], from: &[u8])

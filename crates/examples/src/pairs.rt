@@ -92,6 +92,6 @@ pub(crate) fn letters(codes: &[u8], t_values: &[u8], lists: &[u8], entries: &[u8
 pub(crate) fn matrices(first: &[u8], second: &[u8]) {
     let a = matrix_of(first);
     let b = matrix_of(second);
-    let product = matrix::matrix_product(&a, &b, Field::Gf32);
+    let product = matrix_product::matrix_product(&a, &b, Field::Gf32);
     show::rows(&product);
 }

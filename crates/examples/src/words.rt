@@ -70,7 +70,7 @@ fn written(operation: u8, from: &[u8], moves: &[u8], out: &mut [u8]) -> Written 
     match operation {
         b'L' => word_writer::write_word(from, out),
         b'F' => word_reduction::free_reduce(from, out),
-        b'D' => slip_digest::encode(from, out),
+        b'D' => slip_encoder::encode(from, out),
         _ => move_rewriter::rewrite(from, moves, out),
     }
 }

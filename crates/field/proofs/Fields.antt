@@ -2,20 +2,20 @@
 -- has a reciprocal. All other laws hold for every degree from 1 on. antt computes that the reciprocals exist, by one
 -- product for each element, for GF(32) and GF(256), and for two fields that the library does not use, of four and of
 -- sixteen elements.
-use Prim.Native.Nat.{ℕ, zero, suc, _%_, _^_, _≤_, _<_}
+use Prim.Native.Nat.{ℕ, zero, suc, _*_, _/_, _%_, _^_, _≤_, _<_}
 use mathlib.Core.Path.{_≡_, refl, sym, ap, _∙_}
 use mathlib.Core.Bool.{true, false}
 use mathlib.Core.List.{List}
 use native.Mathlib.Nat.{not-suc-le-zero, le-of-suc-le-suc, mod-lt}
 use native.Mathlib.Omega.{arith}
-use lib.Dec.{eqb, lit<, lit≤}
+use lib.Dec.{eqb, ltb, lit<, lit≤}
 use lib.ListN.{getD}
 use lib.Pow.{pow-pos, pow-mono, pow-lt}
-use lib.Bits.{xor-comm, xor-self, xor-lt}
+use lib.Bits.{bitXor, xor-comm, xor-self, xor-lt}
 use Rattle.base.specs.Lists.{values, valuesFrom}
 use Rattle.base.proofs.ListLaws.{getD-values}
 use Rattle.field.specs.Binary.{BinaryField}
-use Rattle.field.specs.Polynomial.{Degree, timesX, horner, times, firstOrZero, reciprocalOf, polynomials}
+use Rattle.field.specs.Polynomial.{Degree, timesX, horner, times, polynomials}
 use Rattle.field.specs.Fields.{bits, modulus, operations, fieldOf, isLarge}
 use Rattle.field.specs.declared.Field.{Field}
 use Rattle.field.specs.declared.Field.the-variants.{Gf32, Gf256}
@@ -73,19 +73,27 @@ all-one n p m g e all (suc k) pos below =
           ∙ getD-values (λ k. 1) m k h;
     }
 
--- x^j times b, for the first j below k with x^j × a = 1; 0 if there is none
-pub towards : ℕ → ℕ → ℕ → ℕ → ℕ → ℕ
-towards n p zero a b = 0
-towards n p (suc k) a b = elim (eqb a 1) [ true ↦ b | false ↦ towards n p k (timesX n p a) (timesX n p b) ]
+-- x divides a, or a + p: a / x, reduced by p
+halved : ℕ → ℕ → ℕ
+halved p a = elim (eqb (a % 2) 0) [ true ↦ a / 2 | false ↦ bitXor a p / 2 ]
 
--- the power of x whose product with a is 1; 0 if there is none
-abbrev powerTo1 : ℕ → ℕ → ℕ → ℕ
-powerTo1 n p a = towards n p (2 ^ n) a 1
+-- Euclid's algorithm in k steps: u is the product of an element and g, v that of the element and h. If u becomes 1, g
+-- is the reciprocal. No law is shown of this: each number that it finds is tested by its product
+pub euclid : ℕ → ℕ → ℕ → ℕ → ℕ → ℕ → ℕ
+euclid p zero u v g h = 0
+euclid p (suc k) u v g h =
+    elim (eqb u 1) [
+      | true ↦ g
+      | false ↦ elim (eqb (u % 2) 0) [
+        | true ↦ euclid p k (u / 2) v (halved p g) h
+        | false ↦ elim (ltb u v) [ true ↦ euclid p k v u h g | false ↦ euclid p k (bitXor u v) v (bitXor g h) h ]
+      ]
+    ]
 
--- where x is a generator, the reciprocals are powers of x
-pub by-powers : (n p m : ℕ) → 2 ^ n ≡ suc m → named-products n p m (powerTo1 n p) ≡ values (λ k. 1) m
-    → AllReciprocals n p
-by-powers n p m = all-one n p m (powerTo1 n p)
+-- each element except 0 has a reciprocal if the numbers that Euclid's algorithm finds are reciprocals
+pub by-euclid : (n p m : ℕ) → 2 ^ n ≡ suc m
+    → named-products n p m (λ a. euclid p (8 * n) a p 1 0) ≡ values (λ k. 1) m → AllReciprocals n p
+by-euclid n p m = all-one n p m (λ a. euclid p (8 * n) a p 1 0)
 
 -- ---- the two fields of the library
 
@@ -103,12 +111,12 @@ pub byte : (f : Field) (a : ℕ) → a < 2 ^ bits f → a < 256
 byte f a h = let b : 2 ^ bits f ≤ 2 ^ 8 = pow-mono (narrow f) in omega arith
 
 gf32-field : BinaryField (operations Gf32)
-unfolding valuesFrom timesX horner times towards
-gf32-field = polynomials-field (degree Gf32) (by-powers 5 (modulus Gf32) 31 refl refl)
+unfolding valuesFrom timesX horner times halved euclid
+gf32-field = polynomials-field (degree Gf32) (by-euclid 5 (modulus Gf32) 31 refl refl)
 
 gf256-field : BinaryField (operations Gf256)
-unfolding valuesFrom timesX horner times towards
-gf256-field = polynomials-field (degree Gf256) (by-powers 8 (modulus Gf256) 255 refl refl)
+unfolding valuesFrom timesX horner times halved euclid
+gf256-field = polynomials-field (degree Gf256) (by-euclid 8 (modulus Gf256) 255 refl refl)
 
 -- the name of a field, as one of two, gives back the field
 pub named : (f : Field) → fieldOf (isLarge f) ≡ f
@@ -124,13 +132,12 @@ binary Gf256 = gf256-field
 
 -- the field of four elements: x^2 + x + 1
 pub gf4-field : BinaryField (polynomials 2 0b111)
-unfolding valuesFrom timesX horner times towards
+unfolding valuesFrom timesX horner times halved euclid
 gf4-field =
-    polynomials-field (record { positive = lit< tt; from = lit≤ tt; to = lit< tt }) (by-powers 2 0b111 3 refl refl)
+    polynomials-field (record { positive = lit< tt; from = lit≤ tt; to = lit< tt }) (by-euclid 2 0b111 3 refl refl)
 
 -- a field of sixteen elements: x^4 + x^3 + x^2 + x + 1. There x^5 = 1, so x is not a generator
 pub gf16-field : BinaryField (polynomials 4 0b11111)
-unfolding valuesFrom timesX horner times firstOrZero reciprocalOf
+unfolding valuesFrom timesX horner times halved euclid
 gf16-field =
-    polynomials-field (record { positive = lit< tt; from = lit≤ tt; to = lit< tt })
-    (all-one 4 0b11111 15 (reciprocalOf 4 0b11111) refl refl)
+    polynomials-field (record { positive = lit< tt; from = lit≤ tt; to = lit< tt }) (by-euclid 4 0b11111 15 refl refl)

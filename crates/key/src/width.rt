@@ -17,7 +17,7 @@ pub fn first_place(bits: usize) -> usize
     requires { ⌜ bits ≤ 8 ⌝ }
     ensures { λ r. ⌜ r ≡ keyPlace bits 3 ⌝ }
 {
-    VALUES_PLACE + base::row_bytes(bits, 8)
+    VALUES_PLACE + base_rows::row_bytes(bits, 8)
 }
 
 // Where the list of Pub(S) begins.
@@ -25,7 +25,7 @@ pub fn labels_place(bits: usize) -> usize
     requires { ⌜ bits ≤ 8 ⌝ }
     ensures { λ r. ⌜ r ≡ keyPlace bits 4 ⌝ }
 {
-    first_place(bits) + base::row_bytes(bits, 57)
+    first_place(bits) + base_rows::row_bytes(bits, 57)
 }
 
 // Where the matrix of Pub(S') begins.
@@ -33,7 +33,7 @@ pub fn second_place(bits: usize) -> usize
     requires { ⌜ bits ≤ 8 ⌝ }
     ensures { λ r. ⌜ r ≡ keyPlace bits 5 ⌝ }
 {
-    labels_place(bits) + base::row_bytes(3, 8)
+    labels_place(bits) + base_rows::row_bytes(3, 8)
 }
 
 // The number of bytes of a key file.
@@ -41,5 +41,5 @@ pub fn file_bytes(bits: usize) -> usize
     requires { ⌜ bits ≤ 8 ⌝ }
     ensures { λ r. ⌜ r ≡ fileBytes bits ⌝ }
 {
-    second_place(bits) + base::row_bytes(bits, 57)
+    second_place(bits) + base_rows::row_bytes(bits, 57)
 }

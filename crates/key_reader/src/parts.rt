@@ -22,7 +22,7 @@ fn eight(file: &[u8], end: usize, bits: usize) -> [u8; 8]
     ensures { λ r. ⌜ r ≡ unpackedRow bits 8 (part (end - bits) bits (now (file .entry))) ⌝ }
 {
     let mut all = [0u8; 8];
-    let size = base::power(bits);
+    let size = base_rows::power(bits);
     let number = base::eight_bytes(file, end - 8);
     base::spell(&mut all, size, number);
     all
@@ -85,11 +85,11 @@ fn filler_is_zero(file: &[u8], bits: usize) -> bool
 {
     let at = key::first_place(bits);
     let end = key::labels_place(bits);
-    if !base::filler_is_zero(&file[at..end], bits, 57) {
+    if !base_rows::filler_is_zero(&file[at..end], bits, 57) {
         return false;
     }
     let after = key::second_place(bits);
-    base::filler_is_zero(&file[after..], bits, 57)
+    base_rows::filler_is_zero(&file[after..], bits, 57)
 }
 
 // Questions 2 and 3, about the numbers N and q: the number of the first question answered no, or 0 if there is none.
@@ -102,7 +102,7 @@ pub(crate) fn numbers_answer(file: &[u8], bits: usize) -> u8
         return 2;
     }
     let size = base::two_bytes(file, 1) as u64;
-    let wanted = base::power(bits);
+    let wanted = base_rows::power(bits);
     if size != wanted {
         return 3;
     }

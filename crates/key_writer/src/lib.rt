@@ -1,5 +1,6 @@
 // The key writer.
 use field::Field;
+use rows::pack_at;
 ghost use mathlib.Core.Path.{_≡_};
 ghost use mathlib.Core.Bool.{_&&_};
 ghost use Rattle.base.specs.Questions.{firstNo};
@@ -8,6 +9,8 @@ ghost use Rattle.field.specs.Fields.{bits};
 ghost use Rattle.pair_operands.specs.steps.Fitting.{fit};
 ghost use Rattle.key.specs.Keys.{keyFile, keyWriterQuestions, WroteKey};
 ghost use Rattle.key.specs.steps.Parts.{Fillable};
+
+mod rows; // rows.rt: rows of numbers packed into bytes
 
 // Does every T-value and entry fit `bits` bits?
 fn all_fit(ts: &[u8; 8], first: &[u8; 57], second: &[u8; 57], bits: usize) -> bool
@@ -77,12 +80,12 @@ fn fill(out: &mut [u8], ts: &[u8], labels: &[u8], first: &[u8], second: &[u8], b
         (now (out .entry))
         ⌝ }
 {
-    let size = base::power(bits);
+    let size = base_rows::power(bits);
     base::put(out, &[8, (size / 256) as u8, (size % 256) as u8]);
-    let matrix = base::pack_at(out, key::VALUES_PLACE, ts, bits);
-    let labels_at = base::pack_at(out, matrix, first, bits);
-    let after = base::pack_at(out, labels_at, labels, 3);
-    base::pack_at(out, after, second, bits);
+    let matrix = pack_at(out, key::VALUES_PLACE, ts, bits);
+    let labels_at = pack_at(out, matrix, first, bits);
+    let after = pack_at(out, labels_at, labels, 3);
+    pack_at(out, after, second, bits);
 }
 
 // Writes a key file over a field from fixed arrays: questions 16, 17, 4, 5, 6, 26. Bytes past the file do not change.

@@ -6,7 +6,6 @@ pub mod EliminationLaws
 pub mod Invertible
 pub mod BothSides
 pub mod SweepLaws
-pub mod MultiplyLaws
 pub mod ChangeOfLayout
 pub mod WrongEliminations
 pub mod WrongLayouts

@@ -11,8 +11,6 @@ use borrow.Author.Tests.{eq-eqb, ne-eqb}
 use lib.Dec.{eqb}
 use lib.ListN.{length, set, length-set}
 use Rattle.field.specs.Binary.{Operations, BinaryField}
-use Rattle.field_logarithms.specs.steps.Logarithms.{LogarithmsOf}
-use Rattle.field_logarithms.proofs.PowerLaws.{same-number}
 use Rattle.matrix.specs.Layout.{place, entry}
 use Rattle.matrix.specs.Elimination.{pivot, without, cleared, invertible}
 use Rattle.matrix.specs.steps.Sweeping.{Raised, RowGained, gain, Swept}
@@ -123,12 +121,6 @@ module _ (n p j : ℕ) (m a : List ℕ) (hp : p ≤ n) (hn : n < 8) (hj : j ≤ 
       other : (i c : ℕ) → i < n → c < j + 1 → Dec (c ≡ j) → entry a₂ i c ≡ entry m (without n p i) c
       other i c hi h (yes e) = rw e (other-here i hi (ℕ-discrete i p))
       other i c hi h (no d) = away i c (omega arith) (omega arith) d ∙ w .others i c hi (omega arith)
-
--- the logarithms of row p before the exchange are the logarithms of row n after it
-pub raised-logarithms : (n p : ℕ) (m a table logs : List ℕ) → Raised n p (n + 1) m a
-    → LogarithmsOf table (entry m p) (n + 1) logs
-    → LogarithmsOf table (entry a n) n logs
-raised-logarithms n p m a table logs w l j h = same-number (sym (w .last j (omega arith))) (l j (omega arith))
 
 -- ---- a row swept, column by column
 

@@ -1,2 +1,1 @@
-pub mod Multiplying
 pub mod Sweeping

@@ -3,10 +3,6 @@ ghost use mathlib.Core.Path.{_≡_};
 ghost use Prim.Native.Nat.{_%_, _<_};
 ghost use Rattle.matrix.specs.Layout.{place, entry};
 
-mod product; // product.rt: the product of two matrices
-
-pub use product::matrix_product;
-
 // The number of rows, and the number of columns.
 pub const SIZE: usize = 8;
 

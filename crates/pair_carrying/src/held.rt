@@ -77,7 +77,7 @@ fn names_at(labels: &[u8; 8], places: &[u8; 8]) -> [u8; 8]
 }
 
 // The pair of the columns' matrix and the labels at the given places.
-pub(crate) fn pair_of(columns: &[u64; 9], places: &[u8; 8], labels: &[u8; 8]) -> Pair
+pub fn pair_of(columns: &[u64; 9], places: &[u8; 8], labels: &[u8; 8]) -> Pair
     requires { ⌜ ((k : ℕ) → getD (now places) k 0 < 8) ⌝ }
     ensures { λ r.
         ⌜

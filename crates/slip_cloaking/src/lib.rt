@@ -63,7 +63,7 @@ fn comes_back(t_values: &[u8; 8], labels: &[u8], word: &[u8], f: Field) -> bool
     let identity = start.matrix;
     let copied = eight(labels);
     let before = Pair::with(identity, copied);
-    let after = pair_carrying::carry_file(before, t_values, word, f);
+    let after = pair_file::carry_file(before, t_values, word, f);
     let matrix = after.matrix;
     let reached = after.labels;
     if !base::equal(&matrix, &identity) {

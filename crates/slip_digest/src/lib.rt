@@ -1,14 +1,11 @@
 // A digest as a braid.
 ghost use mathlib.Core.Path.{_≡_};
-ghost use mathlib.Core.Bool.{_||_};
 ghost use mathlib.Core.List.{_++_};
 ghost use Prim.Native.Nat.{_+_, _-_, _≤_, _<_};
 ghost use lib.ListN.{length, take};
-ghost use Rattle.slip_digest.specs.Digest.{selected, halfByteBraid, encoded, isDigest, WroteEncoded};
+ghost use Rattle.slip_digest.specs.Digest.{selected, halfByteBraid, encoded, isDigest};
 ghost use Rattle.slip_digest.specs.steps.Runs.{progression};
-ghost use Rattle.field.specs.declared.Field.the-variants.{Gf32, Gf256};
 use field::Field;
-use word::Written;
 
 // The number of generators above b_l, up to b7. The low two bits 0, 1, 2, 3 select l = 7, 5, 3, 1.
 fn above_selected(h: u8) -> u8
@@ -77,29 +74,4 @@ pub fn is_digest(digest: &[u8], f: Field) -> bool
         Field::Gf32 => digest.len() == 32,
         Field::Gf256 => digest.len() == 64,
     }
-}
-
-// Has the digest the length that goes with one of the two fields?
-fn is_either(digest: &[u8]) -> bool
-    ensures { λ r. ⌜ r ≡ (isDigest Gf32 (now (digest .entry)) || isDigest Gf256 (now (digest .entry))) ⌝ }
-{
-    if is_digest(digest, Field::Gf32) {
-        return true;
-    }
-    is_digest(digest, Field::Gf256)
-}
-
-// The encoder alone: 15, 8. It writes the whole braid as a word file. Nothing is cancelled.
-pub fn encode(digest: &[u8], out: &mut [u8]) -> Written
-    ensures { λ r. ⌜ WroteEncoded (now (digest .entry)) (now (out .entry)) (now (out .exit)) (r .answer) (r .bytes) ⌝ }
-{
-    if out.len() < word::MAX_BYTES {
-        return Written::refused(15);
-    }
-    if !is_either(digest) {
-        return Written::refused(8);
-    }
-    let mut codes = [0u8; 2560];
-    let n = encode_into(digest, &mut codes);
-    word_writer::write_word(&codes[..n], out)
 }

@@ -1,3 +1,4 @@
 pub mod CodeRows
+pub mod CarriedLaws
 pub mod ShortBraid
 pub mod HalfBytePower

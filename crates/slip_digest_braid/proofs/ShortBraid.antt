@@ -1,5 +1,5 @@
--- The digest's braid without what cancels between half bytes is the same braid. antt computes, for every two levels,
--- that the letters up to b7 and down again reduce to the way between the levels.
+-- The digest's braid without what cancels between half bytes carries every good pair to the same pair. antt computes,
+-- for every two levels, that the letters up to b7 and down again reduce to the way between the levels.
 use Prim.Native.Nat.{ℕ, _+_, _*_, _-_, _/_, _%_, _≤_, _<_}
 use mathlib.Core.Path.{_≡_, refl, sym, ap, subst, _∙_}
 use mathlib.Core.Bool.{Bool, true, _&&_}
@@ -27,13 +27,11 @@ use Rattle.pair.specs.Good.{GoodPair}
 use Rattle.pair.specs.steps.Columns.{heldPair, valuesAt, Held, Carried}
 use Rattle.pair.proofs.WordLaws.{wordOn-append, list-carried, codes-good}
 use Rattle.pair_powers.specs.steps.Powers.{PowerTable}
-use Rattle.braid_same.specs.SameBraid.{SameBraid}
-use Rattle.braid_same.proofs.Laws.{same-none, same-then, same-append, same-inside}
-use Rattle.braid_same.proofs.Cancelling.{reduced-same}
 use Rattle.slip_digest.specs.Digest.{selected, powerOf, above, halfByteBraid, braidOf, encoded}
 use Rattle.slip_digest.proofs.Encoded.{braidOf-more}
 use Rattle.slip_digest_braid.specs.steps.Ways.{way, powerRun, levelList, Setting, CarriedFrom}
-use Rattle.slip_digest_braid.specs.steps.Ways.{HalfByteCarried, DigestCarried, ShortMatrix}
+use Rattle.slip_digest_braid.specs.steps.Ways.{SameCarried, HalfByteCarried, DigestCarried, ShortMatrix}
+use Rattle.slip_digest_braid.proofs.CarriedLaws.{same-none, same-then, same-append, same-inside, reduced-same}
 
 -- the starting pair is a good pair
 pub start-good : {F : Operations} → BinaryField F → GoodPair F start
@@ -67,18 +65,18 @@ way-rule l m hl hm =
     every-values (wayRule l) (λ m. m) 8
     (every-values (λ l. every (wayRule l) (values (λ m. m) 8)) (λ l. l) 8 ways l (omega arith)) m (omega arith)
 
-way-same : (l m : ℕ) → l ≤ 7 → m ≤ 7 → SameBraid (back l ++ down m) (way l m)
+way-same : (l m : ℕ) → l ≤ 7 → m ≤ 7 → SameCarried (back l ++ down m) (way l m)
 way-same l m hl hm =
     let t = way-rule l m hl hm in
     let letters = every isLetter (back l ++ down m) in
-    subst (SameBraid (back l ++ down m))
+    subst (SameCarried (back l ++ down m))
     (equal-true (reduced (back l ++ down m)) (way l m)
     (and-right letters (equal (reduced (back l ++ down m)) (way l m)) t))
     (reduced-same (back l ++ down m) (and-left letters (equal (reduced (back l ++ down m)) (way l m)) t))
 
 -- one more half byte: v reaches level l, and the way to the half byte's level and its power follow
-step-same : (w v : List ℕ) (l h : ℕ) → l ≤ 7 → selected h ≤ 7 → SameBraid w (v ++ back l)
-    → SameBraid (w ++ halfByteBraid h) ((v ++ (way l (selected h) ++ powerRun h)) ++ back (selected h))
+step-same : (w v : List ℕ) (l h : ℕ) → l ≤ 7 → selected h ≤ 7 → SameCarried w (v ++ back l)
+    → SameCarried (w ++ halfByteBraid h) ((v ++ (way l (selected h) ++ powerRun h)) ++ back (selected h))
 unfolding halfByteBraid
 step-same w v l h hl hm s =
     let m : ℕ = selected h in
@@ -90,8 +88,8 @@ step-same w v l h hl hm s =
     ap (λ (x : List ℕ). v ++ x) (sym (append-assoc (way l m) (powerRun h) (back m)))
     ∙ sym (append-assoc v (way l m ++ powerRun h) (back m)) in
     same-then (same-append s (same-none (down m ++ rest)))
-    (subst (λ (x : List ℕ). SameBraid x ((v ++ (way l m ++ powerRun h)) ++ back m)) e
-    (subst (SameBraid (v ++ ((back l ++ down m) ++ rest))) d
+    (subst (λ (x : List ℕ). SameCarried x ((v ++ (way l m ++ powerRun h)) ++ back m)) e
+    (subst (SameCarried (v ++ ((back l ++ down m) ++ rest))) d
     (same-inside v rest (way-same l m hl hm))))
 
 -- ---- lists
@@ -128,12 +126,12 @@ value-at : (ts : List ℕ) (a : ℕ) → a < 8 → tValue ts inOrder a ≡ getD 
 unfolding tValue
 value-at ts a h = ap (λ (k : ℕ). getD ts k 0) (getD-values (λ a. a) 8 a h)
 
--- The loop over half bytes: a word is multiplied in that, with the way back to level 7, is the same braid as the first
--- k half bytes. It leaves the list of level l.
+-- The loop over half bytes: a word is multiplied in that, with the way back to level 7, carries pairs as the braid of
+-- the first k half bytes does. It leaves the list of level l.
 pub record Reached (bits : ℕ) (constants powers hs : List ℕ) (k l : ℕ) (columns labels columns′ labels′ : List ℕ) :
     Type 0 where
   pub word : List ℕ
-  pub same : SameBraid (braidOf (take k hs)) (word ++ back l)
+  pub same : SameCarried (braidOf (take k hs)) (word ++ back l)
   pub list-is : listAfter (levelList 7) word ≡ levelList l
   pub holds : Held bits constants columns′ labels′
   pub carries : CarriedFrom bits constants powers 7 word columns labels columns′ labels′
@@ -182,7 +180,7 @@ more-reached {bits} {k} {l} {cs} {powers} {hs} {columns} {labels} {columns′} {
     v : List ℕ
     v = way l (selected h) ++ powerRun h
 
-    grown : SameBraid (braidOf (take (k + 1) hs)) ((r .word ++ v) ++ back m)
+    grown : SameCarried (braidOf (take (k + 1) hs)) ((r .word ++ v) ++ back m)
     grown =
         rw (braidOf-more hs k b, ← e, em)
         (step-same (braidOf (take k hs)) (r .word) l h hl (rw (← em) hm) (r .same))

@@ -1,4 +1,4 @@
-// The matrix that a digest's braid reaches, multiplied without what cancels between half bytes.
+// The matrix that a digest's braid reaches, without what cancels.
 use field::Field;
 use field::LARGE_BITS;
 use field::LARGE_MODULUS;
@@ -54,7 +54,8 @@ fn level(h: u8) -> usize
     7 - above
 }
 
-// Multiplies in a half byte from level `from`: the way to its own level, which is returned, and its power at once.
+// Multiplies in a half byte from level `from`: first the way to its own level, then its power at once. Returns its own
+// level.
 fn half_byte(
     columns: &mut [u64; 9],
     labels: &mut [u8; 8],

@@ -54,7 +54,7 @@ fn half_of(held: Key, digest: &[u8]) -> Half
     let pair = held.pair;
     let second = held.second;
     let first = slip_digest_braid::digest_matrix(&t_values, digest, f);
-    let target = matrix::matrix_product(&first, &second, f);
+    let target = matrix_product::matrix_product(&first, &second, f);
     Half {
         field: f,
         t_values,
@@ -73,7 +73,7 @@ fn copy_answer(half: Half, word: &[u8]) -> u8
     let t_values = half.t_values;
     let pair = half.pair;
     let target = half.target;
-    let reached = pair_carrying::carry_file(pair, &t_values, word, f);
+    let reached = pair_file::carry_file(pair, &t_values, word, f);
     let matrix = reached.matrix;
     if !base::equal(&matrix, &target) {
         return 14;

@@ -184,7 +184,7 @@ pub extern "C" fn walnut_write_word(codes: &[u8], out: &mut [u8]) -> Written
 pub extern "C" fn walnut_encode_digest(digest: &[u8], out: &mut [u8]) -> Written
     ensures { λ r. ⌜ WroteEncoded (now (digest .entry)) (now (out .entry)) (now (out .exit)) (r .answer) (r .bytes) ⌝ }
 {
-    slip_digest::encode(digest, out)
+    slip_encoder::encode(digest, out)
 }
 
 #[no_mangle]

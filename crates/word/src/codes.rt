@@ -1,5 +1,5 @@
 // Unpacks the codes of a word. Eight bytes are read as one number, and sixteen codes are taken from it. The last bytes,
-// under eight, are unpacked singly.
+// fewer than eight, are unpacked singly.
 ghost use Prim.Native.Nat.{_+_, _*_, _≤_, _<_};
 ghost use mathlib.Core.Path.{_≡_};
 ghost use lib.ListN.{length};

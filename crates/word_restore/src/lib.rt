@@ -29,12 +29,12 @@ fn sizes_answer(file: &[u8]) -> u8
         return 10;
     }
     let signs = base::two_bytes(file, 2);
-    let sign_bytes = base::row_bytes(1, letters);
+    let sign_bytes = base_rows::row_bytes(1, letters);
     if signs != sign_bytes {
         return 28;
     }
     let generators = base::two_bytes(file, 4);
-    let generator_bytes = base::row_bytes(3, letters);
+    let generator_bytes = base_rows::row_bytes(3, letters);
     if generators != generator_bytes {
         return 28;
     }
@@ -54,9 +54,9 @@ fn is_filled(file: &[u8], n: usize) -> bool
         && eqb (rowFiller 3 n (generatorPart (now (file .entry)))) 0
         ⌝ }
 {
-    let at = 6 + base::row_bytes(1, n);
-    let signs = base::filler_is_zero(&file[6..at], 1, n);
-    let generators = base::filler_is_zero(&file[at..], 3, n);
+    let at = 6 + base_rows::row_bytes(1, n);
+    let signs = base_rows::filler_is_zero(&file[6..at], 1, n);
+    let generators = base_rows::filler_is_zero(&file[at..], 3, n);
     signs & generators
 }
 
@@ -108,7 +108,7 @@ fn unpack(file: &[u8], n: usize, codes: &mut [u8])
     requires { ⌜ Sized (now file) n × (length (now codes) ≡ 10000) ⌝ }
     ensures { λ _. ⌜ take n (now (codes .exit)) ≡ storedCodes (now (file .entry)) ⌝ }
 {
-    let groups = base::row_bytes(1, n);
+    let groups = base_rows::row_bytes(1, n);
     let at = 6 + groups;
     let mut generators = [0u8; 3750];
     base::put(&mut generators, &file[at..]);

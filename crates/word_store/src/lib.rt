@@ -115,8 +115,8 @@ fn write_stored(part: &[u8], n: usize, out: &mut [u8]) -> usize
     requires { ⌜ Storable (now part) n × (5006 ≤ length (now out)) ⌝ }
     ensures { λ r. ⌜ WritesStored (now (part .entry)) n (now (out .entry)) (now (out .exit)) r ⌝ }
 {
-    let groups = base::row_bytes(1, n);
-    let generators = base::row_bytes(3, n);
+    let groups = base_rows::row_bytes(1, n);
+    let generators = base_rows::row_bytes(3, n);
     write_sizes(out, n, groups, generators);
     let mut whole = [0u8; 5000];
     base::put(&mut whole, part);

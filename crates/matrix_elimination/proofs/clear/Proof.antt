@@ -1,18 +1,28 @@
 -- `matrix_elimination::clear` meets its contract. Without a pivot the matrix is not invertible. With a pivot it is
 -- invertible exactly if the cleared matrix is.
-use Prim.Native.Nat.{ℕ}
+use Prim.Native.Nat.{ℕ, _+_}
 use mathlib.Core.Path.{sym, ap, _∙_}
+use mathlib.Core.List.{List}
 use native.Mathlib.Omega.{arith}
 use lib.ListN.{getD}
 use Rattle.field.specs.Fields.{operations}
 use Rattle.field.proofs.Fields.{degree, binary}
 use Rattle.field.proofs.TableLaws.{inverse-at, reciprocals-short}
+use Rattle.field_logarithms.specs.steps.Logarithms.{LogarithmsOf}
+use Rattle.field_logarithms.proofs.PowerLaws.{same-number}
 use Rattle.matrix.specs.Layout.{entry}
 use Rattle.matrix.specs.Elimination.{invertible}
-use Rattle.matrix.proofs.SweepLaws.{raised-logarithms, clear-none, clear-some}
+use Rattle.matrix.specs.steps.Sweeping.{Raised}
+use Rattle.matrix.proofs.SweepLaws.{clear-none, clear-some}
 use borrow.Author.Needs.{needs}
 use Rattle.matrix_elimination.proofs.clear.Statement.{statement}
 use Rattle.matrix_elimination.proofs.clear.Tie as tie
+
+-- the logarithms of row p before the exchange are the logarithms of row n after it
+raised-logarithms : (n p : ℕ) (m a table logs : List ℕ) → Raised n p (n + 1) m a
+    → LogarithmsOf table (entry m p) (n + 1) logs
+    → LogarithmsOf table (entry a n) n logs
+raised-logarithms n p m a table logs w l j h = same-number (sym (w .last j (omega arith))) (l j (omega arith))
 
 pivot-row-requires : tie.Need-pivot-row-requires
 pivot-row-requires c κs = search needs

@@ -11,11 +11,11 @@ use Rattle.field.specs.Binary.{Operations, BinaryField}
 use Rattle.field.specs.Polynomial.{Degree, polynomials}
 use Rattle.matrix_columns.specs.steps.Constants.{Constants}
 use Rattle.word.specs.Strands.{inOrder, listAfter}
+use Rattle.pair.specs.declared.Pair.{Pair}
 use Rattle.pair.specs.Action.{wordOn, start}
 use Rattle.pair.specs.Good.{TValues, GoodPair}
 use Rattle.pair.specs.steps.Columns.{heldPair, Held}
 use Rattle.pair_powers.specs.steps.Powers.{PowerTable}
-use Rattle.braid_same.specs.SameBraid.{SameBraid}
 use Rattle.slip_digest.specs.Digest.{selected, powerOf, above, encoded}
 
 -- The way from level l to level m: the inverses of b_(l+1) up to b_m, or b_l down to b_(m+1).
@@ -38,7 +38,7 @@ pub record Setting (bits p : ℕ) (ts constants powers : List ℕ) : Type 0 wher
   pub constants-are : Constants (polynomials bits p) bits ts constants
   pub powers-are : PowerTable (polynomials bits p) bits constants 4 powers
 
--- the word w carries the pair of columns and labels, if it is good and stands at level l, to the new ones
+-- If the pair of columns and labels is good and stands at level l, the word w carries it to the new pair.
 abbrev pub CarriedFrom : ℕ → List ℕ → List ℕ → ℕ → List ℕ → List ℕ → List ℕ → List ℕ → List ℕ → Type 0
 CarriedFrom bits constants powers l w columns labels columns′ labels′ =
     (p : ℕ) (ts : List ℕ) → Setting bits p ts constants powers → GoodPair (polynomials bits p) (heldPair columns labels)
@@ -56,11 +56,16 @@ abbrev pub HalfByteOn : ℕ → List ℕ → List ℕ → ℕ → ℕ → ℕ �
 HalfByteOn bits constants powers l h r columns labels columns′ labels′ =
     (r ≡ selected h) × (r ≤ 7) × HalfByteCarried bits constants powers l h columns labels columns′ labels′
 
--- from level 7, a word is multiplied in that is the same braid as the digest's braid, and it leaves some list
+-- over every binary field, for all T-values other than zero, both words carry each good pair to the same pair
+pub record SameCarried (x y : List ℕ) : Type 0 where
+  pub carried : (F : Operations) → BinaryField F → (ts : List ℕ) → TValues F ts → (p : Pair) → GoodPair F p
+      → wordOn F ts y p ≡ wordOn F ts x p
+
+-- from level 7, a word is multiplied in that carries pairs as the digest's braid does, and it leaves some list
 pub record DigestCarried (bits : ℕ) (constants powers digest columns labels columns′ : List ℕ) : Type 0 where
   pub word : List ℕ
   pub list : List ℕ
-  pub same : SameBraid (encoded digest) word
+  pub same : SameCarried (encoded digest) word
   pub carries : CarriedFrom bits constants powers 7 word columns labels columns′ list
 
 -- over a binary field and T-values other than zero, r is the matrix reached from the identity by the digest's braid

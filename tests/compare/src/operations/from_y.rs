@@ -3,7 +3,7 @@
 use reference::dialect::Way;
 
 use crate::operation::prelude::*;
-use crate::operations::to_y::{facts, make, no_parts, small};
+use crate::operations::to_y::{call, facts, make, no_parts, small};
 
 pub struct FromY;
 
@@ -17,16 +17,7 @@ impl Operation for FromY {
     }
 
     fn call(&self, by: By, input: &Input) -> Outcome {
-        let [word, parts] = input.slices();
-        let (codes, n, list, m) = (word.as_ptr(), word.len(), parts.as_ptr(), parts.len());
-        input.lending(|out| {
-            let (bytes, room) = (out.as_mut_ptr(), out.len());
-            match by {
-                // SAFETY: see `Operation::call`.
-                By::Library => outcome!(unsafe { walnut_from_y(codes, n, list, m, bytes, room) }, bytes),
-                By::Reference => outcome!(reference::from_y(word, parts, out), bytes),
-            }
-        })
+        call(Way::FromY, by, input)
     }
 
     fn fixed(&self) -> Vec<Fixed> {

@@ -31,16 +31,7 @@ impl Operation for ToY {
     }
 
     fn call(&self, by: By, input: &Input) -> Outcome {
-        let [word, parts] = input.slices();
-        let (codes, n, list, m) = (word.as_ptr(), word.len(), parts.as_ptr(), parts.len());
-        input.lending(|out| {
-            let (bytes, room) = (out.as_mut_ptr(), out.len());
-            match by {
-                // SAFETY: see `Operation::call`.
-                By::Library => outcome!(unsafe { walnut_to_y(codes, n, list, m, bytes, room) }, bytes),
-                By::Reference => outcome!(reference::to_y(word, parts, out), bytes),
-            }
-        })
+        call(Way::ToY, by, input)
     }
 
     fn fixed(&self) -> Vec<Fixed> {
@@ -69,6 +60,26 @@ impl Operation for ToY {
     fn small(&self, run: &mut Run) -> Checked {
         small(&ToY, run)
     }
+}
+
+/// Calls a conversion of the library, or of the reference.
+pub fn call(way: Way, by: By, input: &Input) -> Outcome {
+    let [word, parts] = input.slices();
+    let (codes, n, list, m) = (word.as_ptr(), word.len(), parts.as_ptr(), parts.len());
+    input.lending(|out| {
+        let (bytes, room) = (out.as_mut_ptr(), out.len());
+        // SAFETY: see `Operation::call`.
+        match (by, way) {
+            (By::Library, Way::ToY) => {
+                outcome!(unsafe { walnut_to_y(codes, n, list, m, bytes, room) }, bytes)
+            }
+            (By::Library, Way::FromY) => {
+                outcome!(unsafe { walnut_from_y(codes, n, list, m, bytes, room) }, bytes)
+            }
+            (By::Reference, Way::ToY) => outcome!(reference::to_y(word, parts, out), bytes),
+            (By::Reference, Way::FromY) => outcome!(reference::from_y(word, parts, out), bytes),
+        }
+    })
 }
 
 /// A word and parts of 7 for a conversion. For 34 a long word with the single part 7.
