@@ -1,10 +1,10 @@
-//! How many letters shortening saves, and how long it takes. For each class of words the program measures the library
-//! at several efforts, the same search in plain C, and other ways to shorten a word.
+//! How much shortening saves, and how long it takes. For each class of words the program measures the library at
+//! several efforts, the same search in plain C, and other ways to shorten a word.
 //!
 //! `bench saving` prints a line for each class and way. A line has the class, the way, the effort, the mean number of
-//! letters before and after, and the mean microseconds for a word of the library and of plain C. The last number is 0
-//! if plain C does not have the way. Lines of random turns have the time of the turns in place of the library's.
-//! `bench/picture` draws these lines.
+//! letters of a word before and after, the mean bytes of its file before and after, and the mean microseconds for a
+//! word of the library and of plain C. The last number is 0 if plain C does not have the way. Lines of random turns
+//! have the time of the turns in place of the library's. `bench/picture` draws these lines.
 
 use std::hint::black_box;
 use std::time::{Duration, Instant};
@@ -101,16 +101,18 @@ fn times<const WAYS: usize>(words: &[Vec<u8>], ways: [Way; WAYS]) -> [f64; WAYS]
     sums.map(|sum| sum * 1e6 / words.len() as f64)
 }
 
-/// The number of letters of all words together.
-fn sum(words: &[Vec<u8>]) -> usize {
-    words.iter().map(|word| letters(word).len()).sum()
+/// The mean number of letters of a word, and the mean bytes of its file.
+fn sizes(files: &[Vec<u8>]) -> [f64; 2] {
+    let count: usize = files.iter().map(|file| letters(file).len()).sum();
+    let bytes: usize = files.iter().map(Vec::len).sum();
+    [count, bytes].map(|sum| sum as f64 / files.len() as f64)
 }
 
-/// Prints the line of a way and a class. `after` is the number of letters of all words after shortening.
-fn line(class: &Class, way: &str, effort: usize, after: usize, micros: [f64; 2]) {
-    let (name, count) = (class.name, class.words.len());
-    let (before, after) = (sum(&class.words) as f64 / count as f64, after as f64 / count as f64);
-    println!("{name}\t{way}\t{effort}\t{before:.1}\t{after:.1}\t{:.1}\t{:.1}", micros[0], micros[1]);
+/// Prints the line of a way and a class. `after` has the word files after shortening.
+fn line(class: &Class, way: &str, effort: usize, after: &[Vec<u8>], micros: [f64; 2]) {
+    let ([letters, bytes], [left, short]) = (sizes(&class.words), sizes(after));
+    print!("{}\t{way}\t{effort}\t{letters:.1}\t{left:.1}\t{bytes:.1}\t{short:.1}", class.name);
+    println!("\t{:.1}\t{:.1}", micros[0], micros[1]);
 }
 
 /// Measures a way that only the library has, and prints its line. It prints no line if the way refuses a word.
@@ -120,7 +122,7 @@ fn alone(class: &Class, name: &str, way: Way) {
     }
     let after: Vec<Vec<u8>> = class.words.iter().map(|word| made(word, way)).collect();
     let [micros] = times(&class.words, [way]);
-    line(class, name, 0, sum(&after), [micros, 0.0]);
+    line(class, name, 0, &after, [micros, 0.0]);
 }
 
 /// Measures arcs at an effort, and prints the line. Returns false if the words of the library and of plain C differ.
@@ -130,16 +132,17 @@ fn arcs(class: &Class, effort: u16) -> bool {
     let plain = |word: &[u8], out: &mut [u8]| plain_c::shorten(word, effort, out);
     let after: Vec<Vec<u8>> = class.words.iter().map(|word| made(word, library)).collect();
     let same = class.words.iter().zip(&after).all(|(word, short)| made(word, plain) == *short);
-    line(class, "arcs", effort.into(), sum(&after), times(&class.words, [&library, &plain]));
+    line(class, "arcs", effort.into(), &after, times(&class.words, [&library, &plain]));
     same
 }
 
 /// Measures random turns with `tries` tries for each letter, and prints the line. Each word is shortened once.
 fn turns(class: &Class, tries: usize) {
     let start = Instant::now();
-    let after = class.words.iter().map(|word| turned(&letters(word), tries).len()).sum();
+    let after: Vec<Vec<u8>> = class.words.iter().map(|word| turned(&letters(word), tries)).collect();
     let micros = start.elapsed().as_secs_f64() * 1e6 / class.words.len() as f64;
-    line(class, "turns", tries, after, [micros, 0.0]);
+    let files: Vec<Vec<u8>> = after.iter().map(|codes| word_file(codes)).collect();
+    line(class, "turns", tries, &files, [micros, 0.0]);
 }
 
 /// Prints all lines. Returns false if the words of the library and of plain C differ.

@@ -1,15 +1,10 @@
-// The search for a shorter word: a fixed generator of numbers draws places, and the arc at each place is laid anew by a
-// cheapest plan.
+// The search for a shorter word: a fixed generator draws places, and the arc at each is laid anew.
+use arc_plan::find_plan;
+use arc_reach::longest;
 use arc_relay::relay;
-use plan::find_plan;
-use reach::back;
-use reach::on;
 ghost use Prim.Native.Nat.{_+_, _≤_, _<_};
 ghost use lib.ListN.{length};
 ghost use Rattle.arc_search.specs.Search.{Searched};
-
-mod plan; // plan.rt: a cheapest plan for an arc
-mod reach; // reach.rt: where an arc begins and ends
 
 // The most letters of an arc: 256 to each side of its place.
 const PART: usize = 512;
@@ -22,26 +17,30 @@ fn next(seed: usize) -> usize
     seed * 48271 % 2147483647
 }
 
-// A place of a word of n codes.
-fn place(drawn: usize, n: usize) -> usize
+// What a number decides: the place of a letter, whether the arc goes over or under, the end at which the plan begins,
+// and the side taken at a tie.
+struct Choice {
+    place: usize,
+    under: bool,
+    from_end: bool,
+    coin: bool,
+}
+
+// What the number drawn decides in a word of n codes.
+fn decided(drawn: usize, n: usize) -> Choice
     requires { ⌜ 0 < n ⌝ }
-    ensures { λ r. ⌜ r < n ⌝ }
+    ensures { λ r. ⌜ r .place < n ⌝ }
 {
-    drawn % n
-}
-
-// The place of the strand before its own letter c.
-fn before(c: u8, under: bool) -> u8
-    ensures { λ r. ⌜ r ≤ 7 ⌝ }
-{
-    if (8 <= c) == under {
-        return c % 8;
+    let rest = drawn / n;
+    Choice {
+        place: drawn % n,
+        under: rest % 2 == 1,
+        from_end: rest / 2 % 2 == 1,
+        coin: rest / 4 % 2 == 1,
     }
-    (c % 8 + 1) % 8
 }
 
-// One step: the longest arc through the letter at the place drawn is laid anew. The number drawn gives the place,
-// whether the arc goes over or under, the end at which the plan begins, and the side taken at a tie.
+// One step: the longest arc through the letter at the place drawn is laid anew.
 fn one_step(
     codes: &mut [u8],
     n: usize,
@@ -52,19 +51,19 @@ fn one_step(
     requires { ⌜ (0 < n) × (n ≤ length (now codes)) × (n ≤ 10000) ⌝ }
     ensures { λ r. ⌜ Searched n (now (codes .entry)) (now (codes .exit)) r ⌝ }
 {
-    let k = place(drawn, n);
-    let choice = drawn / n;
-    let under = choice % 2 == 1;
-    let from_end = choice / 2 % 2 == 1;
-    let coin = choice / 4 % 2 == 1;
-    let x = before(codes[k], under);
-    let start = back(codes, k, x, under);
-    let end = on(codes, n, k, x, under);
-    let b = start.at;
-    let e = end.at;
-    let p = start.strand;
-    find_plan(&codes[b..e], plan, p, end.strand, from_end, coin);
-    relay(codes, n, b, e, p, under, plan, out)
+    let choice = decided(drawn, n);
+    let arc = longest(codes, n, choice.place, choice.under);
+    let b = arc.begin;
+    let e = arc.end;
+    find_plan(
+        &codes[b..e],
+        plan,
+        arc.from,
+        arc.to,
+        choice.from_end,
+        choice.coin,
+    );
+    relay(codes, n, b, e, arc.from, choice.under, plan, out)
 }
 
 // The search. It makes `effort` steps for each letter that the word has at the start.

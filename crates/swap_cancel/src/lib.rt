@@ -2,7 +2,6 @@
 // letters that cancel, and a second pass takes the marks out.
 use marking::mark_all;
 use packing::pack_kept;
-use word::MAX_LETTERS;
 ghost use Prim.Native.Nat.{_≤_};
 ghost use mathlib.Core.Path.{_≡_};
 ghost use mathlib.Core.Bool.{true};
@@ -19,7 +18,6 @@ pub fn swap_cancel(codes: &mut [u8], n: usize) -> usize
     requires { ⌜ (n ≤ 10000) × (n ≤ length (now codes)) × (every isLetter (take n (now codes)) ≡ true) ⌝ }
     ensures { λ r. ⌜ Cancelled n (now (codes .entry)) (now (codes .exit)) r ⌝ }
 {
-    let mut before = [0u16; MAX_LETTERS];
-    mark_all(codes, n, &mut before);
+    mark_all(codes, n);
     pack_kept(codes, n)
 }

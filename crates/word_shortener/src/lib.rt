@@ -1,4 +1,4 @@
-// Shortening of a word file: the shorter of two words that arcs give, one with handle reduction before and one without.
+// Shortening of a word file: the shorter of two words that arcs give, with handle reduction before and without.
 use routes::shorten_codes;
 use word::MAX_BYTES;
 use word::MAX_LETTERS;

@@ -9,8 +9,8 @@ use Rattle.swap_cancel.proofs.swap_cancel.Tie as tie
 
 returns : tie.Need-returns
 returns c =
-    let b = c .before .before .before .before .before .before .before .before .before .before .before in
-    let m = c .before .before .before .before .before .before .before .mark-all in
+    let b = c .before .before .before .before .before .before .before .before .before in
+    let m = c .before .before .before .before .before .before .mark-all in
     let p = c .before .before .pack-kept in
     let word = p .ensures .1 ∙ m .ensures in
     let fits =
@@ -20,4 +20,4 @@ returns c =
 pub swap-cancel-spec : {M : Type 1} → statement M
 swap-cancel-spec =
     tie.close
-    (tie.spec (λ c. search needs) (λ c κs. search needs) (λ c κs. search needs) (λ c. search needs) returns)
+    (tie.spec (λ c κs. search needs) (λ c κs. search needs) (λ c. search needs) returns)

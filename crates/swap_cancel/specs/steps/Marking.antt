@@ -64,3 +64,7 @@ Alone codes last c =
     (getD last (generator c + 1) 0 ≤ getD last (generator c) 0)
     ⊎ ((getD last (generator c + 1) 0 ≤ getD last (generator c + 2) 0)
     ⊎ (getD codes (getD last (generator c + 1) 0 - 1) 0 ≡ inverse c → ⊥))
+
+-- place p - 1 holds the letter that cancels with c, or p is 0 and no letter does
+abbrev pub PartnerOrNone : List ℕ → List ℕ → ℕ → ℕ → Type 0
+PartnerOrNone codes last c p = ((p ≡ 0) × Alone codes last c) ⊎ Partner codes last c p

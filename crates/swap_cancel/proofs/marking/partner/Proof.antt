@@ -1,9 +1,7 @@
 -- `swap_cancel::marking::partner` meets its contract.
-use Prim.Native.Nat.{ℕ, _-_}
-use mathlib.Core.Path.{refl, sym, ap, _∙_}
+use mathlib.Core.Path.{refl, sym, _∙_}
 use mathlib.Core.Logic.{inl, inr}
 use native.Mathlib.Omega.{arith}
-use lib.ListN.{getD}
 use borrow.Author.Needs.{needs}
 use Rattle.swap_cancel.proofs.marking.partner.Statement.{statement}
 use Rattle.swap_cancel.proofs.marking.partner.Tie as tie
@@ -11,12 +9,9 @@ use Rattle.swap_cancel.proofs.marking.partner.Tie as tie
 -- the letter that cancels is found
 returns-4 : tie.Need-returns-4
 returns-4 c =
-    let own = c .before .before .before .before .before .before .before .before .before .wide .ensures in
-    let below = c .before .before .before .before .before .before .before .wide2 .ensures in
-    let above = c .before .before .before .before .wide3 .ensures in
     inr record {
       some = omega arith;
-      own = sym own;
+      own = refl;
       below = omega arith;
       above = omega arith;
       cancels = c .if3 .left ∙ c .before .inverse .ensures;
@@ -24,20 +19,13 @@ returns-4 c =
 
 -- no letter cancels
 returns : tie.Need-returns
-returns c =
-    let own = c .before .before .before .wide .ensures in
-    let below = c .before .wide2 .ensures in
-    inl (refl, inl (omega arith))
+returns c = inl (refl, inl (omega arith))
 
 returns-2 : tie.Need-returns-2
 returns-2 c = inl (refl, inr (inl (omega arith)))
 
 returns-3 : tie.Need-returns-3
-returns-3 c =
-    let w = c .before .before .before .before .before .before .before .before .before in
-    let codes = w .before .before .before .before .args .codes .now in
-    let at-own = ap (λ (i : ℕ). getD codes (i - 1) 0) (w .wide .ensures) in
-    inl (refl, inr (inr (λ e. c .if3 .taken (at-own ∙ e ∙ sym (c .before .inverse .ensures)))))
+returns-3 c = inl (refl, inr (inr (λ e. c .if3 .taken (e ∙ sym (c .before .inverse .ensures)))))
 
 pub partner-spec : {M : Type 1} → statement M
 partner-spec =
@@ -47,16 +35,14 @@ partner-spec =
     (λ c. search needs)
     (λ c. search needs)
     (λ c. search needs)
-    (λ c κs. search needs)
     (λ c. search needs)
     (λ c. search needs)
-    (λ c κs. search needs)
     returns
     (λ c. search needs)
     (λ c. search needs)
     (λ c. search needs)
-    (λ c κs. search needs)
     returns-2
+    (λ c. search needs)
     (λ c. search needs)
     (λ c. search needs)
     (λ c κs. search needs)

@@ -1,11 +1,12 @@
+-- `arc_reach::on` stays inside the word, and within 256 letters of place k.
 use Prim.Native.Nat.{_+_, _-_, _≤_}
 use borrow.Author.Needs.{needs}
-use Rattle.arc_search.proofs.reach.on.Statement.{statement}
-use Rattle.arc_search.proofs.reach.on.Tie as tie
-use Rattle.arc_search.proofs.reach.on.Reads as reads
-use Rattle.arc_search.proofs.reach.on.Lts as lts
-use Rattle.arc_search.proofs.reach.after.Reads as after-reads
-use Rattle.arc_search.proofs.reach.highest.Reads as highest-reads
+use Rattle.arc_reach.proofs.on.Statement.{statement}
+use Rattle.arc_reach.proofs.on.Tie as tie
+use Rattle.arc_reach.proofs.on.Reads as reads
+use Rattle.arc_reach.proofs.on.Lts as lts
+use Rattle.arc_reach.proofs.after.Reads as after-reads
+use Rattle.arc_reach.proofs.highest.Reads as highest-reads
 
 abbrev Inv-loop : tie.InvT-loop
 Inv-loop codes n k x under high₀ at₀ strand₀ high at strand =

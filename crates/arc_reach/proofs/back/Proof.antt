@@ -1,11 +1,12 @@
+-- `arc_reach::back` stays inside the word, and within 256 letters of place k.
 use Prim.Native.Nat.{_+_, _-_, _≤_}
 use borrow.Author.Needs.{needs}
-use Rattle.arc_search.proofs.reach.back.Statement.{statement}
-use Rattle.arc_search.proofs.reach.back.Tie as tie
-use Rattle.arc_search.proofs.reach.back.Reads as reads
-use Rattle.arc_search.proofs.reach.back.Lts as lts
-use Rattle.arc_search.proofs.reach.after.Reads as after-reads
-use Rattle.arc_search.proofs.reach.lowest.Reads as lowest-reads
+use Rattle.arc_reach.proofs.back.Statement.{statement}
+use Rattle.arc_reach.proofs.back.Tie as tie
+use Rattle.arc_reach.proofs.back.Reads as reads
+use Rattle.arc_reach.proofs.back.Lts as lts
+use Rattle.arc_reach.proofs.after.Reads as after-reads
+use Rattle.arc_reach.proofs.lowest.Reads as lowest-reads
 
 abbrev Inv-loop : tie.InvT-loop
 Inv-loop codes k x under low₀ at₀ strand₀ low at strand =

@@ -1,12 +1,13 @@
+-- `arc_plan::distances` stays inside its array.
 use Prim.Native.Nat.{_-_, _≤_}
 use mathlib.Core.Path.{_≡_}
 use lib.ListN.{length}
 use borrow.Author.Needs.{needs}
-use Rattle.arc_search.proofs.plan.distances.Statement.{statement}
-use Rattle.arc_search.proofs.plan.distances.Tie as tie
-use Rattle.arc_search.proofs.plan.distances.Reads as reads
-use Rattle.arc_search.proofs.plan.distances.Lts as lts
-use Rattle.arc_search.proofs.plan.distance.Reads as distance-reads
+use Rattle.arc_plan.proofs.distances.Statement.{statement}
+use Rattle.arc_plan.proofs.distances.Tie as tie
+use Rattle.arc_plan.proofs.distances.Reads as reads
+use Rattle.arc_plan.proofs.distances.Lts as lts
+use Rattle.arc_plan.proofs.distance.Reads as distance-reads
 
 abbrev Inv-loop : tie.InvT-loop
 Inv-loop x steps₀ z₀ steps z =

@@ -1,11 +1,20 @@
-// How far a strand goes over all others, or under all others, backward and forward from a letter.
+// The longest arc through a letter. Its strand goes over all others, or under all others, backward and forward.
 ghost use Prim.Native.Nat.{_+_, _≤_, _<_};
 ghost use lib.ListN.{length};
+ghost use Rattle.arc_reach.specs.steps.Reaching.{ArcAround};
 
 // Where an arc begins or ends: the place in the word, and the place of the strand.
-pub(crate) struct Reach {
+struct Reach {
     pub at: usize,
     pub strand: u8,
+}
+
+// The letters from place `begin` to place `end` - 1 of a word. The strand goes from place `from` to place `to`.
+pub struct Arc {
+    pub begin: usize,
+    pub end: usize,
+    pub from: u8,
+    pub to: u8,
 }
 
 // The place of the strand after a letter, or 8 if the strand's own letter has the wrong sign.
@@ -52,7 +61,7 @@ fn highest(k: usize, n: usize) -> usize
 }
 
 // Goes back from place k, over at most 256 letters. The strand stands at place x before letter k.
-pub(crate) fn back(codes: &[u8], k: usize, x: u8, under: bool) -> Reach
+fn back(codes: &[u8], k: usize, x: u8, under: bool) -> Reach
     requires { ⌜ (k ≤ length (now codes)) × (k < 65536) × (x ≤ 7) ⌝ }
     ensures { λ r. ⌜ (r .at ≤ k) × (k ≤ r .at + 256) × (r .strand ≤ 7) ⌝ }
 {
@@ -72,7 +81,7 @@ pub(crate) fn back(codes: &[u8], k: usize, x: u8, under: bool) -> Reach
 }
 
 // Goes forward from place k of a word of n codes, over at most 256 letters.
-pub(crate) fn on(codes: &[u8], n: usize, k: usize, x: u8, under: bool) -> Reach
+fn on(codes: &[u8], n: usize, k: usize, x: u8, under: bool) -> Reach
     requires { ⌜ (k ≤ n) × (n ≤ length (now codes)) × (n < 65536) × (x ≤ 7) ⌝ }
     ensures { λ r. ⌜ (k ≤ r .at) × (r .at ≤ k + 256) × (r .at ≤ n) × (r .strand ≤ 7) ⌝ }
 {
@@ -89,4 +98,30 @@ pub(crate) fn on(codes: &[u8], n: usize, k: usize, x: u8, under: bool) -> Reach
         }
     }
     Reach { at, strand }
+}
+
+// The place of the strand before its own letter c.
+fn before(c: u8, under: bool) -> u8
+    ensures { λ r. ⌜ r ≤ 7 ⌝ }
+{
+    if (8 <= c) == under {
+        return c % 8;
+    }
+    (c % 8 + 1) % 8
+}
+
+// The longest arc through the letter at place k of a word of n codes, with at most 256 letters to each side.
+pub fn longest(codes: &[u8], n: usize, k: usize, under: bool) -> Arc
+    requires { ⌜ (k < n) × (n ≤ length (now codes)) × (n ≤ 10000) ⌝ }
+    ensures { λ r. ⌜ ArcAround n k r ⌝ }
+{
+    let x = before(codes[k], under);
+    let start = back(codes, k, x, under);
+    let end = on(codes, n, k, x, under);
+    Arc {
+        begin: start.at,
+        end: end.at,
+        from: start.strand,
+        to: end.strand,
+    }
 }

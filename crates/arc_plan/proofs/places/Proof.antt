@@ -1,23 +1,26 @@
+-- `arc_plan::places` meets its contract. The loop's invariant: no code after the first n changed.
 use Prim.Native.Nat.{_-_, _≤_}
-use mathlib.Core.Path.{_≡_}
+use mathlib.Core.Path.{_≡_, refl, _∙_}
 use lib.ListN.{length}
+use lib.Seq.{drop-set-lt}
+use Rattle.arc_plan.specs.steps.Planning.{Planned}
 use borrow.Author.Needs.{needs}
-use Rattle.arc_search.proofs.plan.places.Statement.{statement}
-use Rattle.arc_search.proofs.plan.places.Tie as tie
-use Rattle.arc_search.proofs.plan.places.Reads as reads
-use Rattle.arc_search.proofs.plan.places.Lts as lts
-use Rattle.arc_search.proofs.plan.given_way.Reads as given-way-reads
-use Rattle.arc_search.proofs.plan.turned.Reads as turned-reads
+use Rattle.arc_plan.proofs.places.Statement.{statement}
+use Rattle.arc_plan.proofs.places.Tie as tie
+use Rattle.arc_plan.proofs.places.Reads as reads
+use Rattle.arc_plan.proofs.places.Lts as lts
+use Rattle.arc_plan.proofs.given_way.Reads as given-way-reads
+use Rattle.arc_plan.proofs.turned.Reads as turned-reads
 
 abbrev Inv-loop : tie.InvT-loop
 Inv-loop plan₀ n near last-first x₀ j₀ plan x j =
-    (j ≤ n) × (x ≤ 7) × (length plan ≡ length plan₀)
+    (j ≤ n) × (x ≤ 7) × (length plan ≡ length plan₀) × Planned n plan₀ plan
 
 abbrev μ-loop : tie.MeasureT-loop
 μ-loop plan₀ n near last-first x₀ j₀ plan x j = n - j
 
 loop-holds : tie.Need-loop-holds Inv-loop μ-loop
-loop-holds c = search needs
+loop-holds c = (search needs, search needs, refl, refl)
 
 turned-requires : tie.Need-turned-requires Inv-loop μ-loop
 turned-requires c κs = search needs
@@ -38,13 +41,21 @@ loop-less : tie.Need-loop-less Inv-loop μ-loop
 loop-less c = search needs
 
 loop-again : tie.Need-loop-again Inv-loop μ-loop
-loop-again c = search needs
+loop-again c =
+    let l = c .before .before .before .before .loop in
+    let t = c .before .before .turned in
+    let n = c .before .before .before .before .before .before .args .n in (
+      search needs,
+      search needs,
+      search needs,
+      drop-set-lt n (l .plan) (t .result) (c .given-way .result) (t .ensures) ∙ l .inv .3,
+    )
 
 same-length : tie.Need-same-length Inv-loop μ-loop
 same-length c = search needs
 
 returns : tie.Need-returns Inv-loop μ-loop
-returns c = search needs
+returns c = c .before .loop .inv .3
 
 pub places-spec : {M : Type 1} → statement M
 places-spec =

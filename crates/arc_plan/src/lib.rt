@@ -1,8 +1,9 @@
-// A cheapest plan for a strand: its place at each letter of the part. The strand gives way only where it stands between
-// the two strands that a letter crosses. It goes to the side from which fewer steps are still to come. The first pass
-// finds these sides, and the second pass goes the other way and writes the plan.
+// A cheapest plan for an arc. A plan has the strand's place at each letter of the part. The strand gives way only where
+// it stands between the two strands that a letter crosses. It goes to the side from which fewer steps are to come. The
+// first pass finds these sides, and the second pass goes the other way and writes the plan.
 ghost use Prim.Native.Nat.{_+_, _≤_, _<_};
 ghost use lib.ListN.{length};
+ghost use Rattle.arc_plan.specs.steps.Planning.{Planned};
 
 // The place between the two strands that the letter crosses. The answer is 8 if the letter is the strand's own.
 fn gap(c: u8, x: u8) -> u8
@@ -87,6 +88,7 @@ fn side(c: u8, x: u8, coin: bool, steps: &mut [u8; 9]) -> u8
 // The first pass, from the end at which the strand stands at place `far`.
 fn sides(part: &[u8], plan: &mut [u8], far: u8, last_first: bool, coin: bool)
     requires { ⌜ (length (now part) ≤ length (now plan)) × (far ≤ 7) ⌝ }
+    ensures { λ _. ⌜ Planned (length (now (part .entry))) (now (plan .entry)) (now (plan .exit)) ⌝ }
 {
     let mut steps = distances(far);
     let mut x = far;
@@ -117,6 +119,7 @@ fn given_way(side: u8, x: u8) -> u8
 // The second pass, from the end at which the strand stands at place `near`, over n letters.
 fn places(plan: &mut [u8], n: usize, near: u8, last_first: bool)
     requires { ⌜ (n ≤ length (now plan)) × (near ≤ 7) ⌝ }
+    ensures { λ _. ⌜ Planned n (now (plan .entry)) (now (plan .exit)) ⌝ }
 {
     let mut x = near;
     let mut j = 0;
@@ -129,9 +132,10 @@ fn places(plan: &mut [u8], n: usize, near: u8, last_first: bool)
 }
 
 // Writes a cheapest plan for a part in which the strand goes from place p to place y. The plan may be found from either
-// end.
-pub(crate) fn find_plan(part: &[u8], plan: &mut [u8], p: u8, y: u8, from_end: bool, coin: bool)
+// end. At a tie between two sides, the coin decides.
+pub fn find_plan(part: &[u8], plan: &mut [u8], p: u8, y: u8, from_end: bool, coin: bool)
     requires { ⌜ (length (now part) ≤ length (now plan)) × (p ≤ 7) × (y ≤ 7) ⌝ }
+    ensures { λ _. ⌜ Planned (length (now (part .entry))) (now (plan .entry)) (now (plan .exit)) ⌝ }
 {
     if from_end {
         sides(part, plan, p, false, coin);
