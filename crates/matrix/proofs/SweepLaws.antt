@@ -11,6 +11,7 @@ use borrow.Author.Tests.{eq-eqb, ne-eqb}
 use lib.Dec.{eqb}
 use lib.ListN.{length, set, length-set}
 use Rattle.field.specs.Binary.{Operations, BinaryField}
+use Rattle.field.proofs.Ring.{add-zero, mul-zero}
 use Rattle.matrix.specs.Layout.{place, entry}
 use Rattle.matrix.specs.Elimination.{pivot, without, cleared, invertible}
 use Rattle.matrix.specs.steps.Sweeping.{Raised, RowGained, gain, Swept}
@@ -208,3 +209,20 @@ module _ {F : Operations} (L : BinaryField F) (n : ℕ) (m : List ℕ) (p : ℕ)
           v .done i c hi hc ∙ (λ k. F .add (x k) (F .mul (F .mul (e k) (y k)) (z k)))
           ∙ ap (F .add (entry m (without n p i) c))
           (divided (F .inv (entry m p n)) (entry m (without n p i) n) (entry m p c))
+
+-- a column that needs no clearing: the entry on the diagonal is the only one of row n that is not zero
+pub clear-alone : {F : Operations} → BinaryField F → (n : ℕ) (m : ℕ → ℕ → ℕ) → (m n n ≡ 0 → ⊥)
+    → ((c : ℕ) → c < n → m n c ≡ 0)
+    → invertible F (n + 1) m ≡ invertible F n m
+unfolding invertible cleared
+clear-alone {F} L n m d zeros =
+    rw (add-one n, pivot-here (λ i. m i n) n d, ne-eqb (m n n) 0 d) (invertible-same F n (cleared F n n m) m same)
+  where
+    same : (i c : ℕ) → i < n → c < n → cleared F n n m i c ≡ m i c
+    same i c hi hc =
+        let q = F .inv (m n n) in
+        ap (λ (k : ℕ). F .add (m k c) (F .mul (m k n) (F .mul q (m n c)))) (without-other n n i (λ e. omega arith))
+        ∙ ap (λ (x : ℕ). F .add (m i c) (F .mul (m i n) (F .mul q x))) (zeros c hc)
+        ∙ ap (λ (x : ℕ). F .add (m i c) (F .mul (m i n) x)) (mul-zero L q)
+        ∙ ap (F .add (m i c)) (mul-zero L (m i n))
+        ∙ add-zero L (m i c)

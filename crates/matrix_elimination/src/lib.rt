@@ -7,7 +7,7 @@ use field_logarithms::times;
 use matrix::SIZE;
 use matrix::place;
 ghost use mathlib.Core.Path.{_≡_};
-ghost use mathlib.Core.Bool.{_&&_, false};
+ghost use mathlib.Core.Bool.{_&&_, true, false};
 ghost use Prim.Native.Nat.{_+_, _<_, _≤_};
 ghost use lib.ListN.{length};
 ghost use Rattle.field.specs.Fields.{bits, modulus, operations};
@@ -128,21 +128,57 @@ fn clear(m: &mut [u8; 64], table: &[u16], inverses: &[u8], n: usize, f: Field) -
     true
 }
 
-// Has each of two matrices an inverse? The caller lends the tables of the field. The matrices take turns, column by
-// column: the processor works on one while it waits for entries of the other.
-fn both_eliminated(
-    first: [u8; 64],
-    second: [u8; 64],
-    table: &[u16],
-    inverses: &[u8],
-    f: Field,
-) -> bool
+// Is the corner the only entry of the last row that is not zero? Then the other rows gain nothing from the last row.
+fn corner_alone(m: &[u8; 64], f: Field) -> bool
+    ensures { λ r.
+        ⌜
+        (r ≡ true
+        → invertible (operations f) 8 (entry (now (m .entry))) ≡ invertible (operations f) 7 (entry (now (m .entry))))
+        ⌝ }
+{
+    let mut j = 0;
+    while j < 7 {
+        let x = m[place(7, j)];
+        if x != 0 {
+            return false;
+        }
+        j += 1;
+    }
+    let corner = m[place(7, 7)];
+    if corner == 0 {
+        return false;
+    }
+    true
+}
+
+// Clears the last column. If the corner stands alone in the last row, as it does in every key file, nothing changes.
+fn clear_last(m: &mut [u8; 64], table: &[u16], inverses: &[u8], f: Field) -> bool
+    requires { ⌜
+        (length (now m) ≡ 64) × ProductsBy f (now table) × (now inverses ≡ reciprocals (bits f) (modulus f))
+        ⌝ }
+    ensures { λ r.
+        ⌜
+        (length (now (m .exit)) ≡ 64)
+        × (invertible (operations f) 8 (entry (now (m .entry)))
+        ≡ r && invertible (operations f) 7 (entry (now (m .exit))))
+        ⌝ }
+{
+    if corner_alone(m, f) {
+        return true;
+    }
+    clear(m, table, inverses, 7, f)
+}
+
+// Has the 7 by 7 matrix of each of two matrices, without its last row and column, an inverse? The caller lends the
+// tables of the field. The matrices take turns, column by column: the processor works on one while it waits for entries
+// of the other. The loop's first n is a constant, so the compiler unrolls the loops inside it.
+fn both_cleared(first: [u8; 64], second: [u8; 64], table: &[u16], inverses: &[u8], f: Field) -> bool
     requires { ⌜ ProductsBy f (now table) × (now inverses ≡ reciprocals (bits f) (modulus f)) ⌝ }
-    ensures { λ r. ⌜ r ≡ (invertible (operations f) 8 (entry first) && invertible (operations f) 8 (entry second)) ⌝ }
+    ensures { λ r. ⌜ r ≡ (invertible (operations f) 7 (entry first) && invertible (operations f) 7 (entry second)) ⌝ }
 {
     let mut a = first;
     let mut b = second;
-    let mut n = SIZE;
+    let mut n = SIZE - 1;
     while 0 < n {
         n -= 1;
         let found = clear(&mut a, table, inverses, n, f);
@@ -155,6 +191,30 @@ fn both_eliminated(
         }
     }
     true
+}
+
+// Has each of two matrices an inverse? The caller lends the tables of the field.
+fn both_eliminated(
+    first: [u8; 64],
+    second: [u8; 64],
+    table: &[u16],
+    inverses: &[u8],
+    f: Field,
+) -> bool
+    requires { ⌜ ProductsBy f (now table) × (now inverses ≡ reciprocals (bits f) (modulus f)) ⌝ }
+    ensures { λ r. ⌜ r ≡ (invertible (operations f) 8 (entry first) && invertible (operations f) 8 (entry second)) ⌝ }
+{
+    let mut a = first;
+    let mut b = second;
+    let found = clear_last(&mut a, table, inverses, f);
+    if !found {
+        return false;
+    }
+    let also = clear_last(&mut b, table, inverses, f);
+    if !also {
+        return false;
+    }
+    both_cleared(a, b, table, inverses, f)
 }
 
 // Has each of two matrices an inverse? The tables are copied once for both.

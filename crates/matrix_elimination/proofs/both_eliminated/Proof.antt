@@ -1,125 +1,54 @@
--- `matrix_elimination::both_eliminated` meets its contract. The loop's invariant: each matrix is invertible exactly if
--- the n by n matrix that is left of it is invertible.
-use Prim.Native.Nat.{ℕ, _+_, _-_, _<_, _≤_}
-use mathlib.Core.Path.{_≡_, refl, sym, ap, ap₂, _∙_}
-use mathlib.Core.Bool.{Bool, true, false, _&&_}
-use mathlib.Core.List.{List}
-use native.Mathlib.Omega.{arith}
+-- `matrix_elimination::both_eliminated` meets its contract: each matrix is invertible exactly if its last column has a
+-- pivot and the 7 by 7 matrix that is left of it is invertible.
+use mathlib.Core.Path.{sym, ap, ap₂, _∙_}
+use mathlib.Core.Bool.{Bool, _&&_}
+use borrow.Author.Needs.{needs}
 use borrow.Author.Tests.{not-true, not-false}
-use lib.ListN.{length}
+use Rattle.base.proofs.ListLaws.{and-false}
 use Rattle.field.specs.Fields.{operations}
-use Rattle.field.specs.declared.Field.{Field}
 use Rattle.matrix.specs.Layout.{entry}
 use Rattle.matrix.specs.Elimination.{invertible}
 use Rattle.matrix_elimination.proofs.both_eliminated.Statement.{statement}
 use Rattle.matrix_elimination.proofs.both_eliminated.Tie as tie
 
-abbrev has-inverse : Field → ℕ → List ℕ → Bool
-has-inverse f n a = invertible (operations f) n (entry a)
+abbrev start-of : tie.After-clear-last → tie.Start
+start-of one = one .before .before .before .before
 
--- writes the size n as n - 1 + 1
-less : (f : Field) (n : ℕ) (a : List ℕ) → 0 < n → has-inverse f n a ≡ has-inverse f (n - 1 + 1) a
-less f n a pos = let size : n ≡ n - 1 + 1 = omega arith in ap (λ (k : ℕ). has-inverse f k a) size
-
-second-none : (x : Bool) → (x && false) ≡ false
-second-none true = refl
-second-none false = refl
-
-abbrev Inv-loop : tie.InvT-loop
-Inv-loop table inverses f a₀ b₀ n₀ a b n =
-    (n ≤ 8) × (length a ≡ 64) × (length b ≡ 64) × (has-inverse f 8 a₀ ≡ has-inverse f n a)
-    × (has-inverse f 8 b₀ ≡ has-inverse f n b)
-
-abbrev μ-loop : tie.MeasureT-loop
-μ-loop table inverses f a₀ b₀ n₀ a b n = n
-
-abbrev field : tie.At-loop Inv-loop μ-loop → Field
-field l = l .before .before .before .args .f
-
-abbrev loop-of : tie.After-clear Inv-loop μ-loop → tie.At-loop Inv-loop μ-loop
-loop-of b = b .before .before .before
-
-some-left : (b : tie.After-clear Inv-loop μ-loop) → 0 < loop-of b .loop .n
-some-left b = omega arith
-
-loop-holds : tie.Need-loop-holds Inv-loop μ-loop
-loop-holds c = let g = c .before .before .good in (omega arith, g .0 .1 .0 .1, g .1 .0 .1 .0 .1, refl, refl)
-
-clear-requires : tie.Need-clear-requires Inv-loop μ-loop
-clear-requires c κs =
-    let l = c .before .before in
-    let s = l .before .before .before in
-    (l .loop .inv .1, s .pre .0, s .pre .1, omega arith)
-
-returns : tie.Need-returns Inv-loop μ-loop
+returns : tie.Need-returns
 returns c =
-    let b = c .before in
-    let l = loop-of b in
-    let f = field l in
-    let second = l .before .before .before .args .second in
+    let one = c .before in
+    let a = start-of one .args in
     sym
-    (ap (λ (x : Bool). x && has-inverse f 8 second)
-    (l .loop .inv .3 ∙ less f (l .loop .n) (l .loop .a) (some-left b)
-    ∙ (rw (not-true (b .clear .result) (c .if1 .taken)) at (b .clear .ensures .1))))
+    (ap (λ (x : Bool). x && invertible (operations (a .f)) 8 (entry (a .second)))
+    (rw (not-true (one .clear-last .result) (c .if1 .taken)) at (one .clear-last .ensures .1)))
 
-clear-requires-2 : tie.Need-clear-requires-2 Inv-loop μ-loop
-clear-requires-2 c κs =
-    let b = c .before .before in
-    let l = loop-of b in
-    let s = l .before .before .before in
-    (l .loop .inv .2, s .pre .0, s .pre .1, omega (arith, some-left b, l .loop .inv .0))
-
-returns-2 : tie.Need-returns-2 Inv-loop μ-loop
+returns-2 : tie.Need-returns-2
 returns-2 c =
-    let d = c .before in
-    let b = d .before .before .before in
-    let l = loop-of b in
-    let f = field l in
-    let first = l .before .before .before .args .first in
+    let two = c .before in
+    let a = start-of (two .before .before .before) .args in
+    let first = invertible (operations (a .f)) 8 (entry (a .first)) in
     sym
-    (ap (λ (x : Bool). has-inverse f 8 first && x)
-    (l .loop .inv .4 ∙ less f (l .loop .n) (l .loop .b) (some-left b)
-    ∙ (rw (not-true (d .clear2 .result) (c .if2 .taken)) at (d .clear2 .ensures .1)))
-    ∙ second-none (has-inverse f 8 first))
+    (ap (λ (x : Bool). first && x)
+    (rw (not-true (two .clear-last2 .result) (c .if2 .taken)) at (two .clear-last2 .ensures .1))
+    ∙ and-false first)
 
-loop-again : tie.Need-loop-again Inv-loop μ-loop
-loop-again c =
-    let d = c .before in
-    let e = d .before .before in
-    let b = e .before in
-    let l = loop-of b in
-    let f = field l in (
-      omega (arith, some-left b, l .loop .inv .0),
-      b .clear .ensures .0,
-      d .clear2 .ensures .0,
-      l .loop .inv .3 ∙ less f (l .loop .n) (l .loop .a) (some-left b)
-          ∙ (rw (not-false (b .clear .result) (e .if1 .left)) at (b .clear .ensures .1)),
-      l .loop .inv .4 ∙ less f (l .loop .n) (l .loop .b) (some-left b)
-          ∙ (rw (not-false (d .clear2 .result) (c .if2 .left)) at (d .clear2 .ensures .1)),
-    )
-
-returns-3 : tie.Need-returns-3 Inv-loop μ-loop
-unfolding invertible
+returns-3 : tie.Need-returns-3
 returns-3 c =
-    let l = c .before in
-    let f = field l in
-    let z : l .loop .n ≡ 0 = omega arith in
-    sym
-    (ap₂ (λ (x y : Bool). x && y) (l .loop .inv .3 ∙ ap (λ (k : ℕ). has-inverse f k (l .loop .a)) z)
-    (l .loop .inv .4 ∙ ap (λ (k : ℕ). has-inverse f k (l .loop .b)) z))
+    let two = c .before .before in
+    let one = two .before .before .before in
+    c .both-cleared .ensures
+    ∙ sym
+    (ap₂ (λ (x y : Bool). x && y)
+    (rw (not-false (one .clear-last .result) (two .before .before .if1 .left)) at (one .clear-last .ensures .1))
+    (rw (not-false (two .clear-last2 .result) (c .before .if2 .left)) at (two .clear-last2 .ensures .1)))
 
 pub both-eliminated-spec : {M : Type 1} → statement M
 both-eliminated-spec =
     tie.close
     (tie.spec
-    Inv-loop
-    μ-loop
-    loop-holds
-    (λ c. omega arith)
-    clear-requires
+    (λ c κs. search needs)
     returns
-    clear-requires-2
+    (λ c κs. search needs)
     returns-2
-    (λ c. omega arith)
-    loop-again
+    (λ c κs. search needs)
     returns-3)
