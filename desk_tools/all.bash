@@ -1,5 +1,5 @@
-# Sourced by ./walnut: `judge --all` and `shorten --all`, on every slip of a folder. One run of a program takes many
-# slips. A bad slip is reported and does not stop the run.
+# Sourced by ./walnut: `judge --all` and `shorten --all`, on every slip of a folder, and `judge` of several signatures.
+# One run of a program takes many slips. A bad slip is reported and does not stop the run.
 
 # The last part of a pipe runs in this shell, so that it can set variables. This needs no /dev/fd.
 shopt -s lastpipe
@@ -82,13 +82,20 @@ lacking() {
 
 # ---- what is said about a slip
 
-# told NAME ANSWER WORDS: the line of a slip.
-told() {
-    no_progress
+# line_of NAME ANSWER WORDS: sets $line to the line of a slip or a signature. A line end in the name does not end it.
+line_of() {
     case $1 in
-        *[[:cntrl:]]*) put "${1@Q}: $2: $3" ;;
-        *) put "$1: $2: $3" ;;
+        *[[:cntrl:]]*) line="${1@Q}: $2: $3" ;;
+        *) line="$1: $2: $3" ;;
     esac
+}
+
+# told NAME ANSWER WORDS: prints the line of a slip.
+told() {
+    local line
+    no_progress
+    line_of "$@"
+    put "$line"
 }
 
 # The texts of all answers, from answers.txt.
@@ -308,7 +315,10 @@ most_bytes() {
 every() {
     local some=() arguments=() length=0 most each
     verb=$1 folder=$3 key=${4-} shown=$((SECONDS + 1))
-    [ ! -f "$folder" ] || [ ! -d "$key" ] || say "the names seem to be in the wrong order; the order is FOLDER KEY"
+    if [ -f "$folder" ] && [ -d "$key" ]; then
+        say "'$folder' and '$key' seem to be in the wrong order: give FOLDER first, and then KEY"
+        exit 1
+    fi
     if [ ! -d "$folder" ] || [ ! -r "$folder" ]; then
         say "'$folder' is not a readable folder: correct the name"
         exit 1
@@ -346,4 +356,63 @@ to_write() {
     beside_place "$folder/"
     said=$(mktemp) || exit 1
     trap 'rm -f -- "$beside" "$said"' EXIT
+}
+
+# ---- several signatures of one slip
+
+# copies KEY DIGEST SIGNATURE..: ends the run with a line for each signature, in order. Standard error names each
+# signature with its answer, and then says once for each answer what to do.
+copies() {
+    local files=("$@") lines line out number k status=0
+    out=$("$bin/desk" "$@" </dev/null) || broken desk
+    [ -n "$out" ] || unread
+    mapfile -t lines <<<"$out"
+    [ ${#lines[@]} -eq $(($# - 2)) ] || broken desk
+    for line in "${lines[@]}"; do
+        [ "$line" = 'no answer' ] || is_answer "$line" || broken desk
+    done
+    read_texts
+    for k in "${!lines[@]}"; do
+        copy "${lines[k]}" "$1" "$2" "${files[k + 2]}"
+    done
+    for number in $(printf '%s\n' "${!refusals[@]}" | sort -n); do
+        is_of_copy "$number" && say "after answer $number: $(of_answer "$number" 3)"
+    done
+    [ "$status" != 0 ] || say "all ${#lines[@]} signatures are good"
+    exit "$status"
+}
+
+# is_of_copy ANSWER: succeeds if the answer is about the signature. The other answers are about the key or the digest.
+is_of_copy() {
+    case $1 in
+        [1-8] | 26) return 1 ;;
+    esac
+}
+
+# copy LINE KEY DIGEST SIGNATURE: prints the line of a signature, says what was found, and sets $status. It reports a
+# fault of the key or the digest only once. The program has already said why it could not read a file.
+copy() {
+    local line reason
+    put "$1"
+    if [ "$1" = 'no answer' ]; then
+        quoted "$4"
+        say "there is no answer for $quoted: correct its name, or fetch it again"
+        status=1
+        return
+    fi
+    is_answer "$1"
+    if [ "$answer" = 0 ]; then
+        line_of "$4" "$1" 'the slip is good'
+        say "$line"
+        return
+    fi
+    [ "$status" = 1 ] || status=4
+    refusals[$answer]=$((${refusals[$answer]-0} + 1))
+    if is_of_copy "$answer"; then
+        reason "$answer" "${@:2}"
+        line_of "$4" "$1" "${texts[$answer]}: $reason"
+        say "$line"
+    elif [ "${refusals[$answer]}" -eq 1 ]; then
+        say_refusal about_slip "${@:2}"
+    fi
 }

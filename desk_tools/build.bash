@@ -92,6 +92,21 @@ startable() {
     done
 }
 
+# next_end: waits until a crate of $begun ends, and sets $each and $status. A process that is killed writes no line to
+# $ends. It is found when no line comes for a second, and counts as one that ended with 137.
+next_end() {
+    local line
+    until read -r -t 1 line <&7; do
+        for each in "${!begun[@]}"; do
+            [ -n "${proved[$each]-}" ] || kill -0 "${begun[$each]}" 2>/dev/null && continue
+            # a process that ended just before has left its line
+            read -r -t 0.1 line <&7 || line="$each 137"
+            break 2
+        done
+    done
+    each=${line% *} status=${line#* }
+}
+
 # prove_used: proves the crates of $uses, as many at a time as there are cores. A crate starts as soon as all that it uses
 # is proved. The crate with the longest way up to the crates that are wanted comes first. The first crate that is not
 # proved ends this. What rt says goes to the log.
@@ -105,12 +120,13 @@ prove_used() {
             [ "$running" -lt "${RT_JOBS:-$cores}" ] || break
             startable "$each" || continue
             counted "$each"
-            begun[$each]=1 running=$((running + 1))
             { alone "$each"; echo "$each $?" >&7; } 9>&- &
+            begun[$each]=$! running=$((running + 1))
         done
         [ "$running" -gt 0 ] || break
-        read -r each status <&7
+        next_end
         said_of "$each" >>"$log"
+        [ "$status" -le 128 ] || echo "$each: the process that proves it was killed: run the command again" >>"$log"
         proved[$each]=1 running=$((running - 1))
     done
     wait

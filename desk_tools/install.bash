@@ -17,7 +17,7 @@ installed_in() {
         install -m 644 "$root"/desk_tools/eyes/*.py "$share/desk_tools/eyes/" &&
         install -m 644 "$root"/bindings/python/walnut/{__init__.py,py.typed} "$share/bindings/python/walnut/" &&
         install -m 644 "$root/answers.txt" "$share/" &&
-        install -m 644 "$root/docs/DESK.md" "$share/docs/" &&
+        install -m 644 "$root"/docs/{DESK,FORMATS}.md "$share/docs/" &&
         install -m 644 "$root"/docs/slip/* "$share/docs/slip/" &&
         install -m 644 "$root/desk_tools/completion" "$1/share/bash-completion/completions/walnut" || return 1
     for page in 1 3; do
@@ -50,9 +50,10 @@ bundle() {
     # The exit trap removes this folder, so it is not a local variable.
     folder=$(mktemp -d) || exit 1
     trap 'rm -rf -- "$beside" "$folder"' EXIT
-    # pkg-config finds the unpacked library from the place of its own file
+    # pkg-config finds the unpacked library from the place of its own file. It escapes the spaces of that place itself,
+    # so the file must have no quotes.
     if ! { installed_in "$folder/walnut" &&
-        sed -i 's|^prefix=.*|prefix=${pcfiledir}/../..|' "$folder/walnut/lib/pkgconfig/walnut.pc" &&
+        sed -i 's|^prefix=.*|prefix=${pcfiledir}/../..|; s|"||g' "$folder/walnut/lib/pkgconfig/walnut.pc" &&
         tar -czf "$beside" --owner=0 --group=0 -C "$folder" walnut &&
         mv -fT -- "$beside" "$1"; }; then
         say "'$1' could not be written (see above), and is not changed: choose another place, or make room"

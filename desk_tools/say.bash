@@ -296,7 +296,7 @@ about_all() {
     say "the key is '$1', $key bytes, the digest is '$2', $digest bytes, and the word is '$3', $word bytes"
 }
 
-# slip_order KEY DIGEST SIGNATURE: says if these look like key, digest and word in another order.
+# slip_order KEY DIGEST SIGNATURE: if these look like key, digest and word in another order, says so and sets $mixed.
 slip_order() {
     is_key "$1" && is_digest "$2" && is_word "$3" && return 0
     local order
@@ -304,7 +304,8 @@ slip_order() {
         set -- "$1" "$2" "$3" $order
         if is_key "${!4}" && is_digest "${!5}" && is_word "${!6}"; then
             say "the files seem to be in the wrong order: '${!4}' looks like the key, '${!5}' like the digest and" \
-                "'${!6}' like the signature; the order is KEY DIGEST SIGNATURE"
+                "'${!6}' like the signature; give them in the order KEY DIGEST SIGNATURE"
+            mixed=yes
             return 0
         fi
     done
@@ -333,7 +334,8 @@ about_rewrite() {
     hex_hint "$2" "$3"
     if ! is_word "$2" && is_moves "$2" && is_word "$3"; then
         say "the files seem to be in the wrong order: '$2' looks like the move list and '$3' like the word;" \
-            "the order is WORD MOVES NEW"
+            "give them in the order WORD MOVES NEW"
+        mixed=yes
     fi
 }
 

@@ -2,6 +2,20 @@
  * walnut: braid words, keys, E-multiplication and verdicts for WalnutDSA on eight strands, at strength 128 (the field
  * with 32 elements) and at strength 256 (the field with 256 elements).
  *
+ * EXAMPLE. Is a slip good? Key, digest and signature are the bytes of its three files.
+ *
+ *     uint8_t answer = walnut_verify(key, key_bytes, digest, digest_bytes, signature, signature_bytes);
+ *     if (answer == WALNUT_ANSWER_ACCEPTED)
+ *         puts("the slip is good");
+ *     else
+ *         printf("answer %u: %s\n", answer, walnut_text(answer));
+ *
+ *     gcc program.c $(pkg-config --cflags --libs walnut) -o program
+ *     LD_LIBRARY_PATH=$(pkg-config --variable=libdir walnut) ./program
+ *
+ * For a library in a folder PREFIX, first export PKG_CONFIG_PATH=PREFIX/lib/pkgconfig. The loader needs LD_LIBRARY_PATH
+ * if it does not search the library's folder. The man page walnut(3) has other ways to link.
+ *
  * ANSWERS. Every function takes any bytes. Each function asks its questions in the order that its comment lists. The
  * answer is the number of the first question that the input fails, or 0. enum walnut_answer names the numbers, and
  * walnut_text says what failed. On an answer other than 0 no memory of the caller changes, a yes or no is no, and all

@@ -116,7 +116,6 @@ def tree(folder, programs):
     a folder, or the text of a shell script for each name. Returns the options with which `run` starts the copy."""
     folder = os.path.abspath(folder)
     os.makedirs(os.path.join(folder, "target", "bin"))
-    os.makedirs(os.path.join(folder, "crates", "none"))
     os.makedirs(os.path.join(folder, "path"))
     for name in ("walnut", "desk", "answers.txt"):
         shutil.copy(os.path.join(ROOT, name), folder)
@@ -124,8 +123,8 @@ def tree(folder, programs):
     put(os.path.join(folder, "crates.txt"), listed.encode())
     shutil.copytree(os.path.join(ROOT, "desk_tools"), os.path.join(folder, "desk_tools"))
     script(os.path.join(folder, "path", "rt"), "exit 0")
-    put(os.path.join(folder, "crates", "none", "file"), b"")
     for name in PROGRAMS:
+        os.makedirs(os.path.join(folder, "crates", name))
         place = os.path.join(folder, "target", "bin", name)
         if isinstance(programs, str):
             shutil.copy(os.path.join(programs, name), place)

@@ -400,6 +400,7 @@ class Values(Case):
         run = subprocess.run([sys.executable, "-c", "import walnut"], env=environment, capture_output=True, text=True)
         self.assertNotEqual(run.returncode, 0)
         self.assertIn(f"libwalnut.so.1 was looked for in {os.devnull}, which WALNUT_LIB_DIR names", run.stderr)
+        self.assertIn("build it by './library' and name its folder by WALNUT_LIB_DIR", run.stderr)
 
 
     def test_equal_values_have_no_hash(self):

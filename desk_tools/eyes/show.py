@@ -16,8 +16,8 @@ SURE = 10000
 
 
 def main(what, *paths):
-    shows = {"word": show_word, "stored": show_stored, "key": show_key, "moves": show_moves, "shelf": show_shelf}
-    shows[what](*paths)
+    shows = {"word": show_word, "y-word": show_y_word, "stored": show_stored, "key": show_key, "moves": show_moves}
+    {**shows, "shelf": show_shelf}[what](*paths)
 
 
 def places(first, count):
@@ -28,18 +28,16 @@ def places(first, count):
 # ---- words
 
 
-def show_word(path, dialect=None):
+def show_word(path):
     codes, size = word(path)[1:]
-    told = f"{count(len(codes), 'letter')} in {size} bytes"
-    if dialect == "--y":
-        print_rows(f"a word of Y letters: {told}", codes, y_text)
-    else:
-        print_letters(f"a word of {told}", codes)
+    print_letters(f"a word of {count(len(codes), 'letter')} in {size} bytes", codes)
 
 
-def y_text(code):
-    """A letter of the Y dialect. Which strands it crosses depends on the parts, which the file does not hold."""
-    return letter_text(code).replace("b", "y")
+def show_y_word(path):
+    """A word in Y letters. Which strands a letter crosses depends on the parts, which the file does not hold."""
+    codes, size = word(path)[1:]
+    told = f"a word of Y letters: {count(len(codes), 'letter')} in {size} bytes"
+    print_rows(told, codes, lambda code: letter_text(code).replace("b", "y"))
 
 
 def print_rows(told, codes, text):

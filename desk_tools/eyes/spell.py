@@ -15,7 +15,7 @@ def main(what, text, path):
     data, size = files.read(text, files.TEXT_BYTES)
     if size > files.TEXT_BYTES:
         raise Refused(0, f"'{text}' has {size} bytes; a text has at most {files.TEXT_BYTES} bytes")
-    files.write(path, {"word": spell_word, "moves": spell_moves}[what](text, data))
+    files.write(path, {"word": spell_word, "y-word": spell_y_word, "moves": spell_moves}[what](text, data))
 
 
 def rows(path, data):
@@ -40,18 +40,25 @@ def bad(path, number, why):
     return Refused(0, f"'{path}', line {number}: {why}")
 
 
-def code(path, number, word):
+def code(path, number, word, name="b"):
+    """The code of a letter, b1 to b7 or y1 to y7. A letter y has the code of the letter b with its number."""
     try:
-        return walnut.letter_code(word)
+        return walnut.letter_code("b" + word[1:] if word[0] == name else "")
     except ValueError:
-        raise bad(path, number, f"'{word}' is not a letter; letters are b1 to b7 and b1^-1 to b7^-1") from None
+        told = f"'{word}' is not a letter; letters are {name}1 to {name}7 and {name}1^-1 to {name}7^-1"
+        told += "; for Y letters: spell word --y" if re.fullmatch(r"y[1-7](\^-1)?", word) else ""
+        raise bad(path, number, told) from None
 
 
-def spell_word(path, data):
+def spell_y_word(path, data):
+    return spell_word(path, data, "y")
+
+
+def spell_word(path, data, name="b"):
     codes = []
     for number, told, words in rows(path, data):
         numbered(path, number, told, len(codes), "its first letter has place")
-        codes += [code(path, number, word) for word in words]
+        codes += [code(path, number, word, name) for word in words]
     try:
         return walnut.write_word(codes)
     except walnut.Refusal as refusal:

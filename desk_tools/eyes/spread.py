@@ -131,7 +131,8 @@ def svg(length):
     return "\n".join(
         [
             f'<svg xmlns="http://www.w3.org/2000/svg" viewBox="0 0 {width} {high}" width="{width}" height="{high}">',
-            f"<title>how words of length {length} spread over the lists of four labels</title>",
+            f"<title>how words of each length up to {LENGTHS[-1]} spread over the lists of four labels,"
+            f" with bars for length {length}</title>",
             STYLE,
             f'<rect width="{width}" height="{high}" fill="#fff" style="stroke:none"/>',
             *names(),

@@ -330,7 +330,7 @@ def _library() -> ctypes.CDLL:
     except OSError as error:
         folder = os.path.dirname(beside)
         looked = f"{named}, which WALNUT_LIB_DIR names" if named else f"{folder} and the system's folders"
-        raise OSError(f"{name} was looked for in {looked}: {error}") from error
+        raise OSError(f"{name} was looked for in {looked}: {error}; {_HELP}") from error
     _declare(library, path)
     return library
 

@@ -1,4 +1,1 @@
 pub mod DeskLaws
-pub mod CopyLaws
-pub mod Enough
-pub mod WrongRooms

@@ -21,7 +21,7 @@ use Rattle.shelf.specs.Charges.{admitted, charging}
 use Rattle.shelf.specs.Calls.{Work, load, judge, answerTo, isVerdict, after}
 use Rattle.shelf.proofs.ChipLaws.{onChip}
 use Rattle.shelf.proofs.CallLaws.{left-alone, load-30, load-answer, judge-30, judge-31, judge-answer}
-use Rattle.desk_line.proofs.Enough.{enough-of-files, long-key-answer}
+use Rattle.desk_slip.proofs.Enough.{enough-of-files, long-key-answer}
 use Rattle.desk_shelf.specs.Serving.{isShelf, shelfIn, unanswered, servedAnswer, servedShelf, EnoughOfShelf}
 use Rattle.desk_shelf.specs.Serving.{EnoughToLoad, EnoughToJudge}
 use Rattle.desk_shelf.proofs.ServingLaws.{answer-as, shelf-as}

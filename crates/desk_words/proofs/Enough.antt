@@ -13,7 +13,7 @@ use Rattle.word_stored.specs.Stored.{storedFile, storedCodes, storedAnswer}
 use Rattle.word_stored.proofs.LongStored.{enough-of-stored, whole-stored}
 use Rattle.move_kinds.specs.Rewriting.{rewritten}
 use Rattle.move_kinds.proofs.LongLists.{enough-of-both, whole-both}
-use Rattle.desk_line.specs.Desk.{EnoughOfFiles}
+use Rattle.desk_slip.specs.Slips.{EnoughOfFiles}
 use Rattle.desk_words.specs.Making.{toWrite, shortFile, rewriteAnswer, EnoughToShorten, EnoughToRewrite}
 use Rattle.desk_words.specs.Making.{EnoughToReduce, EnoughToStore, EnoughToRestore}
 use Rattle.desk_words.proofs.Shortening.{opened-word}

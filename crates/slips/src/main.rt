@@ -13,7 +13,7 @@ fn slip(at: usize)
     let k = desk_io::file(at, &mut key);
     let d = desk_io::file(at + 1, &mut digest);
     let w = desk_io::file(at + 2, &mut word);
-    desk_io::tell(desk_line::slip_line(&key, &digest, &word, k, d, w));
+    desk_io::tell(desk_slip::slip_line(&key, &digest, &word, k, d, w));
 }
 
 // Judges the slips of so many arguments, the program's name included.

@@ -4,7 +4,7 @@ use mathlib.Core.Path.{sym, _∙_}
 use borrow.Author.Needs.{needs}
 use borrow.Author.Tests.{not-true, not-false}
 use lib.ListN.{length}
-use Rattle.desk_line.proofs.Enough.{enough-of-files}
+use Rattle.desk_slip.proofs.Enough.{enough-of-files}
 use Rattle.desk_words.specs.Making.{EnoughToShorten}
 use Rattle.desk_words.proofs.MakingLaws.{bare-of, shortens-as, shortens-unread}
 use Rattle.desk_words.proofs.Enough.{enough-to-shorten}

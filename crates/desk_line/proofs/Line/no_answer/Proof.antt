@@ -2,7 +2,7 @@
 use mathlib.Core.Path.{refl}
 use Rattle.base.specs.Lists.{overlaid}
 use Rattle.text.specs.Texts.{line}
-use Rattle.desk_line.specs.Copies.{noAnswerLine}
+use Rattle.desk_line.specs.Desk.{noAnswerLine}
 use Rattle.desk_line.proofs.Line.no_answer.Statement.{statement}
 use Rattle.desk_line.proofs.Line.no_answer.Tie as tie
 

@@ -1,0 +1,4 @@
+pub mod SlipLaws
+pub mod CopyLaws
+pub mod Enough
+pub mod WrongRooms
