@@ -18,7 +18,7 @@ fi
 ways_up() {
     awk -v crates="$*" '
         { sub(/#.*/, "") }
-        split($0, parts, ":") > 1 { uses[parts[1]] = parts[2] }
+        split($0, parts, ":") > 1 { sub(/ .*/, "", parts[1]); uses[parts[1]] = parts[2] }
         function rise(one, way,    names, k, n) {
             if (!(one in uses) || longest[one] >= way || way > NR) return
             longest[one] = way
@@ -34,7 +34,7 @@ ways_up() {
 used_by() { ways_up "$@" | cut -d ' ' -f 2 | LC_ALL=C sort; }
 
 # For each need: a sum of its sources, a sum of what was built, and how to build it.
-sum_of() { (cd "$root" && find "$@" -type f -print0 | LC_ALL=C sort -z | xargs -0 sha256sum | sha256sum); }
+sum_of() { (cd "$root" && find "$@" -name out -prune -o -type f -print0 | LC_ALL=C sort -z | xargs -0 sha256sum | sha256sum); }
 sources_of() {
     local crates
     case $1 in
@@ -53,24 +53,46 @@ version() { awk -v name="WALNUT_VERSION_$1" '$1 == "#define" && $2 == name { pri
 make_library() {
     local so
     so=libwalnut.so.$(version MAJOR)
-    proving staticlib walnut && mkdir -p "$lib" &&
-        cp "$root/target/staticlib/libwalnut.a" "$root/include/walnut.h" "$lib/" &&
+    proving walnut && mkdir -p "$lib" &&
+        cp "$root/crates/walnut/out/libwalnut.a" "$root/include/walnut.h" "$lib/" &&
         gcc -shared -o "$lib/$so" -Wl,-soname,"$so" -Wl,--whole-archive "$lib/libwalnut.a" -Wl,--no-whole-archive &&
         ln -sfn "$so" "$lib/libwalnut.so"
 }
 
-# alone CRATE: proves one crate, if the crates that it uses are proved. rt runs in a folder where crates.txt has this
-# crate alone: two runs of rt that look at the same crate disturb each other's files in target/log.
+# copy_sources N: makes N copies of the sources in target/room. Only one run of rt works in a crate and the crates below it
+# at a time, so runs that go on side by side need a copy each. What one copy built, rt gives to the others.
+copy_sources() (
+    for ((number = 0; number < $1; number++)); do
+        mkdir -p "$root/target/room/$number/crates" && cd "$root/target/room/$number" || exit 1
+        find crates -mindepth 2 -maxdepth 2 ! -name out -exec rm -rf {} +
+        tar -C "$root" --exclude='./crates/*/out' -cf - ./crates.txt ./crates | tar -xf - || exit 1
+    done
+)
+
+# alone CRATE ROOM: proves and builds one library in a copy of the sources, if the crates that it uses are built.
 alone() {
-    local room=$root/target/alone/$1
-    mkdir -p "$room" && ln -sfn "$root/crates" "$root/target" "$room/" && cd "$room" || return 1
-    grep "^$1:" "$root/crates.txt" >crates.txt && rt check "$1" >said 2>&1 </dev/null
+    mkdir -p "$root/target/alone" && cd "$root/target/room/$2/crates/$1" &&
+        rt lib "$1" >"$root/target/alone/$1" 2>&1 </dev/null
 }
 
 # said_of CRATE: what rt said about this crate, with the file names as they are in the repository.
 said_of() {
-    local room=$root/target/alone/$1 text
-    text=$(cat "$room/said") && printf '%s\n' "${text//"$room/"/}"
+    local text copy
+    text=$(sed "s|^\./|crates/$1/|" "$root/target/alone/$1")
+    for copy in "$root"/target/room/*/; do text=${text//"$copy"/}; done
+    printf '%s\n' "${text//"$root/"/}"
+}
+
+# archive NAME: proves and builds a static library, if the crates that it uses are built.
+archive() { cd "$root/crates/$1" && rt lib "$1" >"$root/target/alone/$1" 2>&1 </dev/null; }
+
+# program NAME: proves and builds a program, if the crates that it uses are built. rt runs what it built, so the program
+# runs once, with no arguments and no input.
+program() {
+    local made=$root/crates/$1/out/$1
+    rm -f "$made"
+    cd "$root/crates/$1" && rt run "$1" >"$root/target/alone/$1" 2>&1 </dev/null
+    [ -x "$made" ] && mkdir -p "$bin" && cp "$made" "$bin/$1.new" && mv "$bin/$1.new" "$bin/$1"
 }
 
 # counted CRATE: on a terminal, one line counts the crates. This crate is the next one.
@@ -111,40 +133,51 @@ next_end() {
 # is proved. The crate with the longest way up to the crates that are wanted comes first. The first crate that is not
 # proved ends this. What rt says goes to the log.
 prove_used() {
-    local -A begun=()
-    local each cores running=0 status=0 ends=$root/target/alone/ends
-    cores=$(nproc)
+    local -A begun=() room=()
+    local each cores running=0 status=0 ends=$root/target/alone/ends free=()
+    cores=${RT_JOBS:-$(nproc)}
+    for ((each = 0; each < cores; each++)); do free+=("$each"); done
+    copy_sources "$cores" || return 1
     mkdir -p "${ends%/*}" && rm -f "$ends" && mkfifo "$ends" && exec 7<>"$ends" || return 1
     while [ "$status" -eq 0 ]; do
         for each in "${order[@]}"; do
-            [ "$running" -lt "${RT_JOBS:-$cores}" ] || break
+            [ "$running" -lt "$cores" ] || break
             startable "$each" || continue
             counted "$each"
-            { alone "$each"; echo "$each $?" >&7; } 9>&- &
+            room[$each]=${free[0]} free=("${free[@]:1}")
+            { alone "$each" "${room[$each]}"; echo "$each $?" >&7; } 9>&- &
             begun[$each]=$! running=$((running + 1))
         done
         [ "$running" -gt 0 ] || break
         next_end
         said_of "$each" >>"$log"
         [ "$status" -le 128 ] || echo "$each: the process that proves it was killed: run the command again" >>"$log"
-        proved[$each]=1 running=$((running - 1))
+        proved[$each]=1 running=$((running - 1)) free+=("${room[$each]}")
     done
     wait
     exec 7>&-
     return "$status"
 }
 
-# proving VERB CRATE..: proves what these crates use, and then runs rt once for all of them.
+# proving CRATE..: proves what these crates use, and then builds each of them: programs, or the one library.
 proving() {
     local -A uses=() proved=()
-    local order=() way each names crates started=0 began=$SECONDS status=0
+    local order=() way each names crates started=0 began=$SECONDS status=0 made
     while read -r way each names; do
         [ "$way" -eq 1 ] || { order+=("$each"); uses[$each]=$names; }
-    done < <(ways_up "${@:2}" | sort -rn)
-    crates=$((${#order[@]} + $# - 1))
+    done < <(ways_up "$@" | sort -rn)
+    crates=$((${#order[@]} + $#))
     : >"$log"
-    prove_used && counted "$2" &&
-        (cd "$root" && RT_JOBS=${RT_JOBS:-$((2 * $(nproc)))} exec rt "$@") >>"$log" 2>&1 </dev/null 9>&- || status=$?
+    prove_used || status=$?
+    for each in "$@"; do
+        [ "$status" -eq 0 ] || break
+        counted "$each"
+        made=program
+        [ "$each" != walnut ] || made=archive
+        ("$made" "$each") 9>&- || status=$?
+        said_of "$each" >>"$log"
+        proved[$each]=1
+    done
     [ ! -t 2 ] || printf '\r\033[K' >&2
     return "$status"
 }
@@ -152,7 +185,8 @@ proving() {
 # current NEED: succeeds if what is built was built from the present sources.
 current() { [ "$(cat "$root/target/walnut-$1.stamp" 2>/dev/null)" = "$(sources_of "$1"; made_of "$1")" ]; }
 
-# build NEED..: only one build runs at a time. All programs are proved together, so that crates are proved side by side.
+# build NEED..: only one build runs at a time. What all programs use is proved together, so that crates are proved side by
+# side.
 build() {
     mkdir -p "$root/target" && exec 9>"$root/target/walnut.lock" && flock 9 || return 1
     local each behind=() checked=() before=()
@@ -163,7 +197,7 @@ build() {
     done
     [ ${#behind[@]} -gt 0 ] || return 0
     echo "$name: proving and building: ${behind[*]}; this takes a few minutes, once" >&2
-    [ ${#checked[@]} -eq 0 ] || proving check "${checked[@]}" || return 1
+    [ ${#checked[@]} -eq 0 ] || proving "${checked[@]}" || return 1
     [[ " ${behind[*]} " != *" library "* ]] || make_library || return 1
     for each in "${!behind[@]}"; do
         { echo "${before[each]}"; made_of "${behind[each]}"; } >"$root/target/walnut-${behind[each]}.stamp"

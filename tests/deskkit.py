@@ -111,25 +111,31 @@ def in_order(name, said, texts, about):
 # ---- a copy of the tree with other programs
 
 
+# what an `rt` of the tests does for `rt run NAME`, in the folder of the crate: the program is made
+MADE = 'if [ "$1" = run ]; then mkdir -p out && cp "../../made/$2" out/; fi'
+
+
 def tree(folder, programs):
-    """Makes a copy of ./walnut with other programs, which use no crate, and with an `rt` that does nothing. `programs` is
+    """Makes a copy of ./walnut with other programs, which use no crate, and with an `rt` that proves nothing. `programs` is
     a folder, or the text of a shell script for each name. Returns the options with which `run` starts the copy."""
     folder = os.path.abspath(folder)
     os.makedirs(os.path.join(folder, "target", "bin"))
+    os.makedirs(os.path.join(folder, "made"))
     os.makedirs(os.path.join(folder, "path"))
     for name in ("walnut", "desk", "answers.txt"):
         shutil.copy(os.path.join(ROOT, name), folder)
     listed = "".join(["# Programs that ./walnut runs\n", *(f"{name}:\n" for name in PROGRAMS)])
     put(os.path.join(folder, "crates.txt"), listed.encode())
     shutil.copytree(os.path.join(ROOT, "desk_tools"), os.path.join(folder, "desk_tools"))
-    script(os.path.join(folder, "path", "rt"), "exit 0")
+    script(os.path.join(folder, "path", "rt"), MADE)
     for name in PROGRAMS:
         os.makedirs(os.path.join(folder, "crates", name))
-        place = os.path.join(folder, "target", "bin", name)
+        place = os.path.join(folder, "made", name)
         if isinstance(programs, str):
             shutil.copy(os.path.join(programs, name), place)
         else:
             script(place, programs.get(name, "exit 0"))
+        shutil.copy(place, os.path.join(folder, "target", "bin"))
     environment = {**os.environ, "PATH": os.path.join(folder, "path") + ":" + os.environ["PATH"]}
     return {"walnut": os.path.join(folder, "walnut"), "env": environment}
 

@@ -12,7 +12,7 @@ use Rattle.word.specs.Letters.{is_letter, generator}
 use Rattle.braid_arcs.specs.Arcs.{beside, Arc, none, other, Relaid}
 use Rattle.braid_arcs.proofs.ArcLaws.{arc_end, arc_on}
 use Rattle.arc_strand.specs.steps.Strand.{IsOther}
-use Rattle.arc_laying.specs.Plans.{PlacedAt, Placed, own, aside}
+use Rattle.arc_laying.specs.Plans.{PlacedAt, own, aside}
 use Rattle.arc_laying.specs.steps.Laying.{LaidSoFar}
 
 more : (l : List ℕ) (k : ℕ) → k < length l → take (k + 1) l ≡ take k l ++ (get_or l k 0 ∷ [])

@@ -1,5 +1,7 @@
 // The new part of an arc, letter by letter. Each turn reads a letter of the old part, writes a letter of the new part,
 // or does both.
+#![tactic(auto)]
+
 ghost use Rattle.std.specs.Prelude.{◌+◌, ◌≤◌, ◌<◌, ◌≡◌, ◌⊎◌, length, take, get_or};
 ghost use Rattle.braid_arcs.specs.Arcs.{Relaid};
 ghost use Rattle.arc_strand.specs.steps.Strand.{IsOther};
@@ -11,7 +13,7 @@ use arc_strand::{beside, leftward, other, passed, rightward};
 
 // How many letters of the old part are read, how many letters of the new part are written, and where the strand stands
 // in each part. After a refusal `written` is one more than the number of letters of the old part.
-#[derive(Drop)]
+#[derive(Clone, Copy)]
 pub(crate) struct Laying {
     read: usize,
     written: usize,

@@ -1,6 +1,8 @@
 // A cheapest plan for an arc. A plan has the strand's place at each letter of the part. The strand gives way only where
 // it stands between the two strands that a letter crosses. It goes to the side from which fewer steps are to come. The
 // first pass finds these sides, and the second pass goes the other way and writes the plan.
+#![tactic(auto)]
+
 ghost use Rattle.std.specs.Prelude.{◌+◌, ◌≤◌, ◌<◌, length};
 ghost use Rattle.arc_plan.specs.steps.Planning.{Planned};
 

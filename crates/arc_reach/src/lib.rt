@@ -1,16 +1,18 @@
 // The longest arc through a letter. Its strand goes over all others, or under all others, backward and forward.
+#![tactic(auto)]
+
 ghost use Rattle.std.specs.Prelude.{◌+◌, ◌≤◌, ◌<◌, length};
 ghost use Rattle.arc_reach.specs.steps.Reaching.{ArcAround};
 
 // Where an arc begins or ends: the place in the word, and the place of the strand.
-#[derive(Drop)]
+#[derive(Clone, Copy)]
 struct Reach {
     pub at: usize,
     pub strand: u8,
 }
 
 // The letters from place `begin` to place `end` - 1 of a word. The strand goes from place `from` to place `to`.
-#[derive(Drop)]
+#[derive(Clone, Copy)]
 pub struct Arc {
     pub begin: usize,
     pub end: usize,

@@ -14,7 +14,8 @@ use Rattle.base.proofs.ListLaws.{overlay_step, take_overlaid, drop_overlaid, len
 
 module _ (row : List ℕ) (by : ℕ) where
   -- the codes ahead of the loop are unchanged, so the loop reads the right code
-  ahead : (k : ℕ) → k + by < length row → get_or (take k (drop by row) ++ drop k row) (k + by) 0 ≡ get_or (drop by row) k 0
+  ahead : (k : ℕ) → k + by < length row → get_or (take k (drop by row) ++ drop k row) (k + by) 0
+      ≡ get_or (drop by row) k 0
   ahead k h =
       let m : length (take k (drop by row)) ≡ k = length-take-le k (drop by row) (omega (arith, length-drop by row)) in
       let e : k + by ≡ by + k = omega arith in

@@ -91,6 +91,8 @@ own_letter false (left h a) = inr (omega arith)
 
 other_letter : {under : Bool} {x c d : ℕ} → Arc under x (c ∷ []) x (d ∷ []) → (c ≡ beside d x) × (generator d ≡ x → ⊥)
 other_letter (other d l g n a) = (refl, n)
+other_letter {under = under} {d = d} (right _ a) = elim a [ ]
+other_letter {under = under} {d = d} (left _ a) = elim a [ ]
 
 -- b2 is no letter of the strand at place 0. Place 1 lies between the two strands of b2.
 no_plan : Plan false 0 (1 ∷ []) (1 ∷ []) → ⊥

@@ -1,4 +1,6 @@
 // An arc of a strand laid anew in a word, at any place and by any plan. The word is the first n codes of a row.
+#![tactic(auto)]
+
 ghost use Rattle.std.specs.Prelude.{◌+◌, ◌-◌, ◌≤◌, ◌<◌, ◌≡◌, true, ◌++◌, length, take, drop};
 ghost use Rattle.base.specs.Lists.{overlaid};
 ghost use Rattle.arc_relay.specs.Relay.{Relayed};

@@ -1,4 +1,6 @@
 // The search for a shorter word: a fixed generator draws places, and the arc at each is laid anew.
+#![tactic(auto)]
+
 ghost use Rattle.std.specs.Prelude.{◌+◌, ◌≤◌, ◌<◌, length};
 ghost use Rattle.arc_search.specs.Search.{Searched};
 
@@ -19,7 +21,7 @@ fn next(seed: usize) -> usize
 
 // What a number decides: the place of a letter, whether the arc goes over or under, the end at which the plan begins,
 // and the side taken at a tie.
-#[derive(Drop)]
+#[derive(Clone, Copy)]
 struct Choice {
     place: usize,
     under: bool,

@@ -1,4 +1,6 @@
 // One letter and the strand of an arc. The strand stands at a place of 0 to 7.
+#![tactic(auto)]
+
 ghost use Rattle.std.specs.Prelude.{◌+◌, ◌≤◌, ◌<◌, ◌≡◌, ◌⊎◌};
 ghost use Rattle.braid_arcs.specs.Arcs.{rightward, leftward, beside};
 ghost use Rattle.arc_strand.specs.steps.Strand.{Passed, IsOther};

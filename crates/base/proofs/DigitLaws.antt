@@ -228,6 +228,7 @@ value_halves (x ∷ xs) =
     ∙ ap (λ (v : ℕ). x * 256 ^ length xs + v) (value_halves xs)
 
 -- the half bytes of bytes are the digits to base 16 of the number that the bytes write
-pub digits_halves : (xs : List ℕ) → ((k : ℕ) → get_or xs k 0 < 256) → digits 16 (2 * length xs) (value 256 xs) ≡ halves xs
+pub digits_halves : (xs : List ℕ) → ((k : ℕ) → get_or xs k 0 < 256) → digits 16 (2 * length xs) (value 256 xs)
+    ≡ halves xs
 digits_halves xs h =
     ap₂ (digits 16) (sym (length_halves xs)) (sym (value_halves xs)) ∙ digits_value 16 (halves xs) (halves_below xs h)

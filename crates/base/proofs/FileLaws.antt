@@ -14,7 +14,8 @@ use Rattle.base.proofs.ListLaws.{laid_more}
 
 -- parts that stand after a front
 part_behind : (at : ℕ) (front : List ℕ) (parts : List (List ℕ)) (i : ℕ) → length front ≡ at
-    → part (place_from at (map length parts) i) (get_or (map length parts) i 0) (front ++ joined parts) ≡ get_or parts i []
+    → part (place_from at (map length parts) i) (get_or (map length parts) i 0) (front ++ joined parts)
+    ≡ get_or parts i []
 part_behind at front [] i l = refl
 part_behind at front (p ∷ ps) zero l =
     ap (take (length p)) (drop_at front (p ++ joined ps) at l) ∙ take_at p (joined ps) (length p) refl
@@ -26,7 +27,8 @@ part_behind at front (p ∷ ps) (suc i) l =
 -- part i of a file that consists of parts
 pub part_joined : (sizes : List ℕ) (parts : List (List ℕ)) → map length parts ≡ sizes → (i : ℕ)
     → file_part sizes i (joined parts) ≡ get_or parts i []
-part_joined sizes parts e i = ap (λ (ns : List ℕ). file_part ns i (joined parts)) (sym e) ∙ part_behind 0 [] parts i refl
+part_joined sizes parts e i = ap (λ (ns : List ℕ). file_part ns i (joined parts)) (sym e)
+    ∙ part_behind 0 [] parts i refl
 
 pub length_joined : (at : ℕ) (parts : List (List ℕ))
     → place_from at (map length parts) (length parts) ≡ at + length (joined parts)

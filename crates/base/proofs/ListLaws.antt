@@ -12,7 +12,8 @@ use borrow.Author.Tests.{eqb-true, eq-eqb}
 use lib.Dec.{eqb}
 use lib.ListN.{length, take, drop, get_or, set, length-append, length-take, length-drop, take-append-drop}
 use lib.Seq.{take-suc, drop-cons, length-take-le, drop-nil, drop-drop, drop-length, take-length, take_all, take_at}
-use lib.Seq.{drop_at, set_at, append_snoc, take-append_seam, drop-append_seam, drop-append-le, ext_get_or, get_or-set_same}
+use lib.Seq.{drop_at, set_at, append_snoc, take-append_seam, drop-append_seam, drop-append-le, ext_get_or}
+use lib.Seq.{get_or-set_same}
 use lib.Seq.{get_or-set_other}
 use Rattle.base.specs.Lists.{every, values_from, values, equal, overlaid, tally}
 
@@ -149,7 +150,8 @@ pub get_d_values : (f : ℕ → ℕ) (n k : ℕ) → k < n → get_or (values f 
 get_d_values f n k h = get_d_values_from f 0 n k h ∙ ap f (zero-add k)
 
 -- a list that has the values of f is the list of values
-pub values_of : (f : ℕ → ℕ) (n : ℕ) (l : List ℕ) → length l ≡ n → ((k : ℕ) → k < n → get_or l k 0 ≡ f k) → l ≡ values f n
+pub values_of : (f : ℕ → ℕ) (n : ℕ) (l : List ℕ) → length l ≡ n → ((k : ℕ) → k < n → get_or l k 0 ≡ f k) → l
+    ≡ values f n
 values_of f n l e h =
     ext_get_or 0 l (values f n) (e ∙ sym (length_values f 0 n))
     (λ k b. let b' : k < n = omega arith in h k b' ∙ sym (get_d_values f n k b'))
@@ -239,7 +241,8 @@ pub overlay_step : (bytes out : List ℕ) (i : ℕ) → i < length bytes → i <
     → set (take i bytes ++ drop i out) i (get_or bytes i 0) ≡ take (i + 1) bytes ++ drop (i + 1) out
 overlay_step bytes out i p q =
     rw (add-one i, drop-cons out i 0 q, take-suc bytes i 0 p)
-    (set_at (take i bytes) (get_or out i 0) (drop (suc i) out) (get_or bytes i 0) i (length-take-le i bytes (omega arith))
+    (set_at (take i bytes) (get_or out i 0) (drop (suc i) out) (get_or bytes i 0) i
+    (length-take-le i bytes (omega arith))
     ∙ sym (append_snoc (take i bytes) (get_or bytes i 0) (drop (suc i) out)))
 
 pub overlay_whole : (bytes out : List ℕ) (i : ℕ) → i ≡ length bytes → take i bytes ++ drop i out ≡ overlaid bytes out

@@ -65,7 +65,8 @@ in_a_row (p ∷ ps) qs t =
     go p.passed p.number (head_numbered (not (eqb p.number 0)) (numbered ps) t)
     (in_a_row ps qs (rest_numbered (not (eqb p.number 0)) (numbered ps) t))
   where
-    go : (b : Bool) (n : ℕ) → T (not (eqb n 0)) → first_no (ps ++ qs) ≡ granted (first_no ps) (first_no qs) (first_no ps)
+    go : (b : Bool) (n : ℕ) → T (not (eqb n 0)) → first_no (ps ++ qs)
+        ≡ granted (first_no ps) (first_no qs) (first_no ps)
         → cond b (first_no (ps ++ qs)) n ≡ granted (cond b (first_no ps) n) (first_no qs) (cond b (first_no ps) n)
     go true n h e = e
     go false zero h e = absurd h

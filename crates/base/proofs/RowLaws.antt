@@ -152,7 +152,8 @@ module _ (b : ℕ) where
         mul_assoc (value (2 ^ b) xs) ((2 ^ b) ^ n) (2 ^ f),
         row_fills b n,
       )
-      (digits_join 256 k (row_bytes b n) (value (2 ^ b) xs) (value (2 ^ b) ys * 2 ^ f) (omega arith) (row_fits ys below))
+      (digits_join 256 k (row_bytes b n) (value (2 ^ b) xs) (value (2 ^ b) ys * 2 ^ f) (omega arith)
+      (row_fits ys below))
 
 -- ---- half bytes are numbers of 4 bits
 

@@ -1,4 +1,6 @@
 // Questions with numbers, lists, digits; bytes copied and compared.
+#![tactic(auto)]
+
 ghost use Rattle.std.specs.Prelude.{◌+◌, ◌≤◌, ◌<◌, ◌≡◌, length, take};
 ghost use Rattle.base.specs.Lists.{overlaid, equal};
 ghost use Rattle.base.specs.Digits.{value, part};

@@ -1,5 +1,7 @@
 // Packed rows of numbers: their bytes and their filler. A number has at most eight bits, the most significant one
 // first. Zero bits fill the last byte.
+#![tactic(auto)]
+
 ghost use Rattle.std.specs.Prelude.{◌≡◌, eqb, ◌^◌, ◌≤◌, length};
 ghost use Rattle.base.specs.Packing.{row_bytes, filler_bits, row_filler};
 

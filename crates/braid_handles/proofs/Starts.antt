@@ -94,7 +94,8 @@ module _ (w : List ℕ) (letters : Lettered w) (q : ℕ) (l : q < length w) wher
 
   -- ---- the latest letters of the generator of the letter at q, and of the one less
 
-  module _ (k j : ℕ) (own : Latest (generator (get_or w q 0) + 1) w q k) (less : Latest (generator (get_or w q 0)) w q j)
+  module _ (k j : ℕ) (own : Latest (generator (get_or w q 0) + 1) w q k)
+      (less : Latest (generator (get_or w q 0)) w q j)
     where
       -- a handle begins at the latest letter of the generator
       latest_start : (p : ℕ) → p < q → is_handle w p q ≡ true → p + 1 ≡ k

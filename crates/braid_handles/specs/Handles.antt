@@ -1,7 +1,8 @@
 -- Handles of a word, and the steps that take them out (document 02, §9). A word is a list of codes, and places count
 -- from 0. A handle begins with a letter and ends with its inverse. No letter between the two has their generator or the
 -- generator before it.
-use Rattle.std.specs.Prelude.{ℕ, zero, suc, ◌+◌, ◌-◌, Bool, cond, not, ◌&&◌, List, [], ◌∷◌, ◌++◌, ltb, leb, eqb, length, take, drop, get_or}
+use Rattle.std.specs.Prelude.{ℕ, zero, suc, ◌+◌, ◌-◌, Bool, cond, not, ◌&&◌, List, [], ◌∷◌, ◌++◌, ltb, leb, eqb}
+use Rattle.std.specs.Prelude.{length, take, drop, get_or}
 use Rattle.base.specs.Questions.{Question, ◌else◌}
 use Rattle.base.specs.Lists.{first_from, every}
 use Rattle.base.specs.Digits.{part}

@@ -1,1 +1,2 @@
 // Handles of a word and the steps that take them out: definitions and laws, and no function.
+#![tactic(auto)]

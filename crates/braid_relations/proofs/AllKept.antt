@@ -52,7 +52,8 @@ reduces_relation row e =
     (and_right (every is_letter row) (equal (after_steps 30 (artin row)) []) e) in
     record {
       lettered = l;
-      nothing = rw end at (steps_same 30 (artin row) (converted_lettered from_y appendix_parts appendix_parts_lem row l));
+      nothing = rw end at (steps_same 30 (artin row)
+          (converted_lettered from_y appendix_parts appendix_parts_lem row l));
     }
 
 each_relation : (rows : List (List ℕ)) → all_reduce rows ≡ true → All Relation rows

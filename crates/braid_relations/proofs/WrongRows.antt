@@ -34,18 +34,23 @@ unmoved : (row : List ℕ) → Kept row → equal (moved row).matrix identity �
 unfolding every values_from tally each_once place row_of column_of matrix_of identity
 unmoved row k =
     equal_of
-    (ap (λ (p : Pair). p.matrix) (both_fields row k Gf32 values identity strands_in_order refl refl refl refl refl refl refl))
+    (ap (λ (p : Pair). p.matrix)
+    (both_fields row k Gf32 values identity strands_in_order refl refl refl refl refl refl refl))
 
 -- {4,1} {7,1} {4,-1} {7,1}
 pub sign_mistyped : Kept (y 4 ∷ y 7 ∷ y⁻ 4 ∷ y 7 ∷ []) → ⊥
-unfolding every equal values_from times_x horner times first_or_zero reciprocal_of place row_of column_of entry matrix_of
-    identity swapped inverse_list last_position t_value share_of row_after letter_on word_on following inverted each_by run_of
+unfolding every equal values_from times_x horner times first_or_zero reciprocal_of place row_of column_of entry
+    matrix_of
+    identity swapped inverse_list last_position t_value share_of row_after letter_on word_on following inverted
+    each_by run_of
     signed_run run converted
 sign_mistyped k = true_false false (unmoved (y 4 ∷ y 7 ∷ y⁻ 4 ∷ y 7 ∷ []) k) refl
 
 -- {4,1} {7,1} {4,-1} {6,-1}
 pub number_mistyped : Kept (y 4 ∷ y 7 ∷ y⁻ 4 ∷ y⁻ 6 ∷ []) → ⊥
-unfolding every equal values_from times_x horner times first_or_zero reciprocal_of place row_of column_of entry matrix_of
-    identity swapped inverse_list last_position t_value share_of row_after letter_on word_on following inverted each_by run_of
+unfolding every equal values_from times_x horner times first_or_zero reciprocal_of place row_of column_of entry
+    matrix_of
+    identity swapped inverse_list last_position t_value share_of row_after letter_on word_on following inverted
+    each_by run_of
     signed_run run converted
 number_mistyped k = true_false false (unmoved (y 4 ∷ y 7 ∷ y⁻ 4 ∷ y⁻ 6 ∷ []) k) refl

@@ -1,7 +1,8 @@
 -- Source 000, Appendix A: the relations between Y generators for parts 4 and 3, in its order. A relation is a Y word
 -- whose Artin word carries every pair to itself (`Kept`). Rows 21, 23 and 25 repeat rows 15, 19 and 7, as in the
 -- source.
-use Rattle.std.specs.Prelude.{ℕ, ◌+◌, ◌-◌, ◌≡◌, Bool, cond, ◌&&◌, List, [], ◌∷◌, ◌++◌, leb, ltb, eqb, length, take, drop, get_or}
+use Rattle.std.specs.Prelude.{ℕ, ◌+◌, ◌-◌, ◌≡◌, Bool, cond, ◌&&◌, List, [], ◌∷◌, ◌++◌, leb, ltb, eqb, length, take}
+use Rattle.std.specs.Prelude.{drop, get_or}
 use Rattle.base.specs.Lists.{first_from}
 use Rattle.field.specs.Binary.{Operations, BinaryField}
 use Rattle.pair.specs.declared.Pair.{Pair}

@@ -1,1 +1,2 @@
 // Words that are the same braid. This crate has no function.
+#![tactic(auto)]

@@ -81,7 +81,8 @@ read_back z h = to_z-of_z (fits z h)
 
 lines_more_of : (ps : List Two) (ns : List ℤ) (k : ℕ) → k < length ps → k < length ns
     → lines_of (take (suc k) ps) (take (suc k) ns)
-    ≡ lines_of (take k ps) (take k ns) ++ pair_line (get_or ps k (record { smaller = 0; larger = 0 })) (get_or ns k (pos 0))
+    ≡ lines_of (take k ps) (take k ns)
+    ++ pair_line (get_or ps k (record { smaller = 0; larger = 0 })) (get_or ns k (pos 0))
 unfolding lines_of
 lines_more_of [] ns k h l = absurd (omega arith)
 lines_more_of (p ∷ ps) [] k h l = absurd (omega arith)

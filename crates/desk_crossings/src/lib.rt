@@ -1,4 +1,6 @@
 // The text of all 28 crossings.
+#![tactic(auto)]
+
 ghost use Rattle.std.specs.Prelude.{length};
 ghost use Rattle.text.specs.Texts.{TellsIn};
 ghost use Rattle.desk_text.specs.Room.{text_size};

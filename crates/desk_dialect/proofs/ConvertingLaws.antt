@@ -98,7 +98,8 @@ module _ (way : Bool) (parts : List ℕ) where
     enough_answers word =
         let words = enough_of_word n h in
         in_turn (take n word)
-        ∙ enough_granted word_answer (λ w. first_no (after_word way max_stored w parts)) word_answer n words (whole_word n h)
+        ∙ enough_granted word_answer (λ w. first_no (after_word way max_stored w parts)) word_answer n words
+        (whole_word n h)
         words word
         ∙ sym (in_turn word)
 
@@ -108,7 +109,8 @@ module _ (way : Bool) (parts : List ℕ) where
     whole_converted word e =
         let front = take n word in
         whole_word n h word
-        (both_passed (word_questions front) (after_word way max_stored front parts) tt (sym (there_is_room front) ∙ e)).0
+        (both_passed (word_questions front) (after_word way max_stored front parts) tt
+        (sym (there_is_room front) ∙ e)).0
 
     pub enough_to_convert : EnoughToConvert way parts n
     unfolding to_write

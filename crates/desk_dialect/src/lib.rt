@@ -1,5 +1,7 @@
 // A word in a file turned into the other dialect, by parts that an argument writes. The functions take arrays whose
 // sizes are given in `desk_line`, so a program cannot hand in a buffer of another size.
+#![tactic(auto)]
+
 ghost use Rattle.std.specs.Prelude.{◌≤◌, ◌≡◌, true, false, length, take};
 ghost use Rattle.desk_dialect.specs.Converting.{digit_shown, part_at, parts_of, Converts, EnoughToConvert};
 

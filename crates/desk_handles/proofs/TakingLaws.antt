@@ -65,7 +65,8 @@ module _ (limit : ℕ) where
     enough_answers word =
         let words = enough_of_word n h in
         steps_after _
-        ∙ enough_granted word_answer (λ w. first_no (step_questions limit (codes w))) word_answer n words (whole_word n h)
+        ∙ enough_granted word_answer (λ w. first_no (step_questions limit (codes w))) word_answer n words
+        (whole_word n h)
         words word
         ∙ sym (steps_after word)
 

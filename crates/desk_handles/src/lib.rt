@@ -1,5 +1,7 @@
 // Handles taken out of a word in a file. The functions take arrays whose sizes are given in `desk_line`, so a program
 // cannot hand in a buffer of another size.
+#![tactic(auto)]
+
 ghost use Rattle.std.specs.Prelude.{true, false, length, take};
 ghost use Rattle.desk_handles.specs.Taking.{TakesOut, EnoughToTake};
 
@@ -7,7 +9,7 @@ use desk_line::Got;
 use desk_words::Made;
 
 // What is made of a word, and whether a handle is left in it.
-#[derive(Drop)]
+#[derive(Clone, Copy)]
 pub struct Taken {
     pub made: Made,
     pub left: bool,

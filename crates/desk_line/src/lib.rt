@@ -1,4 +1,6 @@
 // The line that the desk writes for an answer, what reading a file gives, and how much of a file to read.
+#![tactic(auto)]
+
 ghost use Rattle.std.specs.Prelude.{◌≡◌, false, ◌&&◌, replicate};
 ghost use Rattle.desk_line.specs.Desk.{answer_line, no_answer_line, Tells};
 
@@ -11,7 +13,7 @@ pub const DIGEST_ROOM: usize = 65;
 pub const WORD_ROOM: usize = 5003;
 
 // A line of text: the first `bytes` bytes; zeros after it.
-#[derive(Drop)]
+#[derive(Clone, Copy)]
 pub struct Line {
     pub text: [u8; 11],
     pub bytes: usize,
@@ -57,7 +59,7 @@ pub fn answer_line(answer: u8) -> Line
 }
 
 // What reading a file gave: could the file be read, and how many bytes of its buffer were filled?
-#[derive(Drop)]
+#[derive(Clone, Copy)]
 pub struct Got {
     pub read: bool,
     pub bytes: usize,

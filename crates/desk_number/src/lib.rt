@@ -1,4 +1,6 @@
 // The number that an argument of a program writes in decimal, 0 to 65,535.
+#![tactic(auto)]
+
 ghost use Rattle.std.specs.Prelude.{◌-◌, ◌≤◌, ◌<◌, ◌≡◌, length};
 ghost use Rattle.base.specs.Lists.{equal as equalTo};
 ghost use Rattle.text.specs.Decimal.{decimal};

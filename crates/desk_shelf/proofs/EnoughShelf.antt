@@ -97,7 +97,8 @@ enough_to_load s k hs hk =
       shelf = enough_tested s hs;
       answer = λ p n.
           enough_of_two (λ file key. served_answer file p (load n key)) s k (λ key. enough_answer s hs p (load n key))
-          (λ file. enough_long (λ key. served_answer file p (load n key)) (λ _. served_answer file p (load n [])) 0 128 k
+          (λ file. enough_long (λ key. served_answer file p (load n key)) (λ _. served_answer file p (load n [])) 0
+          128 k
           (omega arith) hk
           (λ key l. alike_answer p (load n key) (load n []) file (long_answer p n (shelf_in file) key l)));
       left = λ p n.

@@ -59,7 +59,8 @@ shelf_fits file e =
     (one_of (eqb (length file) 0) (eqb (length file) shelf_bytes) e)
 
 -- the file laid over zeros
-pub laid : (file z : List ℕ) → is_shelf file ≡ true → z ≡ overlaid (take shelf_bytes file) empty_shelf → z ≡ shelf_in file
+pub laid : (file z : List ℕ) → is_shelf file ≡ true → z ≡ overlaid (take shelf_bytes file) empty_shelf → z
+    ≡ shelf_in file
 laid file z e l = l ∙ ap (λ (f : List ℕ). overlaid f empty_shelf) (take_all shelf_bytes file (shelf_fits file e))
 
 -- what is answered and left, where the file is a shelf and where it is none

@@ -17,7 +17,8 @@ shelf_in file = overlaid file empty_shelf
 
 -- The number that a text of one digit writes. Any other text counts as 10, which is no publisher and no key number.
 unfoldable pub digit_of : List ℕ → ℕ
-digit_of text = cond (eqb (length text) 1 && leb 48 (get_or text 0 0) && leb (get_or text 0 0) 57) (get_or text 0 0 - 48) 10
+digit_of text = cond (eqb (length text) 1 && leb 48 (get_or text 0 0) && leb (get_or text 0 0) 57)
+    (get_or text 0 0 - 48) 10
 
 -- what stands in place of an answer if a file could not be read or is no shelf; no answer of the papers has this number
 abbrev pub unanswered : ℕ

@@ -1,4 +1,6 @@
 // A key shelf that a file holds: what each verb answers, and the shelf that is then to be written.
+#![tactic(auto)]
+
 ghost use Rattle.std.specs.Prelude.{◌≡◌, true, length};
 ghost use Rattle.shelf.specs.Shelves.{empty_shelf};
 ghost use Rattle.shelf.specs.Calls.{load, clear, judge, round};
@@ -12,7 +14,7 @@ use desk_line::Got;
 pub const SHELF_ROOM: usize = shelf_calls::SHELF_BYTES + 1;
 
 // What a verb gives: could every file be read, and is the first of them a shelf? The answer, and the shelf to write.
-#[derive(Drop)]
+#[derive(Clone, Copy)]
 pub struct Served {
     pub read: bool,
     pub whole: bool,
@@ -26,7 +28,8 @@ impl Served {
 
     // No answer, and nothing to write.
     fn none(read: bool, whole: bool) -> Served
-        ensures { (result.read ≡ read) × (result.whole ≡ whole) × (result.answer ≡ unanswered) × (result.shelf ≡ empty_shelf) }
+        ensures { (result.read ≡ read) × (result.whole ≡ whole) × (result.answer ≡ unanswered)
+            × (result.shelf ≡ empty_shelf) }
     {
         Served {
             read,

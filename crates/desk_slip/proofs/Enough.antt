@@ -58,7 +58,8 @@ enough_of_signature n h key digest word =
     go (ℕ_discrete (key_answer key) 0) (ℕ_discrete (length digest) (digest_bytes (key_field key)))
     (ℕ_discrete (word_answer (take n word)) 0)
   where
-    go : Dec (key_answer key ≡ 0) → Dec (length digest ≡ digest_bytes (key_field key)) → Dec (word_answer (take n word) ≡ 0)
+    go : Dec (key_answer key ≡ 0) → Dec (length digest ≡ digest_bytes (key_field key))
+        → Dec (word_answer (take n word) ≡ 0)
         → verdict key digest (take n word) ≡ verdict key digest word
     go (no r) d w = key_refused key digest (take n word) r ∙ sym (key_refused key digest word r)
     go (yes k) (no r) w = digest_refused key digest (take n word) k r ∙ sym (digest_refused key digest word k r)

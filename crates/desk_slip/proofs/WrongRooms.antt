@@ -38,7 +38,8 @@ key_accepted : key_answer large_key ≡ 0
 key_accepted = plain_key_lem Gf256
 
 digest_accepted : length large_digest ≡ digest_bytes (key_field large_key)
-unfolding key_field values_from value digits place row_of column_of entry matrix_of identity file_entries packed_row key_file
+unfolding key_field values_from value digits place row_of column_of entry matrix_of identity file_entries packed_row
+    key_file
 digest_accepted = refl
 
 empty_accepted : word_answer empty_word ≡ 0
@@ -107,7 +108,8 @@ no_5194_of_an_input enough =
 
 -- cut at 83 and 32, a slip that says 256 gets the answer 3; cut for its field, it gets 0 or 14
 cut_3 : cut_verdict 83 32 (slip empty_word) ≡ 3
-unfolding cut_verdict verdict first_no key_field values_from value digits place row_of column_of entry matrix_of identity
+unfolding cut_verdict verdict first_no key_field values_from value digits place row_of column_of entry matrix_of
+    identity
     file_entries packed_row key_file
 cut_3 = refl
 

@@ -1,5 +1,7 @@
 // A slip at the desk: the line to write for it, and how much of an input to read. The functions take arrays whose sizes
 // are given here and in `desk_line`, so a program cannot hand in a buffer of another size.
+#![tactic(auto)]
+
 ghost use Rattle.std.specs.Prelude.{◌≤◌, ◌≡◌, eqb, length};
 ghost use Rattle.base.specs.Digits.{value, part as part_of};
 ghost use Rattle.desk_line.specs.Desk.{Tells};
@@ -113,7 +115,7 @@ pub fn slip_line(
 
 // What key and digest give for all copies of a slip: could both files be read, and the first half of the verdict on the
 // bytes that were read.
-#[derive(Drop)]
+#[derive(Clone, Copy)]
 pub struct FirstHalf {
     pub read: bool,
     pub made: Halved,

@@ -110,7 +110,8 @@ lines_more_of (x ∷ ls) [] k h l = absurd (omega arith)
 lines_more_of (x ∷ ls) (n ∷ ns) zero h l = append-nil (list_line x n)
 lines_more_of (x ∷ ls) (n ∷ ns) (suc k) h l =
     ap (λ (t : List ℕ). list_line x n ++ t) (lines_more_of ls ns k (omega arith) (omega arith))
-    ∙ sym (append_assoc (list_line x n) (list_lines (take k ls) (take k ns)) (list_line (get_or ls k []) (get_or ns k 0)))
+    ∙ sym (append_assoc (list_line x n) (list_lines (take k ls) (take k ns))
+    (list_line (get_or ls k []) (get_or ns k 0)))
 
 pub lines_more : (ns : List ℕ) (k : ℕ) → k < 24 → k < length ns
     → list_lines (take (k + 1) all_lists) (take (k + 1) ns)

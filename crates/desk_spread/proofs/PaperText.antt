@@ -13,6 +13,7 @@ use Rattle.desk_spread.specs.SpreadLines.{list_line, list_lines, spread_text, us
 
 pub first_line : take 11 (spread_text usual_length)
     ≡ 48 ∷ 32 ∷ 49 ∷ 32 ∷ 50 ∷ 32 ∷ 51 ∷ 32 ∷ 49 ∷ 50 ∷ 10 ∷ []
-unfolding first_no granted every tally values_from equal each_once digits first_from places decimal line swapped list_after
+unfolding first_no granted every tally values_from equal each_once digits first_from places decimal line swapped
+    list_after
     each_in_front rows_of those all_lists words_between ending all_endings list_line list_lines spread_text
 first_line = refl

@@ -1,4 +1,6 @@
 // The text of how words of a length spread over the 24 lists.
+#![tactic(auto)]
+
 ghost use Rattle.std.specs.Prelude.{◌≡◌};
 ghost use Rattle.text.specs.Texts.{TellsIn};
 ghost use Rattle.desk_text.specs.Room.{text_size};

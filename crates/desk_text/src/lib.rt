@@ -1,4 +1,6 @@
 // Texts of several lines: a buffer that starts with a text, and the desk program's line as such a text.
+#![tactic(auto)]
+
 ghost use Rattle.std.specs.Prelude.{◌≡◌, replicate};
 ghost use Rattle.text.specs.Texts.{TellsIn};
 ghost use Rattle.desk_line.specs.Desk.{answer_line};
@@ -8,7 +10,7 @@ ghost use Rattle.desk_text.specs.Room.{text_size};
 pub const TEXT: usize = 456;
 
 // A text: the first `bytes` bytes; zeros after it.
-#[derive(Drop)]
+#[derive(Clone, Copy)]
 pub struct Text {
     pub text: [u8; TEXT],
     pub bytes: usize,

@@ -54,7 +54,8 @@ unfolding to_write rewrite_answer
 enough_to_rewrite w m hw hm =
     let answers = enough_of_both 5006 (omega arith) w m hw hm in (
       answers,
-      λ word moves. granted_alike (word_file (rewritten (take w word) (take m moves))) (word_file (rewritten word moves))
+      λ word moves. granted_alike (word_file (rewritten (take w word) (take m moves)))
+          (word_file (rewritten word moves))
           [] [] (answers word moves)
           (λ z. let s = whole_both 5006 (omega arith) w m hw hm word moves z in
           λ i. word_file (rewritten (s.0 i) (s.1 i))) refl,

@@ -20,7 +20,8 @@ to_write read answer new = cond read (granted answer new []) []
 abbrev pub no_answer : ℕ
 no_answer = 255
 
--- What a verb gives: whether every file could be read; its answer, or `no_answer` if a file could not be read; the bytes
+-- What a verb gives: whether every file could be read; its answer, or `no_answer` if a file could not be read; the
+-- bytes
 -- to write, and zeros after them.
 pub record MakesNew (read : Bool) (answer : ℕ) (new : List ℕ) (made : Made) : Type 0 where
   pub read_is : made.read ≡ read

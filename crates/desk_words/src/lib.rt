@@ -1,5 +1,7 @@
 // A new file from files: a word shortened, rewritten, reduced or restored, or the stored form of a word. The functions
 // take arrays whose sizes are given here and in `desk_line`, so a program cannot hand in a buffer of another size.
+#![tactic(auto)]
+
 ghost use Rattle.std.specs.Prelude.{◌≡◌, true, false, ◌&&◌, length, take, replicate};
 ghost use Rattle.word_shortener.specs.Shortener.{Shortened};
 ghost use Rattle.desk_words.specs.Making.{no_answer, Shortens, Rewrites, Reduces, EnoughToShorten};
@@ -15,7 +17,7 @@ pub const MOVES_ROOM: usize = 2 + 3 * 4096 + 1;
 pub const STORED_ROOM: usize = word_store::MAX_STORED + 1;
 
 // What a verb makes: could every file be read? The answer, and the new file, the first `bytes` bytes; zeros after it.
-#[derive(Drop)]
+#[derive(Clone, Copy)]
 pub struct Made {
     pub read: bool,
     pub answer: u8,
@@ -29,7 +31,8 @@ impl Made {
 
     // The answer alone, and nothing to write.
     fn bare(read: bool, answer: u8) -> Made
-        ensures { (result.read ≡ read) × (result.answer ≡ answer) × (result.bytes ≡ 0) × (result.file ≡ replicate 5006 0) }
+        ensures { (result.read ≡ read) × (result.answer ≡ answer) × (result.bytes ≡ 0)
+            × (result.file ≡ replicate 5006 0) }
     {
         Made {
             read,
@@ -41,7 +44,8 @@ impl Made {
 
     // A file could not be read: no answer.
     fn unread() -> Made
-        ensures { (result.read ≡ false) × (result.answer ≡ no_answer) × (result.bytes ≡ 0) × (result.file ≡ replicate 5006 0) }
+        ensures { (result.read ≡ false) × (result.answer ≡ no_answer) × (result.bytes ≡ 0)
+            × (result.file ≡ replicate 5006 0) }
     {
         Made::bare(false, Made::NO_ANSWER)
     }
@@ -113,7 +117,8 @@ fn rewritten(word: &[u8], moves: &[u8]) -> Made
 
 // A word made shorter by a search of `effort` steps for each letter.
 fn short(word: &[u8], effort: u16) -> Made
-    ensures { (result.read ≡ true) × Shortened effort word.now (replicate 5006 0) result.file result.answer result.bytes }
+    ensures { (result.read ≡ true)
+        × Shortened effort word.now (replicate 5006 0) result.file result.answer result.bytes }
 {
     let mut file = [0u8; word_store::MAX_STORED];
     let written = word_shortener::shorten_word(word, effort, &mut file);

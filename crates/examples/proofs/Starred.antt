@@ -70,7 +70,8 @@ pub record StarredSlips : Type 0 where
 
 -- the plain key is accepted: the identity is its own inverse
 plain_accepted : key_answer plain_key ≡ 0
-unfolding key_field first_no values_from every tally each_once value digits t_values_of packed_row unpacked_row row_filler
+unfolding key_field first_no values_from every tally each_once value digits t_values_of packed_row unpacked_row
+    row_filler
     key_labels whole_matrix matrix_of row_of column_of identity key_file
 plain_accepted = accepted_with plain_key refl (identity_has Gf32) (identity_has Gf32)
 
@@ -79,12 +80,16 @@ cloaking : (word : List ℕ) {yes : Bool} → word_answer word ≡ 0
     → yes ≡ does_come_back (operations (key_field plain_key)) (key_of plain_key).t_values plain_labels (codes word)
     → Cloaks plain_key plain_labels word 0 yes
 unfolding every tally each_once values_from
-cloaking word w e = answered plain_key plain_labels word (past_list plain_key plain_labels word plain_accepted refl ∙ w) e
+cloaking word w e = answered plain_key plain_labels word
+    (past_list plain_key plain_labels word plain_accepted refl ∙ w) e
 
 pub starred : StarredSlips
-unfolding values_from every tally equal each_once first_no granted value digits halves times_x horner times first_or_zero
-    reciprocal_of word_file packed codes word_answer place row_of column_of entry matrix_of word_on letter_on share_of t_value
-    row_after swapped start identity half_byte_braid does_come_back same_pair key_field key_file key_of t_values_of packed_row
+unfolding values_from every tally equal each_once first_no granted value digits halves times_x horner times
+    first_or_zero
+    reciprocal_of word_file packed codes word_answer place row_of column_of entry matrix_of word_on letter_on
+    share_of t_value
+    row_after swapped start identity half_byte_braid does_come_back same_pair key_field key_file key_of t_values_of
+    packed_row
     unpacked_row row_filler key_labels whole_matrix filler move move_questions word_after
 starred =
     record {

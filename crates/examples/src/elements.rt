@@ -2,15 +2,15 @@
 use crate::input::first;
 use field::{Element, Field};
 
-fn element(found: Element) {
+fn element(rt: &impl Print, found: Element) {
     let value = [found.value];
-    print::line(found.answer, &value);
+    print::line(rt, found.answer, &value);
 }
 
-pub(crate) fn product(a: &[u8], b: &[u8], f: Field) {
-    element(field::product(first(a), first(b), f));
+pub(crate) fn product(rt: &impl Print, a: &[u8], b: &[u8], f: Field) {
+    element(rt, field::product(first(a), first(b), f));
 }
 
-pub(crate) fn reciprocal(a: &[u8], f: Field) {
-    element(field::reciprocal(first(a), f));
+pub(crate) fn reciprocal(rt: &impl Print, a: &[u8], f: Field) {
+    element(rt, field::reciprocal(first(a), f));
 }

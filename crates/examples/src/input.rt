@@ -2,12 +2,26 @@
 // each after a space. 00*36 stands for 36 bytes 00.
 ghost use Rattle.std.specs.Prelude.{◌≤◌, ◌<◌, length};
 
+// The first place from `from` on that holds a byte, or the text's end if there is none.
+pub(crate) fn find(text: &[u8], from: usize, byte: u8) -> usize
+    requires { from ≤ length text.now }
+    ensures low { from ≤ result }
+    ensures high { result ≤ length text.now }
+{
+    for i in from..text.len() {
+        if text[i] == byte {
+            return i;
+        }
+    }
+    text.len()
+}
+
 // Prints the name of a case.
-pub(crate) fn name(line: &[u8])
+pub(crate) fn name(rt: &impl Print, line: &[u8])
     requires { 2 ≤ length line.now }
 {
-    let end = bytes::scan::find(line, 2, line.len(), b':');
-    print::text(&line[2..end]);
+    let end = find(line, 2, b':');
+    print::text(rt, &line[2..end]);
 }
 
 // The value of a hexadecimal digit, whose letters are in lower case. Any other character gives 16.
@@ -84,14 +98,14 @@ fn text_of(line: &[u8], k: usize) -> &[u8] {
     let mut from = 0;
     let mut left = k;
     while 0 < left {
-        from = bytes::scan::find(line, from, line.len(), b':');
+        from = find(line, from, b':');
         if from == line.len() {
             return &line[from..];
         }
         from += 1;
         left -= 1;
     }
-    let end = bytes::scan::find(line, from, line.len(), b':');
+    let end = find(line, from, b':');
     &line[from..end]
 }
 

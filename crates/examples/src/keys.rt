@@ -21,16 +21,16 @@ fn file(bytes: &[u8]) -> [u8; 83] {
 }
 
 // Prints the T-values, then the pair, then the second matrix.
-fn show_key(key: Key) {
+fn show_key(rt: &impl Print, key: Key) {
     let t_values = key.t_values;
     let pair = key.pair;
     let second = key.second;
-    print::text(b"\nT-values");
-    print::hex(&t_values);
-    print::text(b"\nPub(S)");
-    show::pair(pair);
-    print::text(b"matrix of Pub(S')");
-    show::rows(&second);
+    print::text(rt, b"\nT-values");
+    print::hex(rt, &t_values);
+    print::text(rt, b"\nPub(S)");
+    show::pair(rt, pair);
+    print::text(rt, b"matrix of Pub(S')");
+    show::rows(rt, &second);
 }
 
 // Is the key that of a refusal? It is all zeros, and its field is the one with 32 elements.
@@ -42,14 +42,14 @@ fn is_zeros(key: Key) -> bool {
     !field::is_large(f) && show::is_zero_pair(pair) && show::is_zeros(&second, &t_values)
 }
 
-pub(crate) fn read(file: &[u8]) {
+pub(crate) fn read(rt: &impl Print, file: &[u8]) {
     let found = key_reader::read_key(file);
     let key = found.key;
-    print::answer(found.answer);
+    print::answer(rt, found.answer);
     if found.answer == 0 {
-        show_key(key);
+        show_key(rt, key);
     } else {
-        show::zeros(is_zeros(key));
+        show::zeros(rt, is_zeros(key));
     }
 }
 
@@ -59,15 +59,21 @@ fn left(answer: u8) -> usize {
 }
 
 // Writes a key with the same matrix twice, and prints the result.
-fn write_into(t_values: &[u8; 8], labels: &[u8; 8], matrix: &[u8; 57], out: &mut [u8]) {
+fn write_into(
+    rt: &impl Print,
+    t_values: &[u8; 8],
+    labels: &[u8; 8],
+    matrix: &[u8; 57],
+    out: &mut [u8],
+) {
     let answer = key_writer::write_key(t_values, labels, matrix, matrix, out, Field::Gf32);
-    print::answer(answer);
-    print::output(out, left(answer), FILL);
+    print::answer(rt, answer);
+    print::output(rt, out, left(answer), FILL);
 }
 
 // Writes a key of T-values, labels and 57 entries, which serve for both matrices. The output has 90 bytes, less the
 // number in `lacks`.
-pub(crate) fn write(t_values: &[u8], labels: &[u8], entries: &[u8], lacks: &[u8]) {
+pub(crate) fn write(rt: &impl Print, t_values: &[u8], labels: &[u8], entries: &[u8], lacks: &[u8]) {
     let mut ts = [0u8; 8];
     base::put(&mut ts, t_values);
     let mut eight = [0u8; 8];
@@ -76,25 +82,25 @@ pub(crate) fn write(t_values: &[u8], labels: &[u8], entries: &[u8], lacks: &[u8]
     base::put(&mut matrix, entries);
     let start = wide(first(lacks)) % 90;
     let mut out = [FILL; 90];
-    write_into(&ts, &eight, &matrix, &mut out[start..]);
+    write_into(rt, &ts, &eight, &matrix, &mut out[start..]);
 }
 
 // Does a word cloak for a list, under the plain key with `key` in place of its first bytes?
-pub(crate) fn cloaks(labels: &[u8], word: &[u8], key: &[u8]) {
+pub(crate) fn cloaks(rt: &impl Print, labels: &[u8], word: &[u8], key: &[u8]) {
     let file = file(key);
     let found = slip_cloaking::cloaks(&file, labels, word);
-    print::answer(found.answer);
-    print::choice(found.yes, b" yes\n", b" no\n");
+    print::answer(rt, found.answer);
+    print::choice(rt, found.yes, b" yes\n", b" no\n");
 }
 
 // The verdict on a digest and a word, under the plain key with `key` in place of its first bytes.
-pub(crate) fn verdict(digest: &[u8], word: &[u8], key: &[u8]) {
+pub(crate) fn verdict(rt: &impl Print, digest: &[u8], word: &[u8], key: &[u8]) {
     let file = file(key);
-    print::line(slip_verdict::verify(&file, digest, word), b"");
+    print::line(rt, slip_verdict::verify(&file, digest, word), b"");
 }
 
 // The verdict on a digest and a word, under the plain key over the larger field.
-pub(crate) fn larger_verdict(digest: &[u8], word: &[u8]) {
+pub(crate) fn larger_verdict(rt: &impl Print, digest: &[u8], word: &[u8]) {
     let file = PLAIN_LARGER;
-    print::line(slip_verdict::verify(&file, digest, word), b"");
+    print::line(rt, slip_verdict::verify(&file, digest, word), b"");
 }

@@ -5,11 +5,11 @@ use pair::Pair;
 use pair_multiplier::Multiplied;
 
 // Prints the limits that the pair's type states.
-pub(crate) fn limits() {
-    print::text(b":");
-    print::number(Pair::STRANDS);
-    print::number(Pair::LETTERS);
-    print::text(b"\n");
+pub(crate) fn limits(rt: &impl Print) {
+    print::text(rt, b":");
+    print::number(rt, Pair::STRANDS);
+    print::number(rt, Pair::LETTERS);
+    print::text(rt, b"\n");
 }
 
 // The matrix of 64 entries given row by row.
@@ -71,27 +71,33 @@ fn after(pair: Pair, t_values: &[u8; 8], codes: &[u8]) -> Multiplied {
     last
 }
 
-fn show_pair(found: Multiplied) {
+fn show_pair(rt: &impl Print, found: Multiplied) {
     let pair = found.pair;
-    print::answer(found.answer);
+    print::answer(rt, found.answer);
     if found.answer == 0 {
-        show::pair(pair);
+        show::pair(rt, pair);
     } else {
-        show::zeros(show::is_zero_pair(pair));
+        show::zeros(rt, show::is_zero_pair(pair));
     }
 }
 
 // Multiplies letters into a pair and prints the result. If no T-values are given, those of the plain key stand in their
 // place.
-pub(crate) fn letters(codes: &[u8], t_values: &[u8], lists: &[u8], entries: &[u8]) {
+pub(crate) fn letters(
+    rt: &impl Print,
+    codes: &[u8],
+    t_values: &[u8],
+    lists: &[u8],
+    entries: &[u8],
+) {
     let mut ts = [1, 1, 2, 3, 4, 5, 6, 7];
     base::put(&mut ts, t_values);
-    show_pair(after(pair_of(lists, entries), &ts, codes));
+    show_pair(rt, after(pair_of(lists, entries), &ts, codes));
 }
 
-pub(crate) fn matrices(first: &[u8], second: &[u8]) {
+pub(crate) fn matrices(rt: &impl Print, first: &[u8], second: &[u8]) {
     let a = matrix_of(first);
     let b = matrix_of(second);
     let product = matrix_product::matrix_product(&a, &b, Field::Gf32);
-    show::rows(&product);
+    show::rows(rt, &product);
 }

@@ -15,30 +15,28 @@ pub(crate) fn is_zero_pair(pair: Pair) -> bool {
 }
 
 // Prints whether the values beside a refusal are all zeros, and ends the line.
-pub(crate) fn zeros(are: bool) {
-    print::choice(are, b" zeros\n", b" not zeros\n");
+pub(crate) fn zeros(rt: &impl Print, are: bool) {
+    print::choice(rt, are, b" zeros\n", b" not zeros\n");
 }
 
 // Prints a matrix, one line for each row.
-pub(crate) fn rows(matrix: &[u8; 64]) {
-    let mut i = 0;
-    while i < 64 {
+pub(crate) fn rows(rt: &impl Print, matrix: &[u8; 64]) {
+    for i in 0..64 {
         if i % 8 == 0 {
-            print::text(b"\n ");
+            print::text(rt, b"\n ");
         }
-        print::byte(matrix::entry(matrix, i / 8, i % 8));
-        i += 1;
+        print::byte(rt, matrix::entry(matrix, i / 8, i % 8));
     }
-    print::text(b"\n");
+    print::text(rt, b"\n");
 }
 
 // Prints a pair: its list, the positions of the labels, then its matrix.
-pub(crate) fn pair(pair: Pair) {
+pub(crate) fn pair(rt: &impl Print, pair: Pair) {
     let labels = pair.labels;
     let positions = pair.positions;
     let matrix = pair.matrix;
-    print::hex(&labels);
-    print::text(b", positions");
-    print::hex(&positions);
-    rows(&matrix);
+    print::hex(rt, &labels);
+    print::text(rt, b", positions");
+    print::hex(rt, &positions);
+    rows(rt, &matrix);
 }

@@ -4,28 +4,28 @@ use crate::input::{first, wide};
 use word::{Letter, Written};
 
 // Prints the answer, the number of letters, and the part that holds the codes.
-pub(crate) fn read(file: &[u8]) {
+pub(crate) fn read(rt: &impl Print, file: &[u8]) {
     let found = word::read_word(file);
-    print::answer(found.answer);
-    print::number(found.letters);
-    print::hex(word::code_part(file));
-    print::text(b"\n");
+    print::answer(rt, found.answer);
+    print::number(rt, found.letters);
+    print::hex(rt, word::code_part(file));
+    print::text(rt, b"\n");
 }
 
 // Prints whether a letter is left, and its code.
-fn show_letter(found: Letter) {
-    print::choice(found.left, b": yes", b": no");
-    print::byte(found.code);
-    print::text(b"\n");
+fn show_letter(rt: &impl Print, found: Letter) {
+    print::choice(rt, found.left, b": yes", b": no");
+    print::byte(rt, found.code);
+    print::text(rt, b"\n");
 }
 
-pub(crate) fn letter(file: &[u8], place: &[u8]) {
-    show_letter(word::letter_at(file, wide(first(place))));
+pub(crate) fn letter(rt: &impl Print, file: &[u8], place: &[u8]) {
+    show_letter(rt, word::letter_at(file, wide(first(place))));
 }
 
 // Prints the second letter of a word, from a reader of words that is opened, moved on once, and read.
-pub(crate) fn second(file: &[u8]) {
-    show_letter(word_reader::second(file));
+pub(crate) fn second(rt: &impl Print, file: &[u8]) {
+    show_letter(rt, word_reader::second(file));
 }
 
 // A limit of steps: two bytes, the high one first; 0 if there are fewer.
@@ -38,18 +38,18 @@ fn limit(bytes: &[u8]) -> u16 {
 
 // Takes handles out of a word. Prints the answer, the number of bytes written, whether a handle is left, the bytes
 // written, and whether the rest of the output kept its bytes.
-pub(crate) fn handles(word: &[u8], steps: &[u8]) {
+pub(crate) fn handles(rt: &impl Print, word: &[u8], steps: &[u8]) {
     let mut out = [FILL; 5002];
     let done = handle_reducer::handle_reduce(word, limit(steps), &mut out);
-    print::answer(done.answer);
-    print::number(done.bytes);
-    print::choice(done.left, b" left", b" none");
-    print::output(&out, done.bytes, FILL);
+    print::answer(rt, done.answer);
+    print::number(rt, done.bytes);
+    print::choice(rt, done.left, b" left", b" none");
+    print::output(rt, &out, done.bytes, FILL);
 }
 
 // Prints the answer, which of two words is the shorter, and the bytes of its file. The words lie one after the other.
 // The first byte of `bytes` is the length of the first word's file.
-pub(crate) fn shorter(both: &[u8], bytes: &[u8]) {
+pub(crate) fn shorter(rt: &impl Print, both: &[u8], bytes: &[u8]) {
     let n = wide(first(bytes));
     if both.len() < n {
         return;
@@ -57,10 +57,10 @@ pub(crate) fn shorter(both: &[u8], bytes: &[u8]) {
     let a = &both[0..n];
     let b = &both[n..];
     let chosen = word_shorter::choose(a, b);
-    print::answer(chosen.answer);
-    print::number(wide(chosen.which));
-    print::hex(word_shorter::shorter(a, b));
-    print::text(b"\n");
+    print::answer(rt, chosen.answer);
+    print::number(rt, wide(chosen.which));
+    print::hex(rt, word_shorter::shorter(a, b));
+    print::text(rt, b"\n");
 }
 
 // Writes a word file: L from codes, F by free reduction, D from a digest, R by rewriting.
@@ -74,16 +74,16 @@ fn written(operation: u8, from: &[u8], moves: &[u8], out: &mut [u8]) -> Written 
 }
 
 // Prints the answer, the number of bytes written, the bytes written, and whether the rest of the output kept its bytes.
-fn write_into(operation: u8, from: &[u8], moves: &[u8], out: &mut [u8]) {
+fn write_into(rt: &impl Print, operation: u8, from: &[u8], moves: &[u8], out: &mut [u8]) {
     let done = written(operation, from, moves, out);
-    print::answer(done.answer);
-    print::number(done.bytes);
-    print::output(out, done.bytes, FILL);
+    print::answer(rt, done.answer);
+    print::number(rt, done.bytes);
+    print::output(rt, out, done.bytes, FILL);
 }
 
 // Writes a word file to an output of 5,002 bytes, less the number in `lacks`.
-pub(crate) fn write(operation: u8, from: &[u8], moves: &[u8], lacks: &[u8]) {
+pub(crate) fn write(rt: &impl Print, operation: u8, from: &[u8], moves: &[u8], lacks: &[u8]) {
     let start = wide(first(lacks));
     let mut out = [FILL; 5002];
-    write_into(operation, from, moves, &mut out[start..]);
+    write_into(rt, operation, from, moves, &mut out[start..]);
 }

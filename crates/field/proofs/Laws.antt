@@ -47,7 +47,8 @@ pick_below t v m p h = go (eqb t 1)
 sum_pick : (v s t : ℕ) → s < 2 → t < 2 → pick (bit_xor s t) v ≡ bit_xor (pick s v) (pick t v)
 sum_pick v s t hs ht =
     by_digit (λ (x : ℕ). pick (bit_xor x t) v ≡ bit_xor (pick x v) (pick t v)) refl
-    (by_digit (λ (y : ℕ). pick (bit_xor 1 y) v ≡ bit_xor v (pick y v)) (sym (xor_zero_r v)) (sym (xor_self v)) t ht) s hs
+    (by_digit (λ (y : ℕ). pick (bit_xor 1 y) v ≡ bit_xor v (pick y v)) (sym (xor_zero_r v)) (sym (xor_self v)) t ht)
+    s hs
 
 module _ {n p : ℕ} (degree : Degree n p) where
   one_below_size : 1 < 2 ^ n

@@ -24,7 +24,8 @@ module _ {n p : ℕ} (degree : Degree n p) where
 
   -- one iteration keeps the sum of the total and the product that is left to add
   pub turn : (total t k b : ℕ) → t < 2 ^ n
-      → bit_xor (bit_xor total (b % 2 * t)) (horner n p (times_x n p t) k (b / 2)) ≡ bit_xor total (horner n p t (suc k) b)
+      → bit_xor (bit_xor total (b % 2 * t)) (horner n p (times_x n p t) k (b / 2))
+      ≡ bit_xor total (horner n p t (suc k) b)
   turn total t k b h =
       let u = b % 2 * t in
       let v = horner n p (times_x n p t) k (b / 2) in

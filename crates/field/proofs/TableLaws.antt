@@ -60,7 +60,8 @@ module _ {n p : ℕ} (d : Degree n p) where
   -- the reciprocal depends only on the n low bits of its operand
   inv_low : (a : ℕ) → reciprocal_of n p (a % 2 ^ n) ≡ reciprocal_of n p a
   unfolding reciprocal_of
-  inv_low a = ap (λ (f : ℕ → Bool). first_or_zero f 0 (2 ^ n)) (fun_ext (λ b. ap (λ (x : ℕ). eqb x 1) (times_low d a b)))
+  inv_low a = ap (λ (f : ℕ → Bool). first_or_zero f 0 (2 ^ n))
+      (fun_ext (λ b. ap (λ (x : ℕ). eqb x 1) (times_low d a b)))
 
   at_low : (a : ℕ) → a < 2 ^ n → get_or (0 ∷ reciprocals n p) a 0 ≡ reciprocal_of n p a
   at_low zero h = sym (reciprocal_zero d)
@@ -78,11 +79,13 @@ module _ {n p : ℕ} (d : Degree n p) where
 -- r - 1
 module _ (table : List ℕ) (a : ℕ) where
   pub none_before : a % (length table + 1) ≡ 0 → 0 ≡ looked_up table a
-  none_before e = sym (ap (λ (k : ℕ). get_or (0 ∷ table) k 0) (sym (ap (λ (m : ℕ). a % m) (add-one (length table))) ∙ e))
+  none_before e = sym (ap (λ (k : ℕ). get_or (0 ∷ table) k 0)
+      (sym (ap (λ (m : ℕ). a % m) (add-one (length table))) ∙ e))
 
   pub one_before : (a % (length table + 1) ≡ 0 → ⊥)
       → get_or table (a % (length table + 1) - 1) 0 ≡ looked_up table a
-  one_before d = before (a % (length table + 1)) d ∙ ap (λ (m : ℕ). get_or (0 ∷ table) (a % m) 0) (add-one (length table))
+  one_before d = before (a % (length table + 1)) d
+      ∙ ap (λ (m : ℕ). get_or (0 ∷ table) (a % m) 0) (add-one (length table))
     where
       before : (k : ℕ) → (k ≡ 0 → ⊥) → get_or table (k - 1) 0 ≡ get_or (0 ∷ table) k 0
       before zero z = absurd (z refl)

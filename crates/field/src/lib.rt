@@ -1,5 +1,7 @@
 // GF(32) and GF(256): products, reciprocals, the laws of a binary field. GF(32) is reduced by x^5 + x^2 + 1. GF(256) is
 // reduced by x^8 + x^4 + x^3 + x^2 + 1.
+#![tactic(auto)]
+
 ghost use Rattle.std.specs.Prelude.{◌≡◌};
 ghost use Rattle.field.specs.Fields.{bits, modulus, operations, field_of, is_large};
 ghost use Rattle.field.specs.steps.Reciprocals.{reciprocals};
@@ -15,7 +17,7 @@ pub use steps::{inverse, times_x};
 
 // One of the two fields. A function that receives only the field matches on it once. It lends the functions below it
 // the bits of an element, the polynomial and the tables.
-#[derive(Drop)]
+#[derive(Clone, Copy)]
 pub enum Field {
     Gf32,
     Gf256,
@@ -30,7 +32,7 @@ pub const LARGE_BITS: usize = 8;
 pub const LARGE_MODULUS: u64 = 0b100011101;
 
 #[repr(C)]
-#[derive(Drop)]
+#[derive(Clone, Copy)]
 pub struct Element {
     pub answer: u8,
     pub value: u8,

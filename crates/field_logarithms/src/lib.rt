@@ -1,5 +1,7 @@
 // Products by logarithms, for loops. One form of table serves both fields, so no product matches on the field. A loop
 // looks up the logarithms of its numbers once.
+#![tactic(auto)]
+
 ghost use Rattle.std.specs.Prelude.{◌≡◌, ◌+◌, ◌<◌, length, get_or};
 ghost use Rattle.field.specs.Fields.{operations};
 ghost use Rattle.field_logarithms.specs.steps.Logarithms.{ProductsBy, LogarithmOf};

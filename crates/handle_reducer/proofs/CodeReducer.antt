@@ -39,7 +39,8 @@ module _ (word : List ℕ) (limit : ℕ) (out : List ℕ) where
 
     -- if no step is refused, the writer of words writes what the operation must write
     pub took : a ≡ 0 → letters ≤ length row' → {after : List ℕ} {answer bytes : ℕ}
-        → Wrote (writer_questions (length out) (take letters row')) (word_file (take letters row')) out after answer bytes
+        → Wrote (writer_questions (length out) (take letters row')) (word_file (take letters row')) out after answer
+        bytes
         → TookHandles word limit out after answer bytes left
     took z fits o =
         let new : take letters row' ≡ after_steps limit (codes word) =

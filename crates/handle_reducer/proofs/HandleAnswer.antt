@@ -17,7 +17,8 @@ pub record Accepted (word : List ℕ) (limit : ℕ) : Type 0 where
 
 module _ (room : ℕ) (word : List ℕ) (limit : ℕ) where
   past_room : 5002 ≤ room
-      → first_no (handle_questions room word limit) ≡ first_no (word_questions word ++ step_questions limit (codes word))
+      → first_no (handle_questions room word limit)
+      ≡ first_no (word_questions word ++ step_questions limit (codes word))
   past_room h = passes 15 (word_questions word ++ step_questions limit (codes word)) (le-leb 5002 room h)
 
   pub past_word : 5002 ≤ room → word_answer word ≡ 0

@@ -66,7 +66,8 @@ module _ (word : List ℕ) (limit : ℕ) {before after : List ℕ} {answer bytes
   -- an operation that gives the right numbers and leaves the right bytes meets the whole contract
   pub took_whole : {left : Bool}
       → left
-      ≡ granted (first_no (handle_questions (length before) word limit)) (has_handle (after_steps limit (codes word))) false
+      ≡ granted (first_no (handle_questions (length before) word limit))
+      (has_handle (after_steps limit (codes word))) false
       → TookHandles word limit before after answer bytes left
   took_whole l = record { wrote = w; left_is = l; keeps = handles_keep_meaning }
 

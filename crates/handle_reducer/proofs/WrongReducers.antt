@@ -64,7 +64,8 @@ own_allowed = step_by (λ c d. not (eqb (generator d + 1) (generator c)))
 exchanged_signs : ℕ → List ℕ → List ℕ
 exchanged_signs c [] = []
 exchanged_signs c (d ∷ m) =
-    cond (eqb (generator d) (generator c + 1)) ((c + 1) ∷ (d - 1) ∷ inverse (c + 1) ∷ []) (d ∷ []) ++ exchanged_signs c m
+    cond (eqb (generator d) (generator c + 1)) ((c + 1) ∷ (d - 1) ∷ inverse (c + 1) ∷ []) (d ∷ [])
+    ++ exchanged_signs c m
 
 pub signs_exchanged : List ℕ → List ℕ
 signs_exchanged w =
@@ -225,7 +226,8 @@ module _ (f : Reducer) (meets : Meets f) where
   -- 32 for a step that leaves 10,000 letters
   pub no_32_at_10000 : ((word before : List ℕ) → Handed word 1 before → length (stepped (codes word)) ≡ 10000
       → (f word 1 before).answer ≡ 32) → ⊥
-  unfolding every first_no value halves codes first_from is_handle start_of earliest_end conjugated stepped step_questions
+  unfolding every first_no value halves codes first_from is_handle start_of earliest_end conjugated stepped
+      step_questions
   no_32_at_10000 wrong =
       let e = sym (wrong full out full_given refl) ∙ answer_of f meets full_given in
       omega arith

@@ -1,11 +1,13 @@
 // Taking handles out of a word file.
+#![tactic(auto)]
+
 ghost use Rattle.std.specs.Prelude.{false, ◌≡◌};
 ghost use Rattle.handle_reducer.specs.Reducing.{TookHandles};
 
 // What taking handles out returns: its answer, the number of bytes written, and whether a handle is left; 0 and no on a
 // refusal.
 #[repr(C)]
-#[derive(Drop)]
+#[derive(Clone, Copy)]
 pub struct Handles {
     pub answer: u8,
     pub bytes: usize,

@@ -52,7 +52,8 @@ module _ (row : List ℕ) (left right : ℕ) (h : left < right) (r : right < len
     own_inside = own_latest.within
 
     decides : ends (gapped row left right) left
-        ≡ ltb less own && eqb (get_or (gapped row left right) (own - 1) 0) (inverse (get_or (gapped row left right) left 0))
+        ≡ ltb less own && eqb (get_or (gapped row left right) (own - 1) 0)
+        (inverse (get_or (gapped row left right) left 0))
     decides = ends_latest (gapped row left right) letters left inside own less own_latest less_latest
 
     -- the latest letter of the code's own generator
@@ -81,7 +82,8 @@ module _ (row : List ℕ) (left right : ℕ) (h : left < right) (r : right < len
         ∙ and_false (ltb less own))
 
     -- otherwise a handle begins at the latest letter of the code's own generator
-    pub handle_begins : less < own → get_or row (own - 1) 0 ≡ inverse (get_or row right 0) → own ≡ beginning row left right
+    pub handle_begins : less < own → get_or row (own - 1) 0 ≡ inverse (get_or row right 0) → own
+        ≡ beginning row left right
     handle_begins p e =
         let w = gapped row left right in
         let t =

@@ -92,7 +92,8 @@ tables_alike u v n e t =
 module _ (row latest before : List ℕ) (n : ℕ) where
   -- one code more: it is stored, and so are its place and the latest place before it
   pub tables_more : (c : ℕ) → n < length row → n < length before → letter_slot c < 9 → Tables row latest before n
-      → Tables (set row n c) (set latest (letter_slot c) (n + 1)) (set before n (get_or latest (letter_slot c) 0)) (n + 1)
+      → Tables (set row n c) (set latest (letter_slot c) (n + 1)) (set before n (get_or latest (letter_slot c) 0))
+      (n + 1)
   tables_more c h l m t =
       record {
         newest =

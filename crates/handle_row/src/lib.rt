@@ -1,4 +1,5 @@
 // The working memory of handle reduction: a row of codes with a gap, and where each generator last occurs before it.
+#![tactic(auto)]
 
 mod around; // around.rt: a word laid at the row's end, and gathered around the gap
 mod ends; // ends.rt: writes what replaces the letters between a handle's ends

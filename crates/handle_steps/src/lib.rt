@@ -1,4 +1,5 @@
 // Takes handles out of a row of codes, up to a limit of steps. A step touches only the letters of its handle.
+#![tactic(auto)]
 
 mod turns; // turns.rt: one turn, and all turns
 
@@ -9,7 +10,7 @@ use turns::run;
 
 // What the steps give. `answer` is 32 if a step would leave over 10,000 letters, and otherwise 0. `letters` is the
 // number of letters of the row's word. `left` says whether a handle is left, and no on a refusal.
-#[derive(Drop)]
+#[derive(Clone, Copy)]
 pub struct Reduced {
     pub answer: u8,
     pub letters: usize,

@@ -8,7 +8,7 @@ use handle_row::{ROOM, begins, conjugate, cut, grown, keep};
 
 // The gap after a turn, and the steps that are left. `stop` is 0 if the turns go on, 1 if a handle is left but no step,
 // 32 if a step is refused.
-#[derive(Drop)]
+#[derive(Clone, Copy)]
 pub(crate) struct State {
     pub left: usize,
     pub right: usize,

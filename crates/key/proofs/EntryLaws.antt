@@ -46,7 +46,12 @@ get_d_zeros (suc n) (suc k) = get_d_zeros n k
 pub placed_none : (es : List ℕ) → EntriesPlaced es 0 (replicate 64 0)
 unfolding entry
 placed_none es =
-    record { size = refl; placed = λ k h. absurd (omega arith); zeros = λ k h b. get_d_zeros 64 (place (k / 8) (k % 8)) }
+    record {
+      size = refl;
+      placed = λ k h. absurd (omega arith);
+      zeros = λ k h b. get_d_zeros 64
+          (place (k / 8) (k % 8));
+    }
 
 -- one more entry
 pub placed_more : (es m : List ℕ) (n : ℕ) {at : ℕ} → at ≡ place (n / 8) (n % 8) → n < 56 → EntriesPlaced es n m
@@ -58,12 +63,14 @@ placed_more es m n e h f =
       zeros = λ k a b. other k b (λ e. omega arith) ∙ f.zeros k (omega arith) b;
     }
   where
-    other : (k : ℕ) → k < 64 → (k ≡ n → ⊥) → file_entry (set m (place (n / 8) (n % 8)) (get_or es n 0)) k ≡ file_entry m k
+    other : (k : ℕ) → k < 64 → (k ≡ n → ⊥) → file_entry (set m (place (n / 8) (n % 8)) (get_or es n 0)) k
+        ≡ file_entry m k
     other k b d =
         store_other m (n / 8) (n % 8) (get_or es n 0) (omega arith) (omega arith) (k / 8) (k % 8) (omega arith)
         (omega arith) (λ p q. d (omega arith))
 
-    own : (k : ℕ) → k < n + 1 → Dec (k ≡ n) → file_entry (set m (place (n / 8) (n % 8)) (get_or es n 0)) k ≡ get_or es k 0
+    own : (k : ℕ) → k < n + 1 → Dec (k ≡ n) → file_entry (set m (place (n / 8) (n % 8)) (get_or es n 0)) k
+        ≡ get_or es k 0
     own k b (yes e) = rw e (store_same m (n / 8) (n % 8) (get_or es n 0) (omega arith) (omega arith) f.size)
     own k b (no d) = other k (omega arith) d ∙ f.placed k (omega arith)
 

@@ -17,7 +17,8 @@ use Rattle.key.specs.steps.Places.{key_place, file_bytes}
 use Rattle.key.specs.steps.Parts.{Sizes}
 
 -- a part as the code cuts it out, from its place to its end
-pub part_taken : (b i : ℕ) (file : List ℕ) {at end : ℕ} → at ≡ key_place b i → end ≡ key_place b i + get_or (key_sizes b) i 0
+pub part_taken : (b i : ℕ) (file : List ℕ) {at end : ℕ} → at ≡ key_place b i → end ≡ key_place b i
+    + get_or (key_sizes b) i 0
     → part at (end - at) file ≡ file_part (key_sizes b) i file
 part_taken b i file {at} {end} e f =
     let n : end - at ≡ get_or (key_sizes b) i 0 = omega arith in ap₂ (λ (k m : ℕ). part k m file) e n
@@ -40,6 +41,7 @@ module _ (b : ℕ) (ts labels first second : List ℕ) (size : Sizes ts labels f
       ∙ ap (λ (ns : List ℕ). place_from 0 ns 6) sizes_are
 
   pub part_back : (i : ℕ)
-      → file_part (key_sizes b) i (key_file b ts labels first second) ≡ get_or (file_parts b ts labels first second) i []
+      → file_part (key_sizes b) i (key_file b ts labels first second)
+      ≡ get_or (file_parts b ts labels first second) i []
   unfolding key_file
   part_back i = part_joined (key_sizes b) (file_parts b ts labels first second) sizes_are i

@@ -112,7 +112,8 @@ abbrev pub key_with : Field → List ℕ → List ℕ → List ℕ
 key_with f first second =
     key_file (bits f) (1 ∷ 1 ∷ 2 ∷ 3 ∷ 4 ∷ 5 ∷ 6 ∷ 7 ∷ []) (0 ∷ 1 ∷ 2 ∷ 3 ∷ 4 ∷ 5 ∷ 6 ∷ 7 ∷ []) first second
 
--- The entries of the blank matrix. `unit_entries` is those of the identity, `reversed_entries` those of the identity with
+-- The entries of the blank matrix. `unit_entries` is those of the identity, `reversed_entries` those of the identity
+-- with
 -- its first seven rows in reverse order.
 abbrev pub blank : List ℕ
 blank = replicate 57 0
@@ -157,29 +158,36 @@ blank_second f m =
     ∙ and_false (invertible (operations f) 8 (entry m))
 
 pub blank_key : (f : Field) → key_answer (key_with f blank blank) ≡ 26
-unfolding key_field first_no values_from every tally each_once value digits t_values_of unpacked_row row_filler key_labels
+unfolding key_field first_no values_from every tally each_once value digits t_values_of unpacked_row row_filler
+    key_labels
     whole_matrix matrix_of row_of column_of packed_row key_file
 blank_key Gf32 = refused_26 (key_with Gf32 blank blank) refl (blank_first Gf32 (replicate 64 0))
 blank_key Gf256 = refused_26 (key_with Gf256 blank blank) refl (blank_first Gf256 (replicate 64 0))
 
 pub blank_first_matrix : key_answer (key_with Gf32 blank unit_entries) ≡ 26
-unfolding key_field first_no values_from every tally each_once value digits t_values_of unpacked_row row_filler key_labels
+unfolding key_field first_no values_from every tally each_once value digits t_values_of unpacked_row row_filler
+    key_labels
     whole_matrix matrix_of row_of column_of place entry identity file_entries packed_row key_file
 blank_first_matrix = refused_26 (key_with Gf32 blank unit_entries) refl (blank_first Gf32 identity)
 
 pub blank_second_matrix : key_answer (key_with Gf32 unit_entries blank) ≡ 26
-unfolding key_field first_no values_from every tally each_once value digits t_values_of unpacked_row row_filler key_labels
+unfolding key_field first_no values_from every tally each_once value digits t_values_of unpacked_row row_filler
+    key_labels
     whole_matrix matrix_of row_of column_of place entry identity file_entries packed_row key_file
 blank_second_matrix = refused_26 (key_with Gf32 unit_entries blank) refl (blank_second Gf32 identity)
 
 pub plain_key_lem : (f : Field) → key_answer (key_with f unit_entries unit_entries) ≡ 0
-unfolding key_field first_no values_from every tally each_once value digits t_values_of unpacked_row row_filler key_labels
+unfolding key_field first_no values_from every tally each_once value digits t_values_of unpacked_row row_filler
+    key_labels
     whole_matrix matrix_of row_of column_of place entry identity file_entries packed_row key_file
-plain_key_lem Gf32 = accepted_with (key_with Gf32 unit_entries unit_entries) refl (identity_has Gf32) (identity_has Gf32)
-plain_key_lem Gf256 = accepted_with (key_with Gf256 unit_entries unit_entries) refl (identity_has Gf256) (identity_has Gf256)
+plain_key_lem Gf32 = accepted_with (key_with Gf32 unit_entries unit_entries) refl (identity_has Gf32)
+    (identity_has Gf32)
+plain_key_lem Gf256 = accepted_with (key_with Gf256 unit_entries unit_entries) refl (identity_has Gf256)
+    (identity_has Gf256)
 
 pub permutation_key : key_answer (key_with Gf32 reversed_entries reversed_entries) ≡ 0
-unfolding key_field first_no values_from every tally each_once value digits t_values_of unpacked_row row_filler key_labels
+unfolding key_field first_no values_from every tally each_once value digits t_values_of unpacked_row row_filler
+    key_labels
     whole_matrix matrix_of row_of column_of place entry identity file_entries packed_row key_file
 permutation_key = accepted_with (key_with Gf32 reversed_entries reversed_entries) refl reversed_has reversed_has
 
@@ -187,7 +195,8 @@ permutation_key = accepted_with (key_with Gf32 reversed_entries reversed_entries
 
 -- a blank key with a filler bit in its last byte gives 7
 pub filler_before_26 : key_answer (take 82 (key_with Gf32 blank blank) ++ (1 ∷ [])) ≡ 7
-unfolding key_field first_no values_from every tally each_once value digits t_values_of row_filler unpacked_row key_labels
+unfolding key_field first_no values_from every tally each_once value digits t_values_of row_filler unpacked_row
+    key_labels
     packed_row key_file key_answer
 filler_before_26 = refl
 

@@ -152,7 +152,8 @@ module _ (b : ℕ) (file : List ℕ) (bytes : Below 256 file) (l : length file �
       (length_part at (row_bytes c n) file (omega (arith, l))) z
 
 again : (f : Field) (file : List ℕ) → Below 256 file → Accepted f file → let b = bits f in
-    key_file b (t_values_of b file) (key_labels b file) (entries b (first_bytes b file)) (entries b (second_bytes b file))
+    key_file b (t_values_of b file) (key_labels b file) (entries b (first_bytes b file))
+    (entries b (second_bytes b file))
     ≡ file
 unfolding key_file t_values_of key_labels
 again f file bytes ok =

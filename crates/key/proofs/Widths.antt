@@ -56,7 +56,8 @@ pub own_length : (file : List ℕ) → either_length (length file) ≡ true → 
 unfolding key_field
 own_length file e = told (eqb (length file) (key_bytes Gf32)) (eqb (length file) (key_bytes Gf256)) refl refl e
   where
-    told : (s t : Bool) → eqb (length file) (key_bytes Gf32) ≡ s → eqb (length file) (key_bytes Gf256) ≡ t → s || t ≡ true
+    told : (s t : Bool) → eqb (length file) (key_bytes Gf32) ≡ s → eqb (length file) (key_bytes Gf256) ≡ t → s || t
+        ≡ true
         → length file ≡ key_bytes (cond t Gf256 Gf32)
     told s true p q h = eqb-true (length file) (key_bytes Gf256) q
     told true false p q h = eqb-true (length file) (key_bytes Gf32) p

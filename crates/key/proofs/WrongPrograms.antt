@@ -43,7 +43,8 @@ module _ (answer : List ℕ → ℕ) (key : List ℕ → Key)
 
   -- the plain key over the larger field ends with the byte 1, which is an entry and no filler
   pub no_filler_of_the_larger : answer (key_with Gf256 unit_entries unit_entries) ≡ 7 → ⊥
-  unfolding every values_from value digits key_file packed_row file_entries matrix_of row_of column_of entry place identity
+  unfolding every values_from value digits key_file packed_row file_entries matrix_of row_of column_of entry place
+      identity
   no_filler_of_the_larger wrong =
       let e : ◌≡◌ {A = ℕ} 7 0 =
       sym wrong ∙ (right (key_with Gf256 unit_entries unit_entries) refl).answer_is ∙ plain_key_lem Gf256 in omega arith
@@ -54,7 +55,8 @@ module _ (answer : List ℕ → ℕ) (key : List ℕ → Key)
   no_refusal_names_the_larger wrong =
       let file = key_with Gf256 blank blank in
       let zeros =
-      granted_refused (key_of file) zero_key (λ z. let e : ◌≡◌ {A = ℕ} 26 0 = sym (blank_key Gf256) ∙ z in omega arith) in
+      granted_refused (key_of file) zero_key
+      (λ z. let e : ◌≡◌ {A = ℕ} 26 0 = sym (blank_key Gf256) ∙ z in omega arith) in
       false≢true (ap is_large (sym (ap (λ (k : Key). k.field) ((right file refl).key_is ∙ zeros)) ∙ wrong))
 
 -- Any writer that meets the contract, given T-values and entries of 200 and a list of eight labels 0, gives 6 and not

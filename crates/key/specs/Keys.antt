@@ -1,7 +1,8 @@
 -- Key files: N, q, eight T-values, the matrix of Pub(S), its list, the matrix of Pub(S'). A key file has 83 bytes over
 -- GF(32) and 128 over GF(256). The questions of the key reader and of the key writer stand in the paper's order. The
 -- parts of a file are stated for any number b of bits of an element.
-use Rattle.std.specs.Prelude.{ℕ, ◌+◌, ◌*◌, ◌/◌, ◌%◌, ◌^◌, ◌≡◌, Bool, cond, ◌&&◌, ◌||◌, List, [], ◌∷◌, ◌++◌, leb, eqb, length, take, drop, get_or, replicate}
+use Rattle.std.specs.Prelude.{ℕ, ◌+◌, ◌*◌, ◌/◌, ◌%◌, ◌^◌, ◌≡◌, Bool, cond, ◌&&◌, ◌||◌, List, [], ◌∷◌, ◌++◌, leb, eqb}
+use Rattle.std.specs.Prelude.{length, take, drop, get_or, replicate}
 use Rattle.base.specs.Questions.{Question, ◌else◌, first_no, granted}
 use Rattle.base.specs.Lists.{values, overlaid}
 use Rattle.base.specs.Digits.{value, digits, part}
@@ -107,7 +108,8 @@ key_holding f ts labels first second =
 -- the key that a file holds, if an element has b bits
 abbrev pub key_parts : Field → ℕ → List ℕ → Key
 key_parts f b file =
-    key_holding f (t_values_of b file) (key_labels b file) (entries b (first_bytes b file)) (entries b (second_bytes b file))
+    key_holding f (t_values_of b file) (key_labels b file) (entries b (first_bytes b file))
+    (entries b (second_bytes b file))
 
 -- the key that a file holds
 unfoldable pub key_of : List ℕ → Key

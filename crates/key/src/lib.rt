@@ -1,5 +1,7 @@
 // Key files. A key file has 83 bytes over GF(32) and 128 over GF(256). This crate has what the key reader and the key
 // writer share.
+#![tactic(auto)]
+
 ghost use Rattle.std.specs.Prelude.{◌≡◌, length};
 ghost use Rattle.key.specs.Keys.{whole_matrix, file_entries, starts_with_ones, zero_key};
 
@@ -13,7 +15,7 @@ pub use width::{
 };
 
 // What a key file holds: the field, the T-values, the pair Pub(S) and the matrix of Pub(S').
-#[derive(Drop)]
+#[derive(Clone, Copy)]
 pub struct Key {
     pub field: Field,
     pub t_values: [u8; 8],
@@ -22,7 +24,7 @@ pub struct Key {
 }
 
 // An answer and a key. On a refusal the key is all zeros.
-#[derive(Drop)]
+#[derive(Clone, Copy)]
 pub struct KeyRead {
     pub answer: u8,
     pub key: Key,

@@ -1,4 +1,6 @@
 // The key reader.
+#![tactic(auto)]
+
 ghost use Rattle.std.specs.Prelude.{◌≡◌, ◌≤◌, length};
 ghost use Rattle.field.specs.Fields.{key_bytes};
 ghost use Rattle.key.specs.Keys.{t_values_of, key_labels, key_field, key_parts, ReadsKey};

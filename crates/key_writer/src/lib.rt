@@ -1,4 +1,6 @@
 // The key writer.
+#![tactic(auto)]
+
 ghost use Rattle.std.specs.Prelude.{◌≡◌, ◌&&◌};
 ghost use Rattle.base.specs.Questions.{first_no};
 ghost use Rattle.base.specs.Lists.{overlaid};

@@ -55,7 +55,8 @@ module _ {F : Operations} (L : BinaryField F) where
       (λ k h. L.mul_assoc a (row k) (m k c))
       ∙ sym (mul_sum L a (λ k. F.mul (row k) (m k c)) n)
 
-  pub row_by_zero : (n : ℕ) (row : ℕ → ℕ) (m : ℕ → ℕ → ℕ) (c : ℕ) → ((k : ℕ) → k < n → row k ≡ 0) → row_by F n row m c ≡ 0
+  pub row_by_zero : (n : ℕ) (row : ℕ → ℕ) (m : ℕ → ℕ → ℕ) (c : ℕ) → ((k : ℕ) → k < n → row k ≡ 0)
+      → row_by F n row m c ≡ 0
   row_by_zero n row m c z =
       sum_zeros L (λ k. F.mul (row k) (m k c)) n (λ k h. ap (λ (x : ℕ). F.mul x (m k c)) (z k h) ∙ zero_mul L (m k c))
 
@@ -112,7 +113,8 @@ module _ {F : Operations} (L : BinaryField F) where
   product_assoc a b c =
       let ab : ℕ → ℕ → ℕ = λ r. row_by F 8 (entry a r) (entry b) in
       let bc : ℕ → ℕ → ℕ = λ r. row_by F 8 (entry b r) (entry c) in
-      matrix_of_ext (λ r. row_by F 8 (entry (matrix_of ab) r) (entry c)) (λ r. row_by F 8 (entry a r) (entry (matrix_of bc)))
+      matrix_of_ext (λ r. row_by F 8 (entry (matrix_of ab) r) (entry c))
+      (λ r. row_by F 8 (entry a r) (entry (matrix_of bc)))
       (λ r j hr hj.
       row_by_ext F 8 (entry (matrix_of ab) r) (ab r) (entry c) (entry c) j (λ k h. entry_matrix_of ab r k hr h)
       (λ k h. λ i. entry c k j)
@@ -125,7 +127,8 @@ module _ {F : Operations} (L : BinaryField F) where
   identity_left m good =
       sym (by_entries m (λ r. row_by F 8 (entry (matrix_of unit) r) (entry m)) good.size
       (λ r c hr hc.
-      sym (row_by_ext F 8 (entry (matrix_of unit) r) (unit r) (entry m) (entry m) c (λ k h. entry_matrix_of unit r k hr h)
+      sym (row_by_ext F 8 (entry (matrix_of unit) r) (unit r) (entry m) (entry m) c
+      (λ k h. entry_matrix_of unit r k hr h)
       (λ k h. λ i. entry m k c)
       ∙ unit_row_by L 8 r (entry m) c hr (entry_below m r c good.below))))
 

@@ -1,4 +1,6 @@
 // 8 by 8 matrices: layout, product, what an inverse is.
+#![tactic(auto)]
+
 ghost use Rattle.std.specs.Prelude.{◌≡◌, ◌%◌, ◌<◌};
 ghost use Rattle.matrix.specs.Layout.{place, entry};
 

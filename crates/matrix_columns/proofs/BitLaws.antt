@@ -23,7 +23,8 @@ chosen_same : (c d : ℕ → ℕ) (n e : ℕ) → ((i : ℕ) → i < n → c i �
 unfolding chosen
 chosen_same c d zero e h = refl
 chosen_same c d (suc n) e h =
-    ap₂ (λ (x y : ℕ). bit_xor x (e / 2 ^ n % 2 * y)) (chosen_same c d n e (λ i l. h i (omega arith))) (h n (omega arith))
+    ap₂ (λ (x y : ℕ). bit_xor x (e / 2 ^ n % 2 * y)) (chosen_same c d n e (λ i l. h i (omega arith)))
+    (h n (omega arith))
 
 module _ {n p : ℕ} (degree : Degree n p) (t : ℕ) where
   times_zero : times n p t 0 ≡ 0
@@ -55,7 +56,8 @@ module _ {n p : ℕ} (degree : Degree n p) (t : ℕ) where
 
 -- a number times a column, by the number's constants: each lane is multiplied by the number
 pub by_constants : {n p : ℕ} → Degree n p → (cs : List ℕ) (at t column r : ℕ) → Multiples (polynomials n p) n cs at t
-    → InLanes r (λ j. chosen (λ i. get_or cs (at + i) 0) n (lane j column)) → InLanes r (λ j. times n p t (lane j column))
+    → InLanes r (λ j. chosen (λ i. get_or cs (at + i) 0) n (lane j column))
+    → InLanes r (λ j. times n p t (lane j column))
 by_constants {n} {p} degree cs at t column r multiples lanes j h =
     lanes j h ∙ chosen_same (λ i. get_or cs (at + i) 0) (λ i. times n p t (2 ^ i)) n (lane j column) multiples
     ∙ product_by_bits degree t (lane j column)

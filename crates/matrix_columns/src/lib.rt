@@ -1,4 +1,6 @@
 // A column as one number of 64 bits.
+#![tactic(auto)]
+
 ghost use Rattle.std.specs.Prelude.{◌≡◌, ◌+◌, ◌≤◌, ◌<◌, length, get_or};
 ghost use Rattle.base.specs.Packing.{Below};
 ghost use Rattle.matrix_columns.specs.steps.Lanes.{lane, chosen, InLanes};

@@ -1,4 +1,6 @@
 // Has a matrix an inverse? Elimination clears the columns in place, the last column first.
+#![tactic(auto)]
+
 ghost use Rattle.std.specs.Prelude.{◌≡◌, ◌&&◌, true, false, ◌+◌, ◌<◌, ◌≤◌, length};
 ghost use Rattle.field.specs.Fields.{bits, modulus, operations};
 ghost use Rattle.field.specs.steps.Reciprocals.{reciprocals};

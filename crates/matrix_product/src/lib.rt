@@ -1,4 +1,6 @@
 // The product of two matrices.
+#![tactic(auto)]
+
 ghost use Rattle.std.specs.Prelude.{◌≡◌, ◌<◌, length, get_or};
 ghost use Rattle.field.specs.Fields.{operations};
 ghost use Rattle.field_logarithms.specs.steps.Logarithms.{ProductsBy, LogarithmsOf};

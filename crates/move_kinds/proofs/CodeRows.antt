@@ -18,7 +18,8 @@ use Rattle.move_kinds.specs.steps.Leaving.{insert_two}
 
 module _ (part : List ℕ) where
   -- the codes ahead of the loop are unchanged, so the loop reads the right code
-  ahead : (k : ℕ) → k + 2 < length part → get_or (take k (drop 2 part) ++ drop k part) (k + 2) 0 ≡ get_or (drop 2 part) k 0
+  ahead : (k : ℕ) → k + 2 < length part → get_or (take k (drop 2 part) ++ drop k part) (k + 2) 0
+      ≡ get_or (drop 2 part) k 0
   ahead k h =
       let m : length (take k (drop 2 part)) ≡ k = length-take-le k (drop 2 part) (omega (arith, length-drop 2 part)) in
       let e : k + 2 ≡ 2 + k = omega arith in

@@ -62,7 +62,8 @@ module _ (room : ℕ) (h : 5002 ≤ room) where
 
   -- what is asked after the word's questions
   abbrev rest : List ℕ → List ℕ → ℕ
-  rest word moves = granted (list_answer moves) (first_no (move_questions (steps moves) (codes word))) (list_answer moves)
+  rest word moves = granted (list_answer moves) (first_no (move_questions (steps moves) (codes word)))
+      (list_answer moves)
 
   in_turn : (word moves : List ℕ) → answer word moves ≡ granted (word_answer word) (rest word moves) (word_answer word)
   unfolding word_answer
@@ -80,7 +81,8 @@ module _ (room : ℕ) (h : 5002 ≤ room) where
         (λ l. enough_granted word_answer (λ v. rest v l) word_answer w (enough_of_word w hw) (whole_word w hw)
         (enough_of_word w hw))
         (λ v l. ap (λ (n : ℕ). granted (word_answer v) n (word_answer v))
-        (enough_granted list_answer (λ l. first_no (move_questions (steps l) (codes v))) list_answer m (enough_of_list m hm)
+        (enough_granted list_answer (λ l. first_no (move_questions (steps l) (codes v))) list_answer m
+        (enough_of_list m hm)
         (whole_list m hm) (enough_of_list m hm) l))
         word moves
         ∙ sym (in_turn word moves)

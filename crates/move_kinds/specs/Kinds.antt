@@ -1,7 +1,8 @@
 -- The kinds of moves on a word. Each kind has its questions, from 21 to 24 in the paper's order, and the word that it
 -- leaves. Places count from 0, in the word on which the move is made. Kind 1, `removal`, is defined in crate `word`,
 -- because free reduction repeats it.
-use Rattle.std.specs.Prelude.{ℕ, ◌+◌, ◌-◌, Bool, false, cond, ◌&&◌, List, [], ◌∷◌, ◌++◌, leb, eqb, length, take, drop, get_or}
+use Rattle.std.specs.Prelude.{ℕ, ◌+◌, ◌-◌, Bool, false, cond, ◌&&◌, List, [], ◌∷◌, ◌++◌, leb, eqb, length, take, drop}
+use Rattle.std.specs.Prelude.{get_or}
 use Rattle.base.specs.Questions.{◌else◌}
 use Rattle.word.specs.Letters.{is_letter, inverse, far, neighbours, same_sign}
 use Rattle.word.specs.Words.{max_letters}

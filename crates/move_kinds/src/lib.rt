@@ -1,4 +1,6 @@
 // The kinds of moves, one move on a row of codes. The word is the first codes of a row.
+#![tactic(auto)]
+
 ghost use Rattle.std.specs.Prelude.{◌≡◌};
 
 mod kinds; // kinds.rt: one move, by its kind
@@ -8,7 +10,7 @@ pub use kinds::one_move;
 
 // What a move gives: the number of the first question answered no, or 0 if there is none, and the number of letters
 // that the word then has.
-#[derive(Drop)]
+#[derive(Clone, Copy)]
 pub struct Change {
     pub answer: u8,
     pub letters: usize,

@@ -20,7 +20,8 @@ use Rattle.move_kinds.proofs.RewriterAnswer.{past_list}
 module _ (word moves out : List ℕ) (room : 5002 ≤ length out) (w : word_answer word ≡ 0)
     (l : first_no (list_questions moves) ≡ 0) where
   -- the rewriter's answer is the answer of the moves as the code makes them
-  pub rewriter_answer : first_no (rewriter_questions (length out) word moves) ≡ (moved (steps moves) (codes word)).answer
+  pub rewriter_answer : first_no (rewriter_questions (length out) word moves)
+      ≡ (moved (steps moves) (codes word)).answer
   rewriter_answer = past_list (length out) word moves room w l ∙ answers_alike (steps moves) (codes word)
 
   -- if every move is made, the writer of words writes what the rewriter must write

@@ -70,7 +70,8 @@ module _ (f : Rewriter) (meets : Meets f) where
 
   -- a rewriter that gives 22 for a place past the end of the word handed in, before trying its moves
   pub no_early_22 : ((word moves before : List ℕ) → Handed word moves before
-      → (k : ℕ) → k < move_count moves → length (codes word) < (step_at moves k).place → (f word moves before).answer ≡ 22)
+      → (k : ℕ) → k < move_count moves → length (codes word) < (step_at moves k).place
+      → (f word moves before).answer ≡ 22)
       → ⊥
   unfolding value codes halves
   no_early_22 wrong =
@@ -93,7 +94,8 @@ module _ (f : Rewriter) (meets : Meets f) where
 
   -- a rewriter that reads each kind right after its place
   pub no_interleaving : ((word moves before : List ℕ) → Handed word moves before
-      → (f word moves before).answer ≡ first_no (move_questions (interleaved moves 0 (move_count moves)) (codes word))) → ⊥
+      → (f word moves before).answer
+      ≡ first_no (move_questions (interleaved moves 0 (move_count moves)) (codes word))) → ⊥
   unfolding interleaved first_no value codes halves move_questions word_after move
   no_interleaving wrong =
       let e = sym (wrong empty two_insertions out two_tell.handed) ∙ answers two_tell in

@@ -1,4 +1,6 @@
 // The rewriter: a list of moves on a word file.
+#![tactic(auto)]
+
 ghost use Rattle.move_rewriter.specs.Rewriter.{Rewrote};
 
 use word::Written;

@@ -4,11 +4,14 @@
 // For each word, the program then prints a line with its answer. If the answer is 0, a second line has the sizes. Its
 // test run: under the plain key a slip that opens, with a letter and its inverse put into its word, one that does not,
 // and one without a digest.
+#![tactic(auto)]
+
 ghost use Rattle.std.specs.Prelude.{◌<◌};
 ghost use Rattle.io.specs.Counts.{IsPrefixLen};
 
-use desk_line::Got;
+use desk_io::NAME_ROOM;
 use desk_words::Made;
+use std::rt::{Env, Files};
 
 // The number of letters of a word's file, or the number that a stored form states.
 fn letters(file: &[u8], stored: bool) -> usize {
@@ -21,199 +24,215 @@ fn letters(file: &[u8], stored: bool) -> usize {
 
 // Prints how many letters and bytes the old file has and how many the new file has, without a line end. `from_stored`
 // and `to_stored` say which of the files is a stored form.
-fn sizes(old: &[u8], new: &[u8], from_stored: bool, to_stored: bool) {
-    print::text(b"letters");
-    print::number(letters(old, from_stored));
-    print::text(b" to");
-    print::number(letters(new, to_stored));
-    print::text(b", bytes");
-    print::number(old.len());
-    print::text(b" to");
-    print::number(new.len());
+fn sizes(rt: &impl Print, old: &[u8], new: &[u8], from_stored: bool, to_stored: bool) {
+    print::text(rt, b"letters");
+    print::number(rt, letters(old, from_stored));
+    print::text(rt, b" to");
+    print::number(rt, letters(new, to_stored));
+    print::text(rt, b", bytes");
+    print::number(rt, old.len());
+    print::text(rt, b" to");
+    print::number(rt, new.len());
 }
 
 // If the answer is 0, writes what was made to the file that argument `new` names. Then prints the answer, or that there
 // is none, or that the file was not written. Returns whether a file was written.
-fn placed(made: Made, new: usize, alone: bool) -> bool
+fn placed(rt: &(impl Files + Env + Print + Eprint), made: Made, new: usize, alone: bool) -> bool
     requires { IsPrefixLen made.bytes made.file }
 {
     if !made.read {
-        print::text(b"no answer\n");
+        print::text(rt, b"no answer\n");
         return false;
     }
     let answer = made.answer;
     let file = made.file;
     let bytes = made.bytes;
-    if answer == 0 && !desk_put::put_at(2, new, &file[..bytes], alone) {
-        print::text(b"not written\n");
+    if answer == 0 && !desk_put::put_at(rt, 2, new, &file[..bytes], alone) {
+        print::text(rt, b"not written\n");
         return false;
     }
-    desk_put::tell(answer);
+    desk_put::tell(rt, answer);
     answer == 0
 }
 
 // Writes what was made and prints the answer, as `placed` does. If a file was written, also prints the line of sizes.
 // `from_stored` and `to_stored` say which of the files is a stored form.
-fn end(made: Made, old: &[u8], new: usize, alone: bool, from_stored: bool, to_stored: bool)
+fn end(
+    rt: &(impl Files + Env + Print + Eprint),
+    made: Made,
+    old: &[u8],
+    new: usize,
+    alone: bool,
+    from_stored: bool,
+    to_stored: bool,
+)
     requires { IsPrefixLen made.bytes made.file }
 {
     let file = made.file;
     let bytes = made.bytes;
-    if placed(made, new, alone) {
-        sizes(old, &file[..bytes], from_stored, to_stored);
-        print::text(b"\n");
+    if placed(rt, made, new, alone) {
+        sizes(rt, old, &file[..bytes], from_stored, to_stored);
+        print::text(rt, b"\n");
     }
 }
 
 // The number that an argument writes, 0 to 65,535; 65,536 for any other argument.
-fn number_at(at: usize) -> usize {
-    let mut name = io::buffer();
-    let n = os::arg(at, &mut name);
+fn number_at(rt: &impl Env, at: usize) -> usize {
+    let mut name = [0u8; NAME_ROOM];
+    let n = desk_io::argument_or_none(rt, at, &mut name);
     desk_number::number_of(&name[..n])
 }
 
 // One slip: key, digest, signature and new signature are the four arguments from a place on.
-fn slip(at: usize, alone: bool, effort: u16)
+fn slip(rt: &(impl Files + Env + Print + Eprint), at: usize, alone: bool, effort: u16)
     requires { at < 18446744073709551613 }
 {
     let mut key = [0u8; desk_line::KEY_ROOM];
     let mut digest = [0u8; desk_line::DIGEST_ROOM];
     let mut word = [0u8; desk_line::WORD_ROOM];
-    let k = desk_io::file(at, &mut key);
-    let d = desk_io::file(at + 1, &mut digest);
-    let w = desk_io::file(at + 2, &mut word);
+    let k = desk_io::file(rt, at, &mut key);
+    let d = desk_io::file(rt, at + 1, &mut digest);
+    let w = desk_io::file(rt, at + 2, &mut word);
     let made = desk_words::shorten(&key, &digest, &word, k, d, w, effort);
     let n = w.bytes;
-    end(made, text::part(&word, 0, n), at + 3, alone, false, false);
+    end(
+        rt,
+        made,
+        text::part(&word, 0, n),
+        at + 3,
+        alone,
+        false,
+        false,
+    );
 }
 
 // Shortens slips: a name beside the new files, the effort, then key, digest, signature and new signature of each slip.
 // Only for a single slip, waits until the new file has reached the device.
-fn shorten(arguments: usize, effort: u16) {
+fn shorten(rt: &(impl Files + Env + Print + Eprint), arguments: usize, effort: u16) {
     let n = arguments / 4;
-    let mut i = 1;
-    while i < n {
-        slip(4 * i, n == 2, effort);
-        i += 1;
+    for i in 1..n {
+        slip(rt, 4 * i, n == 2, effort);
     }
 }
 
 // Rewrites a word: a name beside the new file, the word, the move list, the new word.
-fn rewrite() {
+fn rewrite(rt: &(impl Files + Env + Print + Eprint)) {
     let mut word = [0u8; desk_line::WORD_ROOM];
     let mut moves = [0u8; desk_words::MOVES_ROOM];
-    let w = desk_io::file(3, &mut word);
-    let m = desk_io::file(4, &mut moves);
+    let w = desk_io::file(rt, 3, &mut word);
+    let m = desk_io::file(rt, 4, &mut moves);
     let made = desk_words::rewrite(&word, &moves, w, m);
     let n = w.bytes;
-    end(made, text::part(&word, 0, n), 5, true, false, false);
+    end(rt, made, text::part(&word, 0, n), 5, true, false, false);
 }
 
 // Reduces a word freely: a name beside the new file, the word, the new word.
-fn reduce() {
+fn reduce(rt: &(impl Files + Env + Print + Eprint)) {
     let mut word = [0u8; desk_line::WORD_ROOM];
-    let w = desk_io::file(3, &mut word);
+    let w = desk_io::file(rt, 3, &mut word);
     let made = desk_words::reduce(&word, w);
     let n = w.bytes;
-    end(made, text::part(&word, 0, n), 4, true, false, false);
+    end(rt, made, text::part(&word, 0, n), 4, true, false, false);
 }
 
 // Prints whether a handle is left, and ends the line with the sizes.
-fn handles_left(left: bool) {
+fn handles_left(rt: &impl Print, left: bool) {
     if left {
-        print::text(b", handles left: yes\n");
+        print::text(rt, b", handles left: yes\n");
     } else {
-        print::text(b", handles left: no\n");
+        print::text(rt, b", handles left: no\n");
     }
 }
 
 // Writes what taking handles out made and prints the answer, as `end` does. The line of sizes also says whether a
 // handle is left.
-fn end_handles(made: Made, left: bool, old: &[u8])
+fn end_handles(rt: &(impl Files + Env + Print + Eprint), made: Made, left: bool, old: &[u8])
     requires { IsPrefixLen made.bytes made.file }
 {
     let file = made.file;
     let bytes = made.bytes;
-    if placed(made, 5, true) {
-        sizes(old, &file[..bytes], false, false);
-        handles_left(left);
+    if placed(rt, made, 5, true) {
+        sizes(rt, old, &file[..bytes], false, false);
+        handles_left(rt, left);
     }
 }
 
 // Takes handles out of a word in at most `limit` steps.
-fn steps(limit: u16) {
+fn steps(rt: &(impl Files + Env + Print + Eprint), limit: u16) {
     let mut word = [0u8; desk_line::WORD_ROOM];
-    let w = desk_io::file(3, &mut word);
+    let w = desk_io::file(rt, 3, &mut word);
     let taken = desk_handles::take_handles(&word, limit, w);
     let n = w.bytes;
-    end_handles(taken.made, taken.left, text::part(&word, 0, n));
+    end_handles(rt, taken.made, taken.left, text::part(&word, 0, n));
 }
 
 // Takes handles out of a word: a name beside the new file, the word, the greatest number of steps, the new word.
-fn handles() {
-    let limit = number_at(4);
+fn handles(rt: &(impl Files + Env + Print + Eprint)) {
+    let limit = number_at(rt, 4);
     if limit < desk_number::NONE {
-        steps(limit as u16);
+        steps(rt, limit as u16);
     } else {
-        desk_io::misused(b"handles takes at most 65535 steps, in decimal\n");
+        desk_io::misused(rt, b"handles takes at most 65535 steps, in decimal\n");
     }
 }
 
 // Stores a word: a name beside the new file, the word, its stored form.
-fn store() {
+fn store(rt: &(impl Files + Env + Print + Eprint)) {
     let mut word = [0u8; desk_line::WORD_ROOM];
-    let w = desk_io::file(3, &mut word);
+    let w = desk_io::file(rt, 3, &mut word);
     let made = desk_words::store(&word, w);
     let n = w.bytes;
-    end(made, text::part(&word, 0, n), 4, true, false, true);
+    end(rt, made, text::part(&word, 0, n), 4, true, false, true);
 }
 
 // Restores a word: a name beside the new file, the stored form, the word.
-fn restore() {
+fn restore(rt: &(impl Files + Env + Print + Eprint)) {
     let mut form = [0u8; desk_words::STORED_ROOM];
-    let f = desk_io::file(3, &mut form);
+    let f = desk_io::file(rt, 3, &mut form);
     let made = desk_words::restore(&form, f);
     let n = f.bytes;
-    end(made, text::part(&form, 0, n), 4, true, true, false);
+    end(rt, made, text::part(&form, 0, n), 4, true, true, false);
 }
 
 // Turns a word into the other dialect, to Y if `way` is true: a name beside the new file, the word, the parts of 7, the
 // new word. Parts that are longer than the buffer count as empty.
-fn convert(way: bool) {
+fn convert(rt: &(impl Files + Env + Print + Eprint), way: bool) {
     let mut word = [0u8; desk_line::WORD_ROOM];
-    let w = desk_io::file(3, &mut word);
-    let mut argument = io::buffer();
-    let m = os::arg(4, &mut argument);
+    let w = desk_io::file(rt, 3, &mut word);
+    let mut argument = [0u8; NAME_ROOM];
+    let m = desk_io::argument_or_none(rt, 4, &mut argument);
     let made = desk_dialect::convert(way, &argument[..m], &word, w);
     let n = w.bytes;
-    end(made, text::part(&word, 0, n), 5, true, false, false);
+    end(rt, made, text::part(&word, 0, n), 5, true, false, false);
 }
 
 // The verb decides how many arguments must follow. For `shorten`, each slip has four of them.
-fn main() {
-    let mut name = io::buffer();
-    let m = os::arg(1, &mut name);
+fn main(rt: HostRuntime) {
+    let rt = &rt;
+    let mut name = [0u8; NAME_ROOM];
+    let m = desk_io::argument_or_none(rt, 1, &mut name);
     let verb = &name[..m];
-    let n = os::arg_count();
-    let effort = number_at(3);
+    let n = desk_io::arg_count(rt);
+    let effort = number_at(rt, 3);
     if base::equal(verb, b"shorten") && 7 < n && n % 4 == 0 && effort < desk_number::NONE {
-        shorten(n, effort as u16);
+        shorten(rt, n, effort as u16);
     } else if base::equal(verb, b"rewrite") && n == 6 {
-        rewrite();
+        rewrite(rt);
     } else if base::equal(verb, b"reduce") && n == 5 {
-        reduce();
+        reduce(rt);
     } else if base::equal(verb, b"handles") && n == 6 {
-        handles();
+        handles(rt);
     } else if base::equal(verb, b"store") && n == 5 {
-        store();
+        store(rt);
     } else if base::equal(verb, b"restore") && n == 5 {
-        restore();
+        restore(rt);
     } else if base::equal(verb, b"to-y") && n == 6 {
-        convert(true);
+        convert(rt, true);
     } else if base::equal(verb, b"from-y") && n == 6 {
-        convert(false);
+        convert(rt, false);
     } else {
         desk_io::misused(
+            rt,
             b"new_word takes a verb and, after a name beside the new file, the verb's files: shorten EFFORT KEY DIGEST SIGNATURE NEW, rewrite WORD MOVES NEW, reduce WORD NEW, handles WORD LIMIT NEW, store WORD NEW, restore STORED NEW, to-y WORD PARTS NEW or from-y WORD PARTS NEW\n",
         );
     }

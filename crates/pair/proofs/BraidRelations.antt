@@ -93,7 +93,8 @@ module _ {F : Operations} (L : BinaryField F) (ts : List ℕ) where
   -- the braid relation for neighbouring letters of one sign
   braid_up : (j k : ℕ) (p : Pair) → is_letter k ≡ true → is_inverse j ≡ is_inverse k → generator j + 1 ≡ generator k
       → GoodPair F p
-      → letter_on F ts j (letter_on F ts k (letter_on F ts j p)) ≡ letter_on F ts k (letter_on F ts j (letter_on F ts k p))
+      → letter_on F ts j (letter_on F ts k (letter_on F ts j p))
+      ≡ letter_on F ts k (letter_on F ts j (letter_on F ts k p))
   unfolding letter_on
   braid_up j k p e s f good =
       let h : generator j + 2 < length p.labels = omega (arith, generator_below k e, good.strands) in
@@ -105,6 +106,7 @@ module _ {F : Operations} (L : BinaryField F) (ts : List ℕ) where
 
   pub braid_relation : (j k : ℕ) (p : Pair) → is_letter j ≡ true → is_letter k ≡ true → is_inverse j ≡ is_inverse k
       → Neighbours j k → GoodPair F p
-      → letter_on F ts j (letter_on F ts k (letter_on F ts j p)) ≡ letter_on F ts k (letter_on F ts j (letter_on F ts k p))
+      → letter_on F ts j (letter_on F ts k (letter_on F ts j p))
+      ≡ letter_on F ts k (letter_on F ts j (letter_on F ts k p))
   braid_relation j k p e e' s (inl f) good = braid_up j k p e' s f good
   braid_relation j k p e e' s (inr f) good = sym (braid_up k j p e (sym s) f good)

@@ -29,7 +29,8 @@ letter_turned F ts c p =
     ap (λ (m : List ℕ). pair_of m (swapped g p.labels))
     (matrix_of_ext (λ r. row_after F s g (entry (turned m) r)) rows
     (λ r j hr hj.
-    row_after_same F s g j (entry (turned m) r) (entry_by_rows m r) (entry_turned m r j hr hj) (entry_turned m r g hr hg))
+    row_after_same F s g j (entry (turned m) r) (entry_by_rows m r) (entry_turned m r j hr hj)
+    (entry_turned m r g hr hg))
     ∙ matrix_turned rows)
 
 -- a word

@@ -54,7 +54,8 @@ module _ (n p : ℕ) (s : Share) (g : ℕ) (columns columns' : List ℕ) (x y z 
   there r c hr hc (own e) = ap (λ (k : ℕ). lane r (get_or columns' (k + 1) 0)) e ∙ ap (lane r) stored.own ∙ mid r hr
   there r c hr hc (after e) =
       let k : c + 1 ≡ g + 2 = omega arith in
-      ap (λ (k : ℕ). lane r (get_or columns' k 0)) k ∙ ap (lane r) stored.right ∙ lane_xor r (get_or columns (g + 2) 0) z
+      ap (λ (k : ℕ). lane r (get_or columns' k 0)) k ∙ ap (lane r) stored.right
+      ∙ lane_xor r (get_or columns (g + 2) 0) z
       ∙ ap₂ bit_xor (ap (λ (k : ℕ). lane r (get_or columns k 0)) (sym k)) (right r hr)
   there r c hr hc (other b o a) = ap (lane r) (stored.others (c + 1) (apart b o a))
     where
@@ -137,7 +138,8 @@ pub three_stored : (columns : List ℕ) (g x p : ℕ) → length columns ≡ 9 �
     → by ≡ cond inverse 2 0
     → let one = set columns (g + by) (bit_xor (get_or columns (g + by) 0) p) in
     let two = set one (g + 1) p in
-    Spread (cond inverse x p) p (cond inverse p x) g columns (set two (g + 2 - by) (bit_xor (get_or two (g + 2 - by) 0) x))
+    Spread (cond inverse x p) p (cond inverse p x) g columns
+    (set two (g + 2 - by) (bit_xor (get_or two (g + 2 - by) 0) x))
 three_stored columns g x p l h true by e =
     let last : g + 2 - by ≡ g = omega arith in
     let s =

@@ -25,7 +25,8 @@ use Rattle.pair.specs.Action.{Share, t_value, positive_share, inverse_share, sha
 use Rattle.pair.specs.Action.{word_on}
 use Rattle.pair.specs.steps.Columns.{named, values_at, Held, Carried}
 
-get_d_named : (names places : List ℕ) (k : ℕ) → k < 8 → get_or (named names places) k 0 ≡ get_or names (get_or places k 0) 0
+get_d_named : (names places : List ℕ) (k : ℕ) → k < 8 → get_or (named names places) k 0
+    ≡ get_or names (get_or places k 0) 0
 unfolding named
 get_d_named names places k h = get_d_values (λ k. get_or names (get_or places k 0) 0) 8 k h
 
@@ -86,7 +87,8 @@ module _ (names : List ℕ) where
         ap₂ (λ (x y : ℕ). cond inverse (inverse_share F (F.inv x)) (positive_share F y))
         (value_named places (g + 1) (omega arith) (b (g + 1))) (value_named places g (omega arith) (b g))
 
-    letter_named : (c : ℕ) (m places : List ℕ) → is_letter c ≡ true → length places ≡ 8 → ((k : ℕ) → get_or places k 0 < 8)
+    letter_named : (c : ℕ) (m places : List ℕ) → is_letter c ≡ true → length places ≡ 8
+        → ((k : ℕ) → get_or places k 0 < 8)
         → letter_on F ts c (pair_of m (named names places))
         ≡ pair_of (letter_on F (values_at ts names) c (pair_of m places)).matrix
         (named names (swapped (generator c) places))
@@ -96,7 +98,8 @@ module _ (names : List ℕ) where
         (share_named places (is_inverse c) (generator c) (generator_below c e) b)
         (named_swapped (generator c) places (generator_below c e) l)
 
-    word_named : (w m places : List ℕ) → every is_letter w ≡ true → length places ≡ 8 → ((k : ℕ) → get_or places k 0 < 8)
+    word_named : (w m places : List ℕ) → every is_letter w ≡ true → length places ≡ 8
+        → ((k : ℕ) → get_or places k 0 < 8)
         → let q = word_on F (values_at ts names) w (pair_of m places) in
         pair_of q.matrix (named names q.labels) ≡ word_on F ts w (pair_of m (named names places))
     unfolding word_on letter_on every

@@ -1,4 +1,6 @@
 // Pairs, one letter on a pair, the braid relations.
+#![tactic(auto)]
+
 ghost use Rattle.std.specs.Prelude.{◌≡◌, length, get_or};
 ghost use Rattle.word.specs.Strands.{inverse_list};
 ghost use Rattle.pair.specs.Action.{pair_of, start};
@@ -13,7 +15,7 @@ pub use questions::pair_answer;
 // A pair is an 8 by 8 matrix, stored column by column, a list of eight labels, and the inverse list: for each label,
 // its position in the list, counted from 1.
 #[repr(C)]
-#[derive(Drop)]
+#[derive(Clone, Copy)]
 pub struct Pair {
     pub matrix: [u8; 64],
     pub labels: [u8; 8],

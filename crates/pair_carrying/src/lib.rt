@@ -1,5 +1,7 @@
 // A word on a pair. These functions read a pair's matrix and list, and not its positions. The pair that they give has
 // the inverse list of its list.
+#![tactic(auto)]
+
 ghost use Rattle.std.specs.Prelude.{◌≡◌, true};
 ghost use Rattle.base.specs.Lists.{every};
 ghost use Rattle.field.specs.Polynomial.{polynomials};

@@ -1,4 +1,6 @@
 // A word file on a pair.
+#![tactic(auto)]
+
 ghost use Rattle.std.specs.Prelude.{◌≡◌, ◌*◌, ◌≤◌, true, length, take};
 ghost use Rattle.base.specs.Lists.{every};
 ghost use Rattle.base.specs.Digits.{halves};

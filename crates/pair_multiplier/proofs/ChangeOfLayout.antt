@@ -28,7 +28,8 @@ module _ (f : Field) (p : Pair) (ts : List ℕ) (c : ℕ) (size : length p.matri
   answer_turned : first_no (multiplier_questions f (turned_pair p) ts c) ≡ first_no (multiplier_questions f p ts c)
   unfolding turned_pair
   answer_turned =
-      ap (λ (b : Bool). first_no ((elements f ts && b && elements f [] else 17) ∷ drop 1 (multiplier_questions f p ts c)))
+      ap (λ (b : Bool). first_no
+      ((elements f ts && b && elements f [] else 17) ∷ drop 1 (multiplier_questions f p ts c)))
       (every_turned (is_element f) p.matrix size)
 
   given_turned : (q : Pair)

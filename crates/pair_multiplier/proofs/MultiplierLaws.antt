@@ -34,7 +34,8 @@ module _ (f : Field) (p : Pair) (ts : List ℕ) (c : ℕ) where
   none_refused z e = all_passed (pair_questions f ts p []) last tt z ∙ passes 12 [] e
 
   -- the multiplier's contract on answer 0
-  pub multiplied : {after : Pair} → first_no (multiplier_questions f p ts c) ≡ 0 → after ≡ letter_on (operations f) ts c p
+  pub multiplied : {after : Pair} → first_no (multiplier_questions f p ts c) ≡ 0 → after
+      ≡ letter_on (operations f) ts c p
       → Multiplies f p ts c 0 after
   multiplied z e =
       record { answer_is = sym z; pair_is = e ∙ sym (granted_zero (letter_on (operations f) ts c p) zero_pair z) }

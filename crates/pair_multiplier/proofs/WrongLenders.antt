@@ -64,7 +64,8 @@ abbrev stale : Pair
 stale = record { matrix = identity; labels = strands_in_order; positions = 2 ∷ 1 ∷ 3 ∷ 4 ∷ 5 ∷ 6 ∷ 7 ∷ 8 ∷ [] }
 
 stale_6 : first_no (multiplier_questions Gf32 stale plain 0) ≡ 6
-unfolding identity row_of column_of matrix_of values_from first_no every tally equal each_once inverse_list last_position
+unfolding identity row_of column_of matrix_of values_from first_no every tally equal each_once inverse_list
+    last_position
 stale_6 = refl
 
 -- A pair with stale positions is lent, and the letter is b1. The answer is 6, and the pair is unchanged.

@@ -142,14 +142,16 @@ module _ (f : Multiplier) (meets : Meets f) where
 
   -- After b3, row 3 has 2, 2, 1 in columns 2, 3, 4. After b3⁻¹ it has 1, 28, 28 (document 01's slips).
   pub leaves_its_pair : (inverse : Bool) → Gives inverse (λ ts c p. p) → ⊥
-  unfolding identity place row_of column_of entry matrix_of values_from first_no every tally equal each_once inverse_list
+  unfolding identity place row_of column_of entry matrix_of values_from first_no every tally equal each_once
+      inverse_list
       last_position t_value share_of row_after
       letter_on times horner times_x
   leaves_its_pair true wrong = let e : ◌≡◌ {A = ℕ} 1 0 = shows (at 2 1) in_order 10 wrong refl refl refl in omega arith
   leaves_its_pair false wrong = let e : ◌≡◌ {A = ℕ} 2 0 = shows (at 2 1) in_order 2 wrong refl refl refl in omega arith
 
   pub own_column_first : (before inverse : Bool) → Gives inverse (own_first before) → ⊥
-  unfolding identity place row_of column_of entry matrix_of values_from first_no every tally equal each_once inverse_list
+  unfolding identity place row_of column_of entry matrix_of values_from first_no every tally equal each_once
+      inverse_list
       last_position t_value share_of row_after
       letter_on times horner times_x first_or_zero reciprocal_of
   own_column_first true true wrong =
@@ -164,7 +166,8 @@ module _ (f : Multiplier) (meets : Meets f) where
   -- Labels 2 and 3 stand at the first two places. b1 takes 2 and not 1, b1⁻¹ takes 28 and not 1, and label 3 then comes
   -- first.
   pub value_of_the_place : (inverse : Bool) → Gives inverse of_place → ⊥
-  unfolding identity place row_of column_of entry matrix_of values_from first_no every tally equal each_once inverse_list
+  unfolding identity place row_of column_of entry matrix_of values_from first_no every tally equal each_once
+      inverse_list
       last_position t_value share_of row_after
       letter_on times horner times_x first_or_zero reciprocal_of
   value_of_the_place true wrong =
@@ -173,7 +176,8 @@ module _ (f : Multiplier) (meets : Meets f) where
       let e : ◌≡◌ {A = ℕ} 2 1 = shows (at 0 0) other_labels 0 wrong refl refl refl in omega arith
 
   pub labels_by_value : (inverse : Bool) → Gives inverse by_value → ⊥
-  unfolding first_no every tally equal each_once inverse_list last_position values_from identity row_of column_of matrix_of
+  unfolding first_no every tally equal each_once inverse_list last_position values_from identity row_of column_of
+      matrix_of
       swapped letter_on
   labels_by_value true wrong =
       let e : ◌≡◌ {A = ℕ} 3 2 = shows first_label other_labels 8 wrong refl refl refl in omega arith
@@ -182,7 +186,8 @@ module _ (f : Multiplier) (meets : Meets f) where
 
   -- Labels 2 and 3 stand at the first two positions. After b1 or b1⁻¹ label 2 stands at position 2.
   pub positions_kept_lem : (inverse : Bool) → Gives inverse positions_kept → ⊥
-  unfolding first_no every tally equal each_once inverse_list last_position values_from identity row_of column_of matrix_of
+  unfolding first_no every tally equal each_once inverse_list last_position values_from identity row_of column_of
+      matrix_of
       swapped letter_on
   positions_kept_lem true wrong =
       let e : ◌≡◌ {A = ℕ} 2 1 = shows position_of_2 other_labels 8 wrong refl refl refl in omega arith
@@ -190,7 +195,8 @@ module _ (f : Multiplier) (meets : Meets f) where
       let e : ◌≡◌ {A = ℕ} 2 1 = shows position_of_2 other_labels 0 wrong refl refl refl in omega arith
 
   pub positions_by_place_lem : (inverse : Bool) → Gives inverse positions_by_place → ⊥
-  unfolding first_no every tally equal each_once inverse_list last_position values_from identity row_of column_of matrix_of
+  unfolding first_no every tally equal each_once inverse_list last_position values_from identity row_of column_of
+      matrix_of
       swapped letter_on
   positions_by_place_lem true wrong =
       let e : ◌≡◌ {A = ℕ} 2 1 = shows position_of_2 other_labels 8 wrong refl refl refl in omega arith
@@ -198,7 +204,8 @@ module _ (f : Multiplier) (meets : Meets f) where
       let e : ◌≡◌ {A = ℕ} 2 1 = shows position_of_2 other_labels 0 wrong refl refl refl in omega arith
 
   pub positions_from_zero_lem : (inverse : Bool) → Gives inverse positions_from_zero → ⊥
-  unfolding first_no every tally equal each_once inverse_list last_position values_from identity row_of column_of matrix_of
+  unfolding first_no every tally equal each_once inverse_list last_position values_from identity row_of column_of
+      matrix_of
       swapped letter_on
   positions_from_zero_lem true wrong =
       let e : ◌≡◌ {A = ℕ} 2 1 = shows position_of_2 other_labels 8 wrong refl refl refl in omega arith

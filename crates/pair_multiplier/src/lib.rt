@@ -1,4 +1,6 @@
 // The multiplier used alone, by value and on a lent pair.
+#![tactic(auto)]
+
 ghost use Rattle.std.specs.Prelude.{◌≡◌, true, ◌<◌, length};
 ghost use Rattle.field.specs.Fields.{modulus, operations, field_of};
 ghost use Rattle.word.specs.Letters.{is_letter};
@@ -15,7 +17,7 @@ use pair::{Pair, multiply_columns, value_of};
 
 // What the multiplier gives. The answer is the number of the first question answered no, or 0 if there is none. On a
 // refusal the pair is all zeros.
-#[derive(Drop)]
+#[derive(Clone, Copy)]
 pub struct Multiplied {
     pub answer: u8,
     pub pair: Pair,
@@ -127,7 +129,7 @@ pub fn multiply(pair: Pair, t_values: &[u8; 8], letter: u8, f: Field) -> Multipl
 }
 
 // An answer, and the pair that goes back to the caller.
-#[derive(Drop)]
+#[derive(Clone, Copy)]
 pub struct Stepped {
     pub answer: u8,
     pub pair: Pair,

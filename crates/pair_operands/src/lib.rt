@@ -1,4 +1,6 @@
 // Tests of T-values, entries and labels.
+#![tactic(auto)]
+
 ghost use Rattle.std.specs.Prelude.{◌≡◌, ◌^◌, ◌<◌, ltb, length};
 ghost use Rattle.base.specs.Lists.{every, count};
 ghost use Rattle.word.specs.Strands.{is_order, are_inverse};

@@ -1,4 +1,6 @@
 // Even powers of a generator, multiplied into a pair at once, and the constants of the sixteen powers of a digest.
+#![tactic(auto)]
+
 ghost use Rattle.std.specs.Prelude.{◌≡◌, ◌+◌, ◌<◌, ◌≤◌, length};
 ghost use Rattle.base.specs.Packing.{Below};
 ghost use Rattle.field.specs.Polynomial.{Degree, polynomials};
@@ -9,7 +11,7 @@ use matrix_columns::{multiples, times};
 
 // What a run of one generator's letters does, as multiples of the old own column: what the column before gains, what
 // the own column becomes, and what the column after gains.
-#[derive(Drop)]
+#[derive(Clone, Copy)]
 pub struct Gains {
     pub left: u8,
     pub own: u8,

@@ -1,73 +1,62 @@
-// Text on standard output.
-use libc::STDOUT_FILENO;
+// Text on standard output. What cannot be written is left out, and nothing says so.
+#![tactic(auto)]
 
-fn wide(x: u8) -> u64 {
-    x as u64
-}
-
-pub fn text(bytes: &[u8]) {
-    io::write_all(STDOUT_FILENO, bytes);
+pub fn text(rt: &impl Print, bytes: &[u8]) {
+    let _ = rt.write_all(bytes);
 }
 
 // Prints a space and a number in decimal.
-pub fn number(n: usize) {
-    text(b" ");
-    io::print_decimal(STDOUT_FILENO, n as u64);
+pub fn number(rt: &impl Print, n: usize) {
+    let _ = print!(rt; " {n}");
 }
 
 // Prints a space and a byte in hexadecimal.
-pub fn byte(x: u8) {
-    text(b" ");
-    io::print_hex(STDOUT_FILENO, wide(x), 2);
+pub fn byte(rt: &impl Print, x: u8) {
+    let _ = print!(rt; " {x:02x}");
 }
 
 // Prints bytes in hexadecimal, each after a space.
-pub fn hex(bytes: &[u8]) {
-    let mut i = 0;
-    while i < bytes.len() {
-        byte(bytes[i]);
-        i += 1;
+pub fn hex(rt: &impl Print, bytes: &[u8]) {
+    for x in bytes {
+        byte(rt, *x);
     }
 }
 
 // Prints one of two texts.
-pub fn choice(first: bool, a: &[u8], b: &[u8]) {
+pub fn choice(rt: &impl Print, first: bool, a: &[u8], b: &[u8]) {
     if first {
-        text(a);
+        text(rt, a);
     } else {
-        text(b);
+        text(rt, b);
     }
 }
 
 // Prints a colon, a space and an answer.
-pub fn answer(found: u8) {
-    text(b": ");
-    io::print_decimal(STDOUT_FILENO, wide(found));
+pub fn answer(rt: &impl Print, found: u8) {
+    let _ = print!(rt; ": {found}");
 }
 
 // Prints an answer and bytes, and ends the line.
-pub fn line(found: u8, bytes: &[u8]) {
-    answer(found);
-    hex(bytes);
-    text(b"\n");
+pub fn line(rt: &impl Print, found: u8, bytes: &[u8]) {
+    answer(rt, found);
+    hex(rt, bytes);
+    text(rt, b"\n");
 }
 
 fn is_all(bytes: &[u8], byte: u8) -> bool {
-    let mut i = 0;
-    while i < bytes.len() {
-        if bytes[i] != byte {
+    for x in bytes {
+        if *x != byte {
             return false;
         }
-        i += 1;
     }
     true
 }
 
 // Prints the first n bytes of an output, and whether all bytes after them are `fill`, and ends the line.
-pub fn output(out: &[u8], n: usize, fill: u8) {
+pub fn output(rt: &impl Print, out: &[u8], n: usize, fill: u8) {
     if out.len() < n {
         return;
     }
-    hex(&out[0..n]);
-    choice(is_all(&out[n..], fill), b" kept\n", b" changed\n");
+    hex(rt, &out[0..n]);
+    choice(rt, is_all(&out[n..], fill), b" kept\n", b" changed\n");
 }

@@ -142,7 +142,8 @@ first_asked file digest word =
     key_questions file ++ (digest_questions (key_of file).field digest ++ word_questions word)
 
 pub by_file : (ok : Bool) (file digest word : List ℕ)
-    → first_no (key_questions file ++ chip_questions ok (key_of file) digest word) ≡ on_chip ok (verdict file digest word)
+    → first_no (key_questions file ++ chip_questions ok (key_of file) digest word)
+    ≡ on_chip ok (verdict file digest word)
 unfolding verdict
 by_file ok file digest word =
     between ok (first_asked file digest word) (last ok (key_of file) digest word) tt

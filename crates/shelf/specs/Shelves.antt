@@ -2,7 +2,8 @@
 -- shelf is plain bytes: eight slots, first those of publisher 1, then those of publisher 2, and then four bytes for the
 -- letters charged (§14). A slot holds the length of a key file, then the file, then zeros. The empty file stands for no
 -- key, so a slot of zeros holds none.
-use Rattle.std.specs.Prelude.{ℕ, ◌+◌, ◌-◌, ◌*◌, Bool, cond, ◌&&◌, ◌||◌, List, [], ◌∷◌, ◌++◌, leb, ltb, eqb, length, take, drop, get_or, replicate}
+use Rattle.std.specs.Prelude.{ℕ, ◌+◌, ◌-◌, ◌*◌, Bool, cond, ◌&&◌, ◌||◌, List, [], ◌∷◌, ◌++◌, leb, ltb, eqb, length}
+use Rattle.std.specs.Prelude.{take, drop, get_or, replicate}
 use Rattle.base.specs.Lists.{overlaid}
 use Rattle.base.specs.Digits.{part}
 

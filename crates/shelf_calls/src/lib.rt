@@ -1,7 +1,10 @@
 // The calls of the key shelf: load a key, clear a number, judge a slip, start a new round.
+#![tactic(auto)]
+
 ghost use Rattle.std.specs.Prelude.{◌+◌, ◌≤◌, ◌≡◌, true, length};
 ghost use Rattle.base.specs.Digits.{part};
-ghost use Rattle.shelf.specs.Shelves.{file_room, slot_bytes, shelf_bytes, is_publisher, has_slot, slot_place, slot_with};
+ghost use Rattle.shelf.specs.Shelves.{file_room, slot_bytes, shelf_bytes, is_publisher, has_slot, slot_place};
+ghost use Rattle.shelf.specs.Shelves.{slot_with};
 ghost use Rattle.shelf.specs.Shelves.{file_in, replaced};
 ghost use Rattle.shelf.specs.Calls.{load, clear, judge, round, Serves};
 ghost use Rattle.shelf_calls.specs.steps.Chip.{OnChip};

@@ -1,4 +1,6 @@
 // The letters charged on a key shelf: admits a slip, charges its letters, starts a new round.
+#![tactic(auto)]
+
 ghost use Rattle.std.specs.Prelude.{◌+◌, ◌≤◌, ◌≡◌, true, length};
 ghost use Rattle.shelf.specs.Shelves.{shelf_bytes, is_publisher, replaced};
 ghost use Rattle.shelf.specs.Charges.{over_by, charge_place, partner, admitted, charging, new_round};

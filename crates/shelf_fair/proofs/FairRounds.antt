@@ -72,7 +72,8 @@ fair_after q work shelf room fair = go (acts work (answer_to q work shelf)) refl
     slip n digest word w z =
         let k = length (letters word) in
         let s = sum_after q k shelf (verdict_admitted q n digest word shelf z) in
-        let t : acts work (answer_to q work shelf) ≡ true = ap (λ (v : Work). acts v (answer_to q v shelf)) (sym w) ∙ z in
+        let t : acts work (answer_to q work shelf) ≡ true = ap (λ (v : Work). acts v (answer_to q v shelf)) (sym w)
+        ∙ z in
         let c1 = one t ∙ ap (λ (v : Work). letters_after 1 q v (charged 1 shelf)) (sym w) in
         let c2 = two t ∙ ap (λ (v : Work). letters_after 2 q v (charged 2 shelf)) (sym w) in
         ⊎_elim

@@ -63,7 +63,8 @@ module _ (p q : ℕ) (apart : q ≡ p → ⊥) (shelf : List ℕ) (room : shelf_
   keys_stay work n =
       held_after q work shelf room p n
       ∙ ap (λ (b : Bool). cond b
-      (cond (acts work (answer_to q work shelf)) (file_after n work (held p n shelf)) (held p n shelf)) (held p n shelf))
+      (cond (acts work (answer_to q work shelf)) (file_after n work (held p n shelf)) (held p n shelf))
+      (held p n shelf))
       (ne_eqb q p apart)
 
   -- the other's keys have no effect: a load or a clear changes no charge

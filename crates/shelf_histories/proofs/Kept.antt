@@ -15,7 +15,8 @@ use Rattle.base.specs.Digits.{part}
 use Rattle.key.specs.Keys.{key_answer, key_of}
 use Rattle.word.specs.Words.{letters}
 use Rattle.slip_verdict.specs.Verdict.{verdict}
-use Rattle.shelf.specs.Shelves.{slot_bytes, shelf_bytes, empty_shelf, has_slot, slot_place, slot_with, held, is_held, holding}
+use Rattle.shelf.specs.Shelves.{slot_bytes, shelf_bytes, empty_shelf, has_slot, slot_place, slot_with, held, is_held}
+use Rattle.shelf.specs.Shelves.{holding}
 use Rattle.shelf.specs.Shelves.{replaced}
 use Rattle.shelf.specs.Charges.{admitted}
 use Rattle.shelf.specs.Calls.{clear, judge, chip_questions, answer_to, after}

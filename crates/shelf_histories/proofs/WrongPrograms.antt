@@ -132,7 +132,8 @@ module _ {left : List ℕ} {answer : ℕ} (digest word : List ℕ) where
     where
       none : held 1 1 one_key ≡ held 1 1 empty_shelf
       none =
-          held_elsewhere 1 0 refl plain_key (key_fits plain_key key_accepted) empty_shelf (omega (arith, length_empty)) 1 1
+          held_elsewhere 1 0 refl plain_key (key_fits plain_key key_accepted) empty_shelf
+          (omega (arith, length_empty)) 1 1
           (λ d. let e = d.1 in omega arith)
 
   pub the_others_key : Serves 2 (judge 0 digest word) one_key left answer → answer ≡ 31
@@ -141,5 +142,6 @@ module _ {left : List ℕ} {answer : ℕ} (digest word : List ℕ) where
     where
       none : held 2 0 one_key ≡ held 2 0 empty_shelf
       none =
-          held_elsewhere 1 0 refl plain_key (key_fits plain_key key_accepted) empty_shelf (omega (arith, length_empty)) 2 0
+          held_elsewhere 1 0 refl plain_key (key_fits plain_key key_accepted) empty_shelf
+          (omega (arith, length_empty)) 2 0
           (λ d. let e = d.0 in omega arith)

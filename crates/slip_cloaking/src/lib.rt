@@ -1,4 +1,6 @@
 // Cloaking: does a word bring a list back?
+#![tactic(auto)]
+
 ghost use Rattle.std.specs.Prelude.{◌≡◌, false, length};
 ghost use Rattle.field.specs.Fields.{operations};
 ghost use Rattle.word.specs.Words.{codes, word_answer};
@@ -9,7 +11,7 @@ use pair::Pair;
 
 // An answer, and yes or no. On a refusal it is no.
 #[repr(C)]
-#[derive(Drop)]
+#[derive(Clone, Copy)]
 pub struct Cloak {
     pub answer: u8,
     pub yes: bool,

@@ -95,4 +95,5 @@ three = refl
 
 pub three_runs : (h : ℕ) → h < 16 → runs h ≡ half_byte_braid h
 three_runs h p =
-    equal_true (runs h) (half_byte_braid h) (every_values (λ h. equal (runs h) (half_byte_braid h)) (λ k. k) 16 three h p)
+    equal_true (runs h) (half_byte_braid h)
+    (every_values (λ h. equal (runs h) (half_byte_braid h)) (λ k. k) 16 three h p)

@@ -18,5 +18,6 @@ powers = refl
 pub half_byte_power : (h : ℕ) → h < 16 → reduced (power (power_of h) (pure_generator (selected h))) ≡ half_byte_braid h
 half_byte_power h below =
     equal_true (reduced (power (power_of h) (pure_generator (selected h)))) (half_byte_braid h)
-    (every_values (λ h. equal (reduced (power (power_of h) (pure_generator (selected h)))) (half_byte_braid h)) (λ h. h) 16
+    (every_values (λ h. equal (reduced (power (power_of h) (pure_generator (selected h)))) (half_byte_braid h))
+    (λ h. h) 16
     powers h below)

@@ -1,6 +1,7 @@
 -- A digest as a braid. Each half byte of a digest of 32 or 64 bytes, high half first, becomes a power of a pure braid
 -- generator. Nothing is cancelled between half bytes.
-use Rattle.std.specs.Prelude.{ℕ, ◌+◌, ◌*◌, ◌-◌, ◌/◌, ◌%◌, Bool, ◌||◌, List, [], ◌∷◌, ◌++◌, map, reverse, eqb, length, get_or, replicate}
+use Rattle.std.specs.Prelude.{ℕ, ◌+◌, ◌*◌, ◌-◌, ◌/◌, ◌%◌, Bool, ◌||◌, List, [], ◌∷◌, ◌++◌, map, reverse, eqb, length}
+use Rattle.std.specs.Prelude.{get_or, replicate}
 use Rattle.base.specs.Questions.{Question, ◌else◌}
 use Rattle.base.specs.Lists.{values_from}
 use Rattle.base.specs.Digits.{halves}

@@ -1,4 +1,6 @@
 // A digest as a braid.
+#![tactic(auto)]
+
 ghost use Rattle.std.specs.Prelude.{◌≡◌, ◌++◌, ◌+◌, ◌-◌, ◌≤◌, ◌<◌, length, take};
 ghost use Rattle.slip_digest.specs.Digest.{selected, half_byte_braid, encoded, is_digest};
 ghost use Rattle.slip_digest.specs.steps.Runs.{progression};

@@ -1,4 +1,6 @@
 // The matrix that a digest's braid reaches, without what cancels.
+#![tactic(auto)]
+
 ghost use Rattle.std.specs.Prelude.{◌≡◌, ◌≤◌, ◌<◌, length};
 ghost use Rattle.base.specs.Packing.{Below};
 ghost use Rattle.field.specs.Fields.{operations};

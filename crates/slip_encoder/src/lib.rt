@@ -1,4 +1,6 @@
 // The braid of a digest as a word file.
+#![tactic(auto)]
+
 ghost use Rattle.std.specs.Prelude.{◌≡◌, ◌||◌};
 ghost use Rattle.field.specs.declared.Field.TheVariants.{Gf32, Gf256};
 ghost use Rattle.slip_digest.specs.Digest.{is_digest, WroteEncoded};

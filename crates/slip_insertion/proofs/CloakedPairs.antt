@@ -23,7 +23,8 @@ module _ {F : Operations} (L : BinaryField F) (ts : List ℕ) where
   -- a word multiplied into a product of matrices is multiplied into the second factor
   word_product : (w a m labels : List ℕ) → Lettered w
       → word_on F ts w (pair_of (matrix_product F a m) labels)
-      ≡ pair_of (matrix_product F a (word_on F ts w (pair_of m labels)).matrix) (word_on F ts w (pair_of m labels)).labels
+      ≡ pair_of (matrix_product F a (word_on F ts w (pair_of m labels)).matrix)
+      (word_on F ts w (pair_of m labels)).labels
   unfolding word_on letter_on
   word_product [] a m labels e = refl
   word_product (c ∷ w) a m labels e =

@@ -59,8 +59,10 @@ accepted = (zero_iff_signs plain_key zero_digest sevens).0 sevens_0
 
 -- the list of Pub(S) is 0 to 7, and b1 b1 cloaks for it
 cloaks_for_pub : Cloaks plain_key (key_of plain_key).pair.labels twice 0 true
-unfolding first_no values_from every tally each_once equal value codes filler halves word_answer key_field t_values_of key_of
-    key_labels unpacked_row digits matrix_of row_of column_of whole_matrix same_pair does_come_back identity place entry t_value
+unfolding first_no values_from every tally each_once equal value codes filler halves word_answer key_field
+    t_values_of key_of
+    key_labels unpacked_row digits matrix_of row_of column_of whole_matrix same_pair does_come_back identity place
+    entry t_value
     share_of row_after swapped letter_on word_on times horner times_x
 cloaks_for_pub =
     answered plain_key (key_of plain_key).pair.labels twice
@@ -84,7 +86,8 @@ unfolding signed_over value halves codes word_file packed digits identity start 
 corner = ap (λ (k : Key). entry (signed k (codes inserted)) 0 0) key_is
 
 corner_around : entry (signed (key_of plain_key) (codes around)) 0 0 ≡ 1
-unfolding signed_over value halves codes identity start place row_of column_of entry matrix_of values_from t_value share_of
+unfolding signed_over value halves codes identity start place row_of column_of entry matrix_of values_from t_value
+    share_of
     row_after swapped letter_on word_on times horner times_x
 corner_around = ap (λ (k : Key). entry (signed k (codes around)) 0 0) key_is
 
@@ -192,7 +195,8 @@ limit_at n e claim = go (zero_or_14 plain_key zero_digest full k d a)
     ten : word_answer (word_file (inserted_by front (codes full))) ≡ 10
     ten = limit_matters full front a refl (omega (arith, size))
 
-    same : verdict plain_key zero_digest (word_file (inserted_by front (codes full))) ≡ verdict plain_key zero_digest full
+    same : verdict plain_key zero_digest (word_file (inserted_by front (codes full)))
+        ≡ verdict plain_key zero_digest full
     same = claim plain_key zero_digest full front k a (omega arith) cloaks_for_pub
 
     new : verdict plain_key zero_digest (word_file (inserted_by front (codes full))) ≡ 10

@@ -80,7 +80,8 @@ pub carried_alike : {word new : List ℕ} → SameMeaning word new → (f : Fiel
     → length ts ≡ 8 → elements f ts ≡ true → nonzero ts ≡ true
     → length m ≡ 64 → elements f m ≡ true
     → length labels ≡ 8 → is_order labels ≡ true
-    → word_on (operations f) ts (codes new) (pair_of m labels) ≡ word_on (operations f) ts (codes word) (pair_of m labels)
+    → word_on (operations f) ts (codes new) (pair_of m labels)
+    ≡ word_on (operations f) ts (codes word) (pair_of m labels)
 carried_alike s f ts m labels l e n lm em lo o =
     s.carried (operations f) (binary f) ts (tested_values f ts l e n) (pair_of m labels)
     (tested_pair f (pair_of m labels) lm lo em (order_inverse labels o))

@@ -46,7 +46,7 @@ module _ (key : Key) (digest word : List ℕ) where
   opens : first_no (slip_questions key digest word) ≡ 0 → Opens
   opens z =
       let d = both_passed (digest_questions key.field digest) (copy_questions (half_of key digest) word) tt z in
-      let m = (copy.zero-iff-matches (half_of key digest) word).0 d.1 in
+      let m = (copy.zero_iff_matches (half_of key digest) word).0 d.1 in
       record {
         digest_accepted =
             eqb-true (length digest) (digest_bytes key.field)
@@ -60,5 +60,5 @@ module _ (key : Key) (digest word : List ℕ) where
   zero_iff_opens = (
     opens,
     λ o. past_digest o.digest_accepted
-        ∙ copy.agree-0 (half_of key digest) word o.word_accepted (equal_of o.matrices_equal),
+        ∙ copy.agree_0 (half_of key digest) word o.word_accepted (equal_of o.matrices_equal),
   )

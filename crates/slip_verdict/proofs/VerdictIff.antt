@@ -73,12 +73,12 @@ module _ (key digest word : List ℕ) where
 
   module _ (k : key_answer key ≡ 0) (d : length digest ≡ digest_bytes (key_field key)) (w : word_answer word ≡ 0) where
     pub equal_zero : Equal (key_of key) digest word → verdict key digest word ≡ 0
-    equal_zero e = past_both k d ∙ copy.agree-0 (file_half key digest) word w (equal_of e)
+    equal_zero e = past_both k d ∙ copy.agree_0 (file_half key digest) word w (equal_of e)
 
     pub unequal_14 : (Equal (key_of key) digest word → ⊥) → verdict key digest word ≡ 14
     unequal_14 h =
         past_both k d
-        ∙ copy.differ-14 (file_half key digest) word w
+        ∙ copy.differ_14 (file_half key digest) word w
         (equal_false (signed (key_of key) (codes word)) (target (key_of key) digest) h)
 
     pub zero_or_14 : (verdict key digest word ≡ 0) ⊎ (verdict key digest word ≡ 14)

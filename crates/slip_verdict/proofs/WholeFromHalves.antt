@@ -27,7 +27,7 @@ use Rattle.pair.proofs.WordLaws.{codes_good}
 use Rattle.pair.proofs.InvertibleWords.{word_invertible}
 use Rattle.key.specs.Keys.{key_field, key_labels, first_bytes, second_bytes, entries, whole_matrix, key_questions}
 use Rattle.key.specs.Keys.{key_answer, key_of}
-use Rattle.key.proofs.KeyFacts as key-facts
+use Rattle.key.proofs.KeyFacts as facts
 use Rattle.slip_digest.specs.Digest.{digest_questions, encoded}
 use Rattle.slip_digest.proofs.Encoded.{encoded_letters}
 use Rattle.slip_digest_braid.proofs.ShortBraid.{start_good}
@@ -64,12 +64,12 @@ module _ (key digest : List ℕ) (k : key_answer key ≡ 0) where
   unfolding key_of target_over
   made_accepted =
       let f = key_field key in
-      let a = key-facts.accepted key k in
+      let a = facts.accepted key k in
       let first = whole_matrix (entries (bits f) (first_bytes (bits f) key)) in
       let second = whole_matrix (entries (bits f) (second_bytes (bits f) key)) in
       record {
-        ts_elements = key-facts.t-values-elements f key;
-        pair_elements = tested f first (key-facts.matrix-good f (first_bytes (bits f) key));
+        ts_elements = facts.t_values_elements f key;
+        pair_elements = tested f first (facts.matrix_good f (first_bytes (bits f) key));
         target_elements = tested f _ (product_elements (binary f) _ second);
         no_zero = a.no_zero;
         inverse_lists = order_inverse (key_labels (bits f) key) a.order_is;
@@ -77,8 +77,8 @@ module _ (key digest : List ℕ) (k : key_answer key ≡ 0) where
             and_left (invertible (operations f) 8 (entry first))
             (invertible (operations f) 8 (entry second)) a.inverses;
         target_inverse =
-            target_invertible f _ digest second (key-facts.key-values key k)
-            (key-facts.matrix-good f (second_bytes (bits f) key))
+            target_invertible f _ digest second (facts.key_values key k)
+            (facts.matrix_good f (second_bytes (bits f) key))
             (and_right (invertible (operations f) 8 (entry first)) (invertible (operations f) 8 (entry second))
             a.inverses);
       }
@@ -104,7 +104,8 @@ module _ {key digest : List ℕ} {answer : ℕ} {half : Half} (m : MakesHalf key
       let k = (both_passed (key_questions key) (digest_questions (key_of key).field digest) tt zero).0 in
       ap (λ (h : Half). first_no (second_half_questions h word)) (m.half_is ∙ granted_zero _ _ zero)
       ∙ past_half made word (made_answers key digest k)
-      ∙ sym (in_halves key digest word ∙ all_passed (first_half_questions key digest) (copy_questions made word) tt zero)
+      ∙ sym (in_halves key digest word
+      ∙ all_passed (first_half_questions key digest) (copy_questions made word) tt zero)
 
   pub refused_by_the_first : (answer ≡ 0 → ⊥) → verdict key digest word ≡ answer
   refused_by_the_first r =

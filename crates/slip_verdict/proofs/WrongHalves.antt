@@ -82,7 +82,8 @@ no_inverse =
     ∙ and_false (invertible (operations Gf32) 8 (entry identity))
 
 blank_26 : (word : List ℕ) → first_no (second_half_questions blank word) ≡ 26
-unfolding first_no every tally equal each_once identity matrix_of values_from row_of column_of inverse_list last_position
+unfolding first_no every tally equal each_once identity matrix_of values_from row_of column_of inverse_list
+    last_position
 blank_26 word =
     let e : first_no (half_questions blank) ≡ 26 =
     all_passed (pair_questions Gf32 plain blank.pair blank.target)
@@ -99,7 +100,8 @@ unfolding every inverse_list last_position values_from
 twice_held = held Gf32 _ _ (refl, refl) (refl, refl) (refl, refl)
 
 twice_6 : (word : List ℕ) → first_no (second_half_questions twice word) ≡ 6
-unfolding first_no every tally equal each_once identity matrix_of values_from row_of column_of inverse_list last_position
+unfolding first_no every tally equal each_once identity matrix_of values_from row_of column_of inverse_list
+    last_position
 twice_6 word = refl
 
 -- the list 0 to 7, with the positions of a list that begins with labels 1 and 0
@@ -124,7 +126,8 @@ stale_held =
     }
 
 stale_6 : (word : List ℕ) → first_no (second_half_questions stale word) ≡ 6
-unfolding first_no every tally equal each_once identity matrix_of values_from row_of column_of inverse_list last_position
+unfolding first_no every tally equal each_once identity matrix_of values_from row_of column_of inverse_list
+    last_position
 stale_6 word = refl
 
 -- a target whose first entry is 32
@@ -204,12 +207,14 @@ large_0 = past_half large six_file large_passed ∙ agree_0 large six_file six_a
 
 -- the entry in row 3 and column 3, over either field
 corner : entry (reached Gf256) 2 2 ≡ 120
-unfolding identity place row_of column_of entry matrix_of values_from t_value share_of row_after swapped letter_on word_on times
+unfolding identity place row_of column_of entry matrix_of values_from t_value share_of row_after swapped letter_on
+    word_on times
     horner times_x
 corner = refl
 
 smaller_corner : entry (reached Gf32) 2 2 ≡ 23
-unfolding identity place row_of column_of entry matrix_of values_from t_value share_of row_after swapped letter_on word_on times
+unfolding identity place row_of column_of entry matrix_of values_from t_value share_of row_after swapped letter_on
+    word_on times
     horner times_x
 smaller_corner = refl
 
@@ -226,66 +231,73 @@ smaller_14 =
 -- ---- wrong second halves
 
 module _ (f : Half → List ℕ → ℕ)
-    (right : (h : Half) (word : List ℕ) → Held h → Bytes word → f h word ≡ first_no (second_half_questions h word)) where
-  -- it asks 26 of Pub(S) alone, and then judges the word
-  pub no_target_without_inverse : ((h : Half) (word : List ℕ) → Held h → Bytes word
-      → first_no (pair_questions h.field h.t_values h.pair h.target) ≡ 0
-      → invertible (operations h.field) 8 (entry h.pair.matrix) ≡ true
-      → word_answer word ≡ 0 → (f h word ≡ 26 → ⊥)) → ⊥
-  unfolding first_no every tally equal each_once identity matrix_of values_from row_of column_of inverse_list last_position
-  no_target_without_inverse wrong =
-      wrong blank empty_word blank_held refl refl (identity_invertible (binary Gf32)) empty_accepted
-      (right blank empty_word blank_held refl ∙ blank_26 empty_word)
+    (right : (h : Half) (word : List ℕ) → Held h → Bytes word → f h word ≡ first_no (second_half_questions h word))
+  where
+    -- it asks 26 of Pub(S) alone, and then judges the word
+    pub no_target_without_inverse : ((h : Half) (word : List ℕ) → Held h → Bytes word
+        → first_no (pair_questions h.field h.t_values h.pair h.target) ≡ 0
+        → invertible (operations h.field) 8 (entry h.pair.matrix) ≡ true
+        → word_answer word ≡ 0 → (f h word ≡ 26 → ⊥)) → ⊥
+    unfolding first_no every tally equal each_once identity matrix_of values_from row_of column_of inverse_list
+        last_position
+    no_target_without_inverse wrong =
+        wrong blank empty_word blank_held refl refl (identity_invertible (binary Gf32)) empty_accepted
+        (right blank empty_word blank_held refl ∙ blank_26 empty_word)
 
-  -- it asks 26 before 6
-  pub no_26_before_6 : ((h : Half) (word : List ℕ) → Held h → Bytes word
-      → elements h.field h.t_values ≡ true → elements h.field h.pair.matrix ≡ true
-      → elements h.field h.target ≡ true
-      → nonzero h.t_values ≡ true → both_invertible h.field h.pair.matrix h.target ≡ false
-      → f h word ≡ 26) → ⊥
-  unfolding every identity matrix_of values_from row_of column_of
-  no_26_before_6 wrong =
-      omega (
-        arith,
-        wrong twice empty_word twice_held refl refl refl refl refl no_inverse,
-        right twice empty_word twice_held refl,
-        twice_6 empty_word,
-      )
+    -- it asks 26 before 6
+    pub no_26_before_6 : ((h : Half) (word : List ℕ) → Held h → Bytes word
+        → elements h.field h.t_values ≡ true → elements h.field h.pair.matrix ≡ true
+        → elements h.field h.target ≡ true
+        → nonzero h.t_values ≡ true → both_invertible h.field h.pair.matrix h.target ≡ false
+        → f h word ≡ 26) → ⊥
+    unfolding every identity matrix_of values_from row_of column_of
+    no_26_before_6 wrong =
+        omega (
+          arith,
+          wrong twice empty_word twice_held refl refl refl refl refl no_inverse,
+          right twice empty_word twice_held refl,
+          twice_6 empty_word,
+        )
 
-  -- its 6 looks at the labels alone
-  pub no_6_of_labels_alone : ((h : Half) (word : List ℕ) → Held h → Bytes word → is_order h.pair.labels ≡ true
-      → (f h word ≡ 6 → ⊥)) → ⊥
-  unfolding every tally each_once values_from
-  no_6_of_labels_alone wrong =
-      wrong stale empty_word stale_held refl refl (right stale empty_word stale_held refl ∙ stale_6 empty_word)
+    -- its 6 looks at the labels alone
+    pub no_6_of_labels_alone : ((h : Half) (word : List ℕ) → Held h → Bytes word → is_order h.pair.labels ≡ true
+        → (f h word ≡ 6 → ⊥)) → ⊥
+    unfolding every tally each_once values_from
+    no_6_of_labels_alone wrong =
+        wrong stale empty_word stale_held refl refl (right stale empty_word stale_held refl ∙ stale_6 empty_word)
 
-  -- it gives 17 for T-values and Pub(S) alone
-  pub no_17_without_target : ((h : Half) (word : List ℕ) → Held h → Bytes word
-      → elements h.field h.t_values ≡ true → elements h.field h.pair.matrix ≡ true → (f h word ≡ 17 → ⊥))
-      → ⊥
-  unfolding every identity matrix_of values_from row_of column_of
-  no_17_without_target wrong =
-      wrong over empty_word over_held refl refl refl (right over empty_word over_held refl ∙ over_17 empty_word)
+    -- it gives 17 for T-values and Pub(S) alone
+    pub no_17_without_target : ((h : Half) (word : List ℕ) → Held h → Bytes word
+        → elements h.field h.t_values ≡ true → elements h.field h.pair.matrix ≡ true → (f h word ≡ 17 → ⊥))
+        → ⊥
+    unfolding every identity matrix_of values_from row_of column_of
+    no_17_without_target wrong =
+        wrong over empty_word over_held refl refl refl (right over empty_word over_held refl ∙ over_17 empty_word)
 
-  -- it asks the word before the half
-  pub no_word_first : ((h : Half) (word : List ℕ) → Held h → Bytes word → (word_answer word ≡ 0 → ⊥)
-      → f h word ≡ word_answer word) → ⊥
-  unfolding every first_no value codes filler halves word_answer
-  no_word_first wrong =
-      omega (arith, wrong blank [] blank_held refl (λ z. omega (arith, z)), right blank [] blank_held refl, blank_26 [])
+    -- it asks the word before the half
+    pub no_word_first : ((h : Half) (word : List ℕ) → Held h → Bytes word → (word_answer word ≡ 0 → ⊥)
+        → f h word ≡ word_answer word) → ⊥
+    unfolding every first_no value codes filler halves word_answer
+    no_word_first wrong =
+        omega (
+          arith,
+          wrong blank [] blank_held refl (λ z. omega (arith, z)),
+          right blank [] blank_held refl,
+          blank_26 [],
+        )
 
-  -- it judges a half of the larger field over the smaller one
-  pub no_smaller_field : ((h : Half) (word : List ℕ) → Held h → Bytes word → first_no (half_questions h) ≡ 0
-      → f h word ≡ first_no (copy_questions (over_smaller h) word)) → ⊥
-  unfolding every
-  no_smaller_field wrong =
-      omega (
-        arith,
-        wrong large six_file large_held refl large_passed,
-        smaller_14,
-        right large six_file large_held refl,
-        large_0,
-      )
+    -- it judges a half of the larger field over the smaller one
+    pub no_smaller_field : ((h : Half) (word : List ℕ) → Held h → Bytes word → first_no (half_questions h) ≡ 0
+        → f h word ≡ first_no (copy_questions (over_smaller h) word)) → ⊥
+    unfolding every
+    no_smaller_field wrong =
+        omega (
+          arith,
+          wrong large six_file large_held refl large_passed,
+          smaller_14,
+          right large six_file large_held refl,
+          large_0,
+        )
 
 -- ---- a wrong first half
 

@@ -64,7 +64,8 @@ zero_digest = replicate 32 0
 
 -- the key, both words and the digest are accepted
 pub key_accepted : key_answer plain_key ≡ 0
-unfolding first_no values_from every tally each_once value digits key_field t_values_of unpacked_row row_filler key_labels
+unfolding first_no values_from every tally each_once value digits key_field t_values_of unpacked_row row_filler
+    key_labels
     whole_matrix
     matrix_of row_of column_of identity
 key_accepted = accepted_with plain_key refl (identity_has Gf32) (identity_has Gf32)
@@ -83,7 +84,8 @@ digest_fits = refl
 
 -- what the key, the word and the digest hold
 pub key_is : key_of plain_key ≡ record { field = Gf32; t_values = plain; pair = start; second = identity }
-unfolding values_from value digits row_of column_of matrix_of key_field t_values_of unpacked_row key_labels whole_matrix key_of
+unfolding values_from value digits row_of column_of matrix_of key_field t_values_of unpacked_row key_labels
+    whole_matrix key_of
     identity
     start
 key_is = refl
@@ -102,7 +104,8 @@ reached = (word_on gf32 plain seven_codes start).matrix
 
 -- its entry in row 7 and column 7, where the identity has 1
 corner : entry reached 6 6 ≡ 9
-unfolding identity start place row_of column_of entry matrix_of values_from t_value share_of row_after swapped letter_on word_on
+unfolding identity start place row_of column_of entry matrix_of values_from t_value share_of row_after swapped
+    letter_on word_on
     times horner times_x
 corner = refl
 

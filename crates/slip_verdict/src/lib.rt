@@ -1,5 +1,7 @@
 // The verdict, whole and in two halves. Does the matrix that the word reaches from Pub(S) equal the matrix of the
 // digest's braid times the matrix of Pub(S')?
+#![tactic(auto)]
+
 ghost use Rattle.std.specs.Prelude.{◌≡◌, ◌≤◌, length};
 ghost use Rattle.base.specs.Questions.{first_no};
 ghost use Rattle.word.specs.Words.{codes, word_answer};
@@ -12,7 +14,7 @@ use pair::Pair;
 
 // What the first half gives and the second takes: the field, T-values, the pair Pub(S), and the target, with which the
 // matrix that a signature reaches is compared.
-#[derive(Drop)]
+#[derive(Clone, Copy)]
 pub struct Half {
     pub field: Field,
     pub t_values: [u8; 8],
@@ -21,7 +23,7 @@ pub struct Half {
 }
 
 // An answer, and beside it a half, which is all zeros on a refusal.
-#[derive(Drop)]
+#[derive(Clone, Copy)]
 pub struct Halved {
     pub answer: u8,
     pub half: Half,

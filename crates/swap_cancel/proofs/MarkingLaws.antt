@@ -124,7 +124,8 @@ module _ (n : ℕ) (codes before last : List ℕ) (k : ℕ) (s : Marked n codes 
           go j x y t (no m) = (s.latest f b).none_later j x (omega arith) t
 
       earlier : (p : ℕ) → p < k + 1 → is_letter (get_or codes p 0) ≡ true → Dec (p ≡ k)
-          → Newest codes (generator (get_or codes p 0)) (get_or (set before k (get_or last (generator own + 1) 0)) p 0) p
+          → Newest codes (generator (get_or codes p 0))
+          (get_or (set before k (get_or last (generator own + 1) 0)) p 0) p
       earlier p b t (yes e) =
           let v : ℕ = get_or last (generator own + 1) 0 in
           rw (e, get_or-set_same before k v 0 (omega (arith, s.room))) (s.latest (generator own) own_below)

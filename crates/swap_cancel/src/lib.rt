@@ -1,5 +1,7 @@
 // Swap and cancel: a letter and its inverse go if every letter between them is far from them. One pass marks the
 // letters that cancel, and a second pass takes the marks out.
+#![tactic(auto)]
+
 ghost use Rattle.std.specs.Prelude.{◌≤◌, ◌≡◌, true, length, take};
 ghost use Rattle.base.specs.Lists.{every};
 ghost use Rattle.word.specs.Letters.{is_letter};

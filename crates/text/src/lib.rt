@@ -1,4 +1,6 @@
 // Numbers in decimal, lines, texts that grow; how much of a file is enough to read.
+#![tactic(auto)]
+
 ghost use Rattle.std.specs.Prelude.{min, ◌≡◌};
 ghost use Rattle.base.specs.Digits.{part as part_of};
 

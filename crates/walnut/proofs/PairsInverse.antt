@@ -23,7 +23,7 @@ use Rattle.pair_multiplier.specs.Multiplier.{multiplier_questions, Multiplies}
 use Rattle.pair_multiplier.specs.Lent.{Lends}
 use Rattle.key.specs.declared.Key.{Key}
 use Rattle.key.specs.Keys.{key_field, key_labels, key_questions, key_answer, key_of, zero_key, ReadsKey}
-use Rattle.key.proofs.KeyFacts as key-facts
+use Rattle.key.proofs.KeyFacts as key_facts
 use Rattle.slip_digest.specs.Digest.{digest_questions}
 use Rattle.slip_verdict.specs.declared.Half.{Half}
 use Rattle.slip_verdict.specs.Halves.{MakesHalf, first_half_questions, half_of, zero_half, half_questions}
@@ -69,8 +69,8 @@ unfolding key_of
 key_lists file z =
     inverse_lists (key_of file).pair
     (record {
-      strands = (key-facts.key-pair file).strands;
-      passed = order_inverse (key_labels (bits (key_field file)) file) (key-facts.accepted file z).order_is;
+      strands = (key_facts.key_pair file).strands;
+      passed = order_inverse (key_labels (bits (key_field file)) file) (key_facts.accepted file z).order_is;
     })
 
 pub every_pair : EveryPair

@@ -1,5 +1,7 @@
 // The exports. Each is thin and has the contract of the function that it calls. The header states the functions in C. A
 // slice passes as a pointer and a length, a fixed array as a pointer, a struct by value in C's layout.
+#![tactic(auto)]
+
 ghost use Rattle.std.specs.Prelude.{◌≡◌};
 ghost use Rattle.base.specs.Questions.{first_no};
 ghost use Rattle.field.specs.Fields.{operations, field_of};
@@ -38,7 +40,7 @@ use word_spread::Count;
 // What the key reader gives: its answer, whether the key's field is the larger one, the T-values, the pair Pub(S) and
 // the matrix of Pub(S'). On a refusal `large` is false, and all numbers but the answer are zero.
 #[repr(C)]
-#[derive(Drop)]
+#[derive(Clone, Copy)]
 pub struct KeyForC {
     pub answer: u8,
     pub large: bool,
@@ -50,7 +52,7 @@ pub struct KeyForC {
 // What the first half gives and the second takes: whether the field is the larger one, the T-values, the pair Pub(S)
 // and the target, with which the matrix that a signature reaches is compared.
 #[repr(C)]
-#[derive(Drop)]
+#[derive(Clone, Copy)]
 pub struct HalfForC {
     pub large: bool,
     pub t_values: [u8; 8],
@@ -60,7 +62,7 @@ pub struct HalfForC {
 
 // An answer, and beside it a half. On a refusal the half's `large` is false, and all its numbers are zero.
 #[repr(C)]
-#[derive(Drop)]
+#[derive(Clone, Copy)]
 pub struct HalvedForC {
     pub answer: u8,
     pub half: HalfForC,
@@ -76,7 +78,8 @@ pub extern "C" fn walnut_version() -> u32
 
 #[unsafe(no_mangle)]
 pub extern "C" fn walnut_product(large: bool, a: u8, b: u8) -> Element
-    ensures { Gives (product_questions (field_of large) a b) ((operations (field_of large)).mul a b) result.answer result.value }
+    ensures { Gives (product_questions (field_of large) a b) ((operations (field_of large)).mul a b) result.answer
+        result.value }
 {
     let f = field::field_of(large);
     field::product(a, b, f)
@@ -84,7 +87,8 @@ pub extern "C" fn walnut_product(large: bool, a: u8, b: u8) -> Element
 
 #[unsafe(no_mangle)]
 pub extern "C" fn walnut_reciprocal(large: bool, a: u8) -> Element
-    ensures { Gives (reciprocal_questions (field_of large) a) ((operations (field_of large)).inv a) result.answer result.value }
+    ensures { Gives (reciprocal_questions (field_of large) a) ((operations (field_of large)).inv a) result.answer
+        result.value }
 {
     let f = field::field_of(large);
     field::reciprocal(a, f)

@@ -19,7 +19,8 @@ use Rattle.word.proofs.ReductionLaws.{in_front_cases, irreducible_reduced, reduc
 
 -- a word is its letters before a place, the two or three letters from the place on, and the rest
 module _ (place : ℕ) (w : List ℕ) where
-  pub around : place + 2 ≤ length w → take place w ++ (get_or w place 0 ∷ get_or w (place + 1) 0 ∷ drop (place + 2) w) ≡ w
+  pub around : place + 2 ≤ length w → take place w
+      ++ (get_or w place 0 ∷ get_or w (place + 1) 0 ∷ drop (place + 2) w) ≡ w
   around h =
       let one = drop-cons w place 0 (omega arith) in
       let two = drop-cons w (suc place) 0 (omega arith) in

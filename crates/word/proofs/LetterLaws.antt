@@ -1,6 +1,6 @@
 -- Laws of letters: which half bytes are letters. The inverse of a letter is a letter, and the inverse of the inverse is
 -- the letter. Laws of words of letters: a letter is put before a word, or its first letter is taken away.
-use Prim.Native.Nat.{ℕ, ◌+◌, ◌-◌, ◌/◌, ◌%◌, ◌≤◌, ◌<◌}
+use Prim.Native.Nat.{ℕ, ◌+◌, ◌/◌, ◌%◌, ◌≤◌, ◌<◌}
 use mathlib.Core.Path.{◌≡◌, refl, sym, ap, ap₂, ◌∙◌}
 use mathlib.Core.Bool.{Bool, true, false, cond, not, ◌&&◌, ◌||◌, beq}
 use mathlib.Core.List.{List, ◌∷◌}

@@ -86,7 +86,8 @@ stands a (x ∷ l) h = go (eqb x a) refl h (stands a l)
         record { place = suc r.place; within = omega (arith, r.within); there = r.there }
 
 -- a label that stands at no two places is counted at most once
-apart : (a : ℕ) (l : List ℕ) → ((i j : ℕ) → i < j → j < length l → get_or l i 0 ≡ a → get_or l j 0 ≡ a → ⊥) → count a l ≤ 1
+apart : (a : ℕ) (l : List ℕ) → ((i j : ℕ) → i < j → j < length l → get_or l i 0 ≡ a → get_or l j 0 ≡ a → ⊥)
+    → count a l ≤ 1
 unfolding tally
 apart a [] differ = omega arith
 apart a (x ∷ l) differ =
@@ -205,7 +206,8 @@ module _ (labels : List ℕ) (size : length labels ≡ 8) where
   position_of_lem : ((a : ℕ) → a < 8 → count a labels ≤ 1) → (i : ℕ) → i < 8 → get_or labels i 0 < 8
       → last_position labels (get_or labels i 0) 8 ≡ i + 1
   position_of_lem small i h b =
-      go (ℕ_discrete (last_position labels (get_or labels i 0) 8) (i + 1)) (position labels (get_or labels i 0) 8 i h refl)
+      go (ℕ_discrete (last_position labels (get_or labels i 0) 8) (i + 1))
+      (position labels (get_or labels i 0) 8 i h refl)
     where
       go : Dec (last_position labels (get_or labels i 0) 8 ≡ i + 1) → Position labels (get_or labels i 0) 8 i
           → last_position labels (get_or labels i 0) 8 ≡ i + 1

@@ -41,7 +41,8 @@ unfolding in_front
 in_front_cancels c w = ap (λ (b : Bool). cond b w (c ∷ inverse c ∷ w)) (eq-eqb (inverse c) (inverse c) refl)
 
 -- shows that a word is irreducible, with `suc k` for `k + 1`
-irreducible : (w : List ℕ) → ((k : ℕ) → suc k < length w → get_or w (suc k) 0 ≡ inverse (get_or w k 0) → ⊥) → Irreducible w
+irreducible : (w : List ℕ) → ((k : ℕ) → suc k < length w → get_or w (suc k) 0 ≡ inverse (get_or w k 0) → ⊥)
+    → Irreducible w
 irreducible w h k = rw add-one (h k)
 
 apart : (w : List ℕ) → Irreducible w → (k : ℕ) → suc k < length w → get_or w (suc k) 0 ≡ inverse (get_or w k 0) → ⊥
@@ -130,7 +131,8 @@ reduced_pair [] d c rest e h =
 reduced_pair (a ∷ s) d c rest e h = ap (in_front a) (reduced_pair s d c rest e h)
 
 -- the front of a word may be reduced first
-in_front_append : (c : ℕ) (w v : List ℕ) → is_letter c ≡ true → reduced (in_front c w ++ v) ≡ in_front c (reduced (w ++ v))
+in_front_append : (c : ℕ) (w v : List ℕ) → is_letter c ≡ true → reduced (in_front c w ++ v)
+    ≡ in_front c (reduced (w ++ v))
 unfolding reduced
 in_front_append c w v e =
     in_front_cases (λ w u. reduced (u ++ v) ≡ in_front c (reduced (w ++ v))) c
@@ -160,7 +162,8 @@ pub end_stays : (s : List ℕ) (c : ℕ) → Irreducible s → ((n : ℕ) → le
     → reduced (s ++ (c ∷ [])) ≡ s ++ (c ∷ [])
 end_stays s c i h = irreducible_reduced (s ++ (c ∷ [])) (irreducible (s ++ (c ∷ [])) go)
   where
-    go : (k : ℕ) → suc k < length (s ++ (c ∷ [])) → get_or (s ++ (c ∷ [])) (suc k) 0 ≡ inverse (get_or (s ++ (c ∷ [])) k 0)
+    go : (k : ℕ) → suc k < length (s ++ (c ∷ [])) → get_or (s ++ (c ∷ [])) (suc k) 0
+        ≡ inverse (get_or (s ++ (c ∷ [])) k 0)
         → ⊥
     go k l e =
         let n = length-append s (c ∷ []) in

@@ -2,7 +2,7 @@
 -- accepted file is the file of its letters. The output's first bytes, as many as a writer of words reports, are the
 -- word's file. Two laws say what the operations return, from bytes to bytes: a word that the writer from codes wrote
 -- reads back, and a file that the word reader read is written back as its own bytes.
-use Prim.Native.Nat.{ℕ, ◌+◌, ◌≤◌, ◌<◌}
+use Prim.Native.Nat.{ℕ, ◌≤◌, ◌<◌}
 use mathlib.Core.Path.{◌≡◌, refl, sym, ap, ap₂, ◌∙◌}
 use mathlib.Core.Bool.{Bool, true}
 use mathlib.Core.List.{List, [], ◌++◌}
@@ -120,7 +120,8 @@ module _ (file : List ℕ) where
       rest =
           let n = stated file in
           let bytes = drop_below 2 file h in
-          let l : length (drop 2 file) ≡ row_bytes 4 n = omega (arith, (accepted_word file e).size, length-drop 2 file) in
+          let l : length (drop 2 file)
+          ≡ row_bytes 4 n = omega (arith, (accepted_word file e).size, length-drop 2 file) in
           let z =
           eqb-true (row_filler 4 n (drop 2 file)) 0
           (sym (halves_filler n (drop 2 file) bytes l) ∙ (accepted_word file e).filled) in

@@ -30,12 +30,15 @@ swapped_first g l h =
 pub swapped_second : (g : ℕ) (l : List ℕ) → g + 1 < length l → get_or (swapped g l) (g + 1) 0 ≡ get_or l g 0
 unfolding swapped
 swapped_second g l h =
-    get_or-set_same (set l g (get_or l (g + 1) 0)) (g + 1) (get_or l g 0) 0 (omega (arith, length-set l g (get_or l (g + 1) 0)))
+    get_or-set_same (set l g (get_or l (g + 1) 0)) (g + 1) (get_or l g 0) 0
+    (omega (arith, length-set l g (get_or l (g + 1) 0)))
 
-pub swapped_other : (g : ℕ) (l : List ℕ) (k : ℕ) → (k ≡ g → ⊥) → (k ≡ g + 1 → ⊥) → get_or (swapped g l) k 0 ≡ get_or l k 0
+pub swapped_other : (g : ℕ) (l : List ℕ) (k : ℕ) → (k ≡ g → ⊥) → (k ≡ g + 1 → ⊥) → get_or (swapped g l) k 0
+    ≡ get_or l k 0
 unfolding swapped
 swapped_other g l k n m =
-    get_or-set_other (set l g (get_or l (g + 1) 0)) (g + 1) k (get_or l g 0) 0 m ∙ get_or-set_other l g k (get_or l (g + 1) 0) 0 n
+    get_or-set_other (set l g (get_or l (g + 1) 0)) (g + 1) k (get_or l g 0) 0 m
+    ∙ get_or-set_other l g k (get_or l (g + 1) 0) 0 n
 
 -- an exchange keeps a bound on all labels, even an exchange past the end of the list
 pub swapped_below : {n : ℕ} (g : ℕ) (l : List ℕ) → ((k : ℕ) → get_or l k 0 < n) → (k : ℕ) → get_or (swapped g l) k 0 < n
@@ -136,7 +139,8 @@ neighbours_differ n zero (x ∷ y ∷ l) h b once e =
     let twice : count x (x ∷ y ∷ l) ≡ suc (suc (count x l)) = rw (eq-eqb x x refl, eq-eqb y x (sym e)) in
     omega (arith, once x b)
 neighbours_differ n (suc g) (x ∷ l) h b once e =
-    neighbours_differ n g l (omega arith) b (λ a i. go (eqb x a) (once a i)) (e ∙ ap (λ (k : ℕ). get_or (x ∷ l) k 0) next)
+    neighbours_differ n g l (omega arith) b (λ a i. go (eqb x a) (once a i))
+    (e ∙ ap (λ (k : ℕ). get_or (x ∷ l) k 0) next)
   where
     next : suc g + 1 ≡ suc (g + 1)
     next = omega arith

@@ -64,7 +64,8 @@ unfolding word_file digits
 word_file_rest cs = refl
 
 -- the first two bytes of a word's file are the number of letters, high byte first
-pub word_file_number : (cs : List ℕ) → length cs ≤ 10000 → take 2 (word_file cs) ≡ length cs / 256 ∷ length cs % 256 ∷ []
+pub word_file_number : (cs : List ℕ) → length cs ≤ 10000 → take 2 (word_file cs) ≡ length cs / 256 ∷ length cs % 256
+    ∷ []
 unfolding word_file digits
 word_file_number cs h =
     let a : length cs / 256 % 256 ≡ length cs / 256 = omega arith in

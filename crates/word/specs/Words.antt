@@ -1,7 +1,8 @@
 -- Word files, also called signatures: the number of letters in 2 bytes, high first, then the codes, two to a byte, the
 -- earlier in the high half. An odd word's last half byte is 0. The reader and the writer from codes ask their questions
 -- in the paper's order.
-use Rattle.std.specs.Prelude.{ℕ, ◌+◌, ◌*◌, ◌/◌, ◌≡◌, Bool, List, [], ◌∷◌, ◌++◌, leb, ltb, eqb, length, take, drop, get_or}
+use Rattle.std.specs.Prelude.{ℕ, ◌+◌, ◌*◌, ◌/◌, ◌≡◌, Bool, List, [], ◌∷◌, ◌++◌, leb, ltb, eqb, length, take, drop}
+use Rattle.std.specs.Prelude.{get_or}
 use Rattle.base.specs.Questions.{Question, ◌else◌, first_no, granted}
 use Rattle.base.specs.Lists.{every, overlaid}
 use Rattle.base.specs.Digits.{value, digits, halves}

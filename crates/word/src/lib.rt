@@ -1,4 +1,6 @@
 // Letters, lists of labels, word files and their reader, free reduction as a definition.
+#![tactic(auto)]
+
 ghost use Rattle.std.specs.Prelude.{◌≡◌};
 
 mod codes; // codes.rt: unpacks codes, sixteen at a time
@@ -15,7 +17,7 @@ pub const MAX_BYTES: usize = 5002;
 // What the word reader returns. `answer` is the number of the first question answered no, or 0. `letters` is the number
 // of letters, 0 on a refusal.
 #[repr(C)]
-#[derive(Drop)]
+#[derive(Clone, Copy)]
 pub struct Word {
     pub answer: u8,
     pub letters: usize,
@@ -31,7 +33,7 @@ impl Word {
 }
 
 // The letter at a place. `left` says whether a letter is left there. `code` is its code, or 0 if none is left.
-#[derive(Drop)]
+#[derive(Clone, Copy)]
 pub struct Letter {
     pub left: bool,
     pub code: u8,
@@ -39,7 +41,7 @@ pub struct Letter {
 
 // What a writer of words returns: its answer, and the number of bytes written, 0 on a refusal.
 #[repr(C)]
-#[derive(Drop)]
+#[derive(Clone, Copy)]
 pub struct Written {
     pub answer: u8,
     pub bytes: usize,

@@ -26,7 +26,11 @@ use Rattle.word_crossing.proofs.CrossingLaws.{share, tally_letter}
 pub order_labelled : Labelled strands_in_order
 unfolding values_from every
 order_labelled =
-    record { strands = refl; below = λ k. ltb-true (get_or strands_in_order k 0) 8 (every_all (λ x. ltb x 8) refl strands_in_order refl k) }
+    record {
+      strands = refl;
+      below = λ k. ltb-true (get_or strands_in_order k 0) 8
+          (every_all (λ x. ltb x 8) refl strands_in_order refl k);
+    }
 
 module _ {labels : List ℕ} (e : Labelled labels) (c : ℕ) (letter : is_letter c ≡ true) where
   pub place_below : generator c + 1 < 8
@@ -61,7 +65,8 @@ module _ (counts labels : List ℕ) (c : ℕ) (w : List ℕ) (h : slot_of labels
       rest = count k (slots (swapped (generator c) labels) w)
 
       go : Dec (k ≡ at)
-          → get_or (set counts at (get_or counts at 0 + 1)) k 0 + rest ≡ get_or counts k 0 + cond (eqb at k) (suc rest) rest
+          → get_or (set counts at (get_or counts at 0 + 1)) k 0 + rest ≡ get_or counts k 0
+          + cond (eqb at k) (suc rest) rest
       go (yes e) =
           let t = eq-eqb at k (sym e) in
           rw (t, e) (omega (arith, get_or-set_same counts at (get_or counts at 0 + 1) 0 h))
@@ -195,7 +200,13 @@ module _ {w labels counts : List ℕ} {i : ℕ} (h : Walking w labels counts i) 
   walking_table few =
       record {
         size = h.size;
-        few = λ k. omega (arith, h.rest k, tally_le (λ x. eqb x k) (slots strands_in_order w), length_slots strands_in_order w);
+        few = λ k. omega (
+          arith,
+          h.rest k,
+          tally_le (λ x. eqb x k) (slots strands_in_order w),
+          length_slots
+              strands_in_order w,
+        );
       }
 
   -- a letter is left

@@ -25,7 +25,8 @@ module _ (word : List ℕ) (a b : ℕ) where
   word_before_27 h = refused_there (word_questions word) ((two_labels a b else 27) ∷ []) tt h
 
   -- for an accepted word the labels alone decide
-  pub past_word : word_answer word ≡ 0 → first_no (crossing_questions word a b) ≡ first_no ((two_labels a b else 27) ∷ [])
+  pub past_word : word_answer word ≡ 0 → first_no (crossing_questions word a b)
+      ≡ first_no ((two_labels a b else 27) ∷ [])
   unfolding word_answer
   past_word e = all_passed (word_questions word) ((two_labels a b else 27) ∷ []) tt e
 

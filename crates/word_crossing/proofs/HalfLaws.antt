@@ -162,7 +162,8 @@ module _ (a b : ℕ) (ha : a < 8) (hb : b < 8) (n : a ≡ b → ⊥) {w first se
       → y ≡ tally f (swapping found.p found.q strands_in_order back) → x + y ≡ tally f (swapping a b strands_in_order w)
   joined f d e =
       ap₂ ◌+◌ d (e ∙ ap (tally f) second_is)
-      ∙ sym (tally_append f (swapping a b strands_in_order front) (swapping a b (list_after strands_in_order front) back))
+      ∙ sym (tally_append f (swapping a b strands_in_order front)
+      (swapping a b (list_after strands_in_order front) back))
       ∙ ap (tally f) (sym (swapping_append a b strands_in_order front back))
       ∙ ap (λ (v : List ℕ). tally f (swapping a b strands_in_order v)) walks.whole
 
@@ -238,7 +239,8 @@ module _ (w : List ℕ) (half : ℕ) (few : length w ≤ 10000) (letters : Lette
               on_by (get_or w (half + i) 0) h.back m (get_or-drop half w i 0)
               (every_get_d is_letter w letters (half + i) (omega arith)) p;
           follows =
-              follows_next (take half w) middle middle' (list_after strands_in_order (take half w)) (get_or w i 0) i l at o.0
+              follows_next (take half w) middle middle' (list_after strands_in_order (take half w)) (get_or w i 0) i
+              l at o.0
               h.follows;
         }
 
@@ -258,7 +260,8 @@ module _ (w : List ℕ) (half : ℕ) (few : length w ≤ 10000) (letters : Lette
             reached = there;
             ready =
                 ap is_order there
-                ∙ order_after strands_in_order (take half w) order_labelled.strands (every_take is_letter half w letters)
+                ∙ order_after strands_in_order (take half w) order_labelled.strands
+                (every_take is_letter half w letters)
                 order_first;
           }
         where

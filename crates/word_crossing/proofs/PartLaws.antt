@@ -79,7 +79,8 @@ module _ (a b : ℕ) where
     stays c d k (inr f) l h = swapped_other (generator c) labels k (λ e. omega arith) (λ e. omega arith)
 
     one_by_one : (c d : ℕ) → Apart c d
-        → crossings_from labels a b (c ∷ d ∷ []) ≡ crossings_from labels a b (c ∷ []) +ℤ crossings_from labels a b (d ∷ [])
+        → crossings_from labels a b (c ∷ d ∷ []) ≡ crossings_from labels a b (c ∷ [])
+        +ℤ crossings_from labels a b (d ∷ [])
     unfolding list_after
     one_by_one c d f =
         crossings_append a b labels (c ∷ []) (d ∷ [])

@@ -1,6 +1,7 @@
 -- How often two strands cross (document 02, §2): the signed number of the letters of a word that swap just these two
 -- labels. This file also lists the 28 pairs of labels. Places count from 0 here.
-use Rattle.std.specs.Prelude.{ℕ, zero, suc, ◌+◌, ◌≡◌, Bool, cond, not, ◌&&◌, ◌||◌, List, [], ◌∷◌, ◌++◌, map, ltb, eqb, get_or, replicate, ℤ, pos, ◌+ℤ◌}
+use Rattle.std.specs.Prelude.{ℕ, zero, suc, ◌+◌, ◌≡◌, Bool, cond, not, ◌&&◌, ◌||◌, List, [], ◌∷◌, ◌++◌, map, ltb, eqb}
+use Rattle.std.specs.Prelude.{get_or, replicate, ℤ, pos, ◌+ℤ◌}
 use Rattle.base.specs.Questions.{Question, ◌else◌, first_no, granted}
 use Rattle.word.specs.Letters.{generator}
 use Rattle.word.specs.Exponent.{exponent_sum}

@@ -1,4 +1,6 @@
 // How often two strands cross.
+#![tactic(auto)]
+
 ghost use Rattle.std.specs.Prelude.{◌≡◌, not, ◌&&◌, ltb, eqb, pos, replicate};
 ghost use Rattle.word_crossing.specs.Crossings.{Crosses, CrossesAll};
 ghost use Rattle.word_crossing.specs.steps.Pairs.{pair_at};
@@ -7,7 +9,7 @@ mod walk; // walk.rt: counts all pairs in one walk
 
 // The number of the first question answered no, 0 if there is none; and how often the two labels cross, 0 on a refusal.
 #[repr(C)]
-#[derive(Drop)]
+#[derive(Clone, Copy)]
 pub struct Crossing {
     pub answer: u8,
     pub crossings: i32,
@@ -26,7 +28,7 @@ impl Crossing {
 }
 
 // The word's answer; and how often the labels of each of the 28 pairs cross, zeros on a refusal.
-#[derive(Drop)]
+#[derive(Clone, Copy)]
 pub struct AllCrossings {
     pub answer: u8,
     pub numbers: [i32; 28],
@@ -45,7 +47,7 @@ impl AllCrossings {
 }
 
 // Two labels, the smaller first.
-#[derive(Drop)]
+#[derive(Clone, Copy)]
 pub struct Two {
     pub smaller: u8,
     pub larger: u8,

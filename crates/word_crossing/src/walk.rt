@@ -35,7 +35,7 @@ fn letter(labels: &mut [u8; 8], counts: &mut [u32; 128], code: u8)
 
 // What a walk leaves: a table of the word's first half, a table of its second half, and the list between the halves.
 // Both tables start from the list 0 to 7, so labels of the second table are places of the list between the halves.
-#[derive(Drop)]
+#[derive(Clone, Copy)]
 pub(crate) struct Walked {
     pub first: [u32; 128],
     pub second: [u32; 128],

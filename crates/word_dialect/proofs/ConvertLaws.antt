@@ -64,7 +64,8 @@ module _ (way : Bool) (room : ℕ) (word parts : List ℕ) where
       → first_no (dialect_questions way room word parts) ≡ first_no (word_questions word ++ after_word)
   past_room h = passes 15 (word_questions word ++ after_word) (le-leb 5002 room h)
 
-  pub past_word : 5002 ≤ room → word_answer word ≡ 0 → first_no (dialect_questions way room word parts) ≡ first_no after_word
+  pub past_word : 5002 ≤ room → word_answer word ≡ 0 → first_no (dialect_questions way room word parts)
+      ≡ first_no after_word
   unfolding word_answer
   past_word h z = past_room h ∙ all_passed (word_questions word) after_word tt z
 

@@ -28,7 +28,8 @@ module _ (f : ℕ → List ℕ) where
       → each_by f (take (k + 1) w) ≡ each_by f (take k w) ++ f (get_or w k 0)
   each_more w k h =
       ap (λ (n : ℕ). each_by f (take n w)) (add-one k) ∙ ap (each_by f) (take-suc w k 0 h)
-      ∙ each_append (take k w) (get_or w k 0 ∷ []) ∙ ap (λ (l : List ℕ). each_by f (take k w) ++ l) (each_one (get_or w k 0))
+      ∙ each_append (take k w) (get_or w k 0 ∷ [])
+      ∙ ap (λ (l : List ℕ). each_by f (take k w) ++ l) (each_one (get_or w k 0))
 
   -- the first letters give no more than all
   pub each_front : (w : List ℕ) (k : ℕ) → length (each_by f (take k w)) ≤ length (each_by f w)

@@ -91,7 +91,8 @@ module _ (c n : ℕ) (f : Fits c n) where
 
   artin_shape_lem : (inv : Bool) → is_inverse c ≡ inv → artin_shape inv c n ≡ true
   artin_shape_lem inv i =
-      ap (λ (a : Bool). artin_shape a c n) (sym i) ∙ one_of_all (λ c n. artin_shape (is_inverse c) c n) artin_shapes c n f
+      ap (λ (a : Bool). artin_shape a c n) (sym i)
+      ∙ one_of_all (λ c n. artin_shape (is_inverse c) c n) artin_shapes c n f
 
   pub y_inverse_last : is_inverse c ≡ true → eqb n 0 ≡ true → Steps (signed_run true c n) (generator c + 8) 0 1
   y_inverse_last i l = steps_are _ _ _ _ (y_shape_lem true true i l)

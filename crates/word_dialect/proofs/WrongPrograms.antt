@@ -44,7 +44,8 @@ module _ {before after : List ℕ} {bytes : ℕ} where
   -- y4 becomes b4, not b4 b5
   pub past_the_end : WroteConverted from_y (0 ∷ 1 ∷ 48 ∷ []) four_three before after 0 bytes
       → take bytes after ≡ 0 ∷ 2 ∷ 52 ∷ [] → ⊥
-  unfolding equal codes halves value digits word_file packed following each_by run_of signed_run run converted values_from
+  unfolding equal codes halves value digits word_file packed following each_by run_of signed_run run converted
+      values_from
   past_the_end w = others from_y (0 ∷ 1 ∷ 48 ∷ []) (0 ∷ 1 ∷ 48 ∷ []) refl w _ refl
 
   -- y3⁻¹ becomes b4⁻¹ b3⁻¹, not b3⁻¹ b4⁻¹

@@ -1,7 +1,8 @@
 -- The Y dialect: words in source 000's Y generators y1 to y7. A Y letter has the code of the Artin letter with its
 -- number and sign, and a Y word is packed in a file like any word. Parts of 7, in order, group the generators 1 to 7.
 -- Here generators count from 0, as in codes.
-use Rattle.std.specs.Prelude.{ℕ, zero, suc, ◌+◌, ◌-◌, Bool, true, false, cond, ◌&&◌, List, [], ◌∷◌, ◌++◌, leb, ltb, eqb, length}
+use Rattle.std.specs.Prelude.{ℕ, zero, suc, ◌+◌, ◌-◌, Bool, true, false, cond, ◌&&◌, List, [], ◌∷◌, ◌++◌, leb, ltb}
+use Rattle.std.specs.Prelude.{eqb, length}
 use Rattle.base.specs.Questions.{Question, ◌else◌}
 use Rattle.base.specs.Lists.{every, values_from}
 use Rattle.word.specs.Letters.{is_inverse, generator, inverse}
@@ -58,7 +59,8 @@ signed_run way c n = cond (is_inverse c) (inverted (run_of way (generator c) n))
 unfoldable pub run : Bool → List ℕ → ℕ → List ℕ
 run way parts c = signed_run way c (following parts (generator c))
 
--- A word, letter by letter. Nothing is cancelled. `converted from_y parts w` is the Artin word of a Y word: it says what
+-- A word, letter by letter. Nothing is cancelled. `converted from_y parts w` is the Artin word of a Y word: it says
+-- what
 -- the Y word means.
 unfoldable pub converted : Bool → List ℕ → List ℕ → List ℕ
 converted way parts w = each_by (run way parts) w

@@ -1,4 +1,6 @@
 // The Y dialect: words turned from Artin to Y generators and back.
+#![tactic(auto)]
+
 ghost use Rattle.std.specs.Prelude.{◌≡◌};
 ghost use Rattle.word_dialect.specs.Dialect.{are_parts, following, to_y, from_y, WroteConverted};
 ghost use Rattle.word_dialect.specs.steps.Table.{Convertible, WroteRuns};

@@ -8,7 +8,7 @@ ghost use Rattle.word_dialect.specs.steps.Table.{Steps, Row, Before, HoldsRuns};
 use crate::following;
 
 // A run of letters: its first code, the step from each code to the next, modulo 16, and the number of letters.
-#[derive(Drop)]
+#[derive(Clone, Copy)]
 struct Run {
     first: u8,
     step: u8,
@@ -106,7 +106,8 @@ fn lay_run(table: &mut [u8], c: usize, first: u8, step: u8, number: u8)
 
 // Lays the run of code c, after the runs of the codes below it.
 fn lay_code(table: &mut [u8], way: bool, parts: &[u8], c: u8)
-    requires { (c < 16) × (length table.old ≡ 128) × (are_parts parts.now ≡ true) × HoldsRuns way parts.now c table.old }
+    requires { (c < 16) × (length table.old ≡ 128) × (are_parts parts.now ≡ true)
+        × HoldsRuns way parts.now c table.old }
     ensures { HoldsRuns way parts.now (c + 1) table.new }
 {
     let n = following(parts, c % 8);

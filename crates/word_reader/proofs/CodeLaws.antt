@@ -34,7 +34,8 @@ module _ (file : List ℕ) where
 
   module _ {n : ℕ} (at : ℕ) (e : n ≡ length (codes file)) where
     -- the letter at a place, as the code reads it
-    pub letter_there : at < n → letter true (get_or (halves (take (length file - 2) (drop 2 file))) at 0) ≡ read_at file at
+    pub letter_there : at < n → letter true (get_or (halves (take (length file - 2) (drop 2 file))) at 0)
+        ≡ read_at file at
     letter_there h = ap₂ letter (sym (lt-ltb at (length (codes file)) (omega arith))) (code_there file (omega arith))
 
     pub none_left : n ≤ at → letter false 0 ≡ read_at file at

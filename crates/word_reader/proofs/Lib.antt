@@ -1,4 +1,3 @@
-pub mod Copies
 pub mod CodeLaws
 pub mod ReadsAll
 pub mod WrongPrograms

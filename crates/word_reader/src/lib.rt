@@ -1,6 +1,8 @@
 // The reader of words that keeps its place. Past the last letter it says that none is left, and stays. Functions over a
 // plain slice and a number do the work. The functions over the reader only take it apart, call one of the plain
 // functions, and put a reader together again.
+#![tactic(auto)]
+
 ghost use Rattle.std.specs.Prelude.{◌<◌, ◌≡◌, length};
 ghost use Rattle.word.specs.Words.{codes, LetterAt};
 ghost use Rattle.word_reader.specs.Reader.{opened, read_at, place_behind};
@@ -8,7 +10,7 @@ ghost use Rattle.word_reader.specs.Reader.{opened, read_at, place_behind};
 use word::Letter;
 
 // `file` is an accepted word file, or the empty part of a refused one, which has no letters.
-#[derive(Drop)]
+#[derive(Clone, Copy)]
 pub struct WordReader<'a> {
     pub(crate) file: &'a [u8],
     pub(crate) at: usize,

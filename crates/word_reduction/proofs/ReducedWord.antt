@@ -46,7 +46,8 @@ module _ (room : ℕ) (word before : List ℕ) {after : List ℕ} {answer bytes 
   pub word_accepted : word_answer word ≡ 0
   unfolding word_answer
   word_accepted =
-      sym (passes 15 (word_questions word) (answers_passed (reducer_questions room word) tt none_failed).0) ∙ none_failed
+      sym (passes 15 (word_questions word) (answers_passed (reducer_questions room word) tt none_failed).0)
+      ∙ none_failed
 
   written : (word_answer (take bytes after) ≡ 0) × (letters (take bytes after) ≡ reduced (codes word))
   written =

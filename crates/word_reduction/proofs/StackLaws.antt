@@ -46,8 +46,10 @@ module _ (l : List ℕ) (n c : ℕ) (fits : n < length l) (i : Irreducible (take
       (λ m s h.
       let at : m ≡ n - 1 = omega arith in
       let last = get_or-take n l m 0 (omega arith) in
-      let meets : c ≡ inverse (get_or l (n - 1) 0) = h ∙ (ap inverse last ∙ ap (λ (k : ℕ). inverse (get_or l k 0)) at) in
-      true_false (Meets l n c) (and_both (lt-ltb 0 n (omega arith)) (eq-eqb c (inverse (get_or l (n - 1) 0)) meets)) e)))
+      let meets : c ≡ inverse (get_or l (n - 1) 0) = h
+      ∙ (ap inverse last ∙ ap (λ (k : ℕ). inverse (get_or l k 0)) at) in
+      true_false (Meets l n c) (and_both (lt-ltb 0 n (omega arith)) (eq-eqb c (inverse (get_or l (n - 1) 0)) meets))
+      e)))
 
 -- k of the codes have been pushed behind the word u: one more push gives the reduced word with k + 1 of them
 pub next_reduced : (u codes : List ℕ) (k : ℕ) → k < length codes → Lettered u → Lettered codes

@@ -1,6 +1,9 @@
 // Free reduction of a word file. If a letter is the inverse of the last letter on the stack, the two cancel. Otherwise
 // the letter stays. The stack always holds the freely reduced word of the letters pushed so far.
-ghost use Rattle.std.specs.Prelude.{◌+◌, ◌-◌, ◌*◌, ◌/◌, ◌≤◌, ◌<◌, ◌≡◌, true, ◌&&◌, [], ◌∷◌, ◌++◌, ltb, eqb, length, take, get_or};
+#![tactic(auto)]
+
+ghost use Rattle.std.specs.Prelude.{◌+◌, ◌-◌, ◌*◌, ◌/◌, ◌≤◌, ◌<◌, ◌≡◌, true, ◌&&◌, [], ◌∷◌, ◌++◌, ltb, eqb, length};
+ghost use Rattle.std.specs.Prelude.{take, get_or};
 ghost use Rattle.base.specs.Lists.{every};
 ghost use Rattle.base.specs.Digits.{halves};
 ghost use Rattle.word.specs.Letters.{is_letter, inverse};
@@ -56,7 +59,8 @@ fn pushes(stack: &mut [u8], n: usize, codes: &[u8]) -> usize
 // Pushes half bytes onto an empty stack, sixteen at a time, as long as sixteen of the first n are left. Returns how
 // many codes the stack then has.
 fn cancel_words(part: &[u8], n: usize, stack: &mut [u8]) -> usize
-    requires { (n ≤ 2 * length part.now) × (n ≤ length stack.old) × (every is_letter (take n (halves part.now)) ≡ true) }
+    requires { (n ≤ 2 * length part.now) × (n ≤ length stack.old)
+        × (every is_letter (take n (halves part.now)) ≡ true) }
     ensures { (result ≤ 2 * (n / 16 * 8))
         × (take result stack.new ≡ reduced (halves (take (n / 16 * 8) part.now))) }
 {
@@ -72,7 +76,8 @@ fn cancel_words(part: &[u8], n: usize, stack: &mut [u8]) -> usize
 
 // Pushes the first n half bytes onto an empty stack. Returns how many codes the stack then has.
 fn cancel(part: &[u8], n: usize, stack: &mut [u8]) -> usize
-    requires { (n ≤ 2 * length part.now) × (n ≤ length stack.old) × (every is_letter (take n (halves part.now)) ≡ true) }
+    requires { (n ≤ 2 * length part.now) × (n ≤ length stack.old)
+        × (every is_letter (take n (halves part.now)) ≡ true) }
     ensures { (result ≤ n) × (take result stack.new ≡ reduced (take n (halves part.now))) }
 {
     let count = cancel_words(part, n, stack);

@@ -142,7 +142,8 @@ module _ (w : List ℕ) (place : ℕ) (out : List ℕ) (g : Replaceable w place 
   pub written : {after : List ℕ} {answer bytes : ℕ} (row : List ℕ) (at : ℕ)
       → at ≡ place + length (replacement relations (get_or w place 0) (get_or w (place + 1) 0)) → size at ≤ max_letters
       → take (size at) row ≡ pair_replaced place w
-      → Wrote (writer_questions (length out) (take (size at) row)) (word_file (take (size at) row)) out after answer bytes
+      → Wrote (writer_questions (length out) (take (size at) row)) (word_file (take (size at) row)) out after answer
+      bytes
       → Wrote (grown_question w place) (word_file (pair_replaced place w)) out after answer bytes
   written row at e l same o =
       let short : length (pair_replaced place w) ≤ max_letters = rw (long_is at e) l in
@@ -163,7 +164,8 @@ module _ (room : ℕ) (word : List ℕ) (place : ℕ) where
       → first_no (replacement_questions room word place) ≡ first_no (word_questions word ++ after_word)
   past_room h = passes 15 (word_questions word ++ after_word) (le-leb 5002 room h)
 
-  past_word : 5002 ≤ room → word_answer word ≡ 0 → first_no (replacement_questions room word place) ≡ first_no after_word
+  past_word : 5002 ≤ room → word_answer word ≡ 0 → first_no (replacement_questions room word place)
+      ≡ first_no after_word
   unfolding word_answer
   past_word h z = past_room h ∙ all_passed (word_questions word) after_word tt z
 

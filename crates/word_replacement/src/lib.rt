@@ -1,4 +1,6 @@
 // Pair replacement in Y words, for parts 4 and 3, by the relations of source 000's Appendix A.
+#![tactic(auto)]
+
 ghost use Rattle.std.specs.Prelude.{◌+◌, ◌≤◌, ◌<◌, ◌≡◌, true, ◌++◌, length, take, drop};
 ghost use Rattle.base.specs.Digits.{part};
 ghost use Rattle.word.specs.Letters.{is_letter};

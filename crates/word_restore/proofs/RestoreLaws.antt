@@ -1,5 +1,5 @@
 -- The codes of a stored form, group by group: one more group of eight letters, and the first n codes of all groups.
-use Prim.Native.Nat.{ℕ, zero, suc, ◌+◌, ◌-◌, ◌*◌, ◌/◌, ◌^◌, ◌≤◌, ◌<◌}
+use Prim.Native.Nat.{ℕ, zero, suc, ◌+◌, ◌-◌, ◌*◌, ◌^◌, ◌≤◌, ◌<◌}
 use mathlib.Core.Path.{◌≡◌, refl, sym, ap, ap₂, ◌∙◌, subst}
 use mathlib.Core.Bool.{Bool, true, false, cond, ◌&&◌}
 use mathlib.Core.List.{List, [], ◌∷◌, ◌++◌, zip_with, append-nil}
@@ -16,7 +16,8 @@ use Rattle.base.proofs.QuestionLaws.{Passed, answers_passed, all_passed}
 use Rattle.base.proofs.ListLaws.{overlaid_more, overlaid_all}
 use Rattle.base.proofs.DigitLaws.{length_digits, take_below, drop_below, value_below, value_append, digits_join}
 use Rattle.base.proofs.PackLaws.{below_part, length_part, value_more}
-use Rattle.word_stored.specs.Stored.{letter_of, sign_part, generator_part, stored_signs, stored_generators, stored_codes}
+use Rattle.word_stored.specs.Stored.{letter_of, sign_part, generator_part, stored_signs, stored_generators}
+use Rattle.word_stored.specs.Stored.{stored_codes}
 use Rattle.word_stored.specs.Stored.{letters_stated, sign_bytes, generator_bytes, size_questions, row_questions}
 use Rattle.word_stored.specs.Stored.{stored_answer}
 use Rattle.word.specs.Letters.{is_letter}
@@ -257,7 +258,7 @@ module _ (file : List ℕ) (e : first_no (size_questions file) ≡ 0) where
       }
 
   -- the filler of both rows is zero
-  abbrev is_filled : ℕ → Bool
+  abbrev pub is_filled : ℕ → Bool
   is_filled n = eqb (row_filler 1 n (sign_part file)) 0 && eqb (row_filler 3 n (generator_part file)) 0
 
   -- if the sizes agree, the letters and the filler decide

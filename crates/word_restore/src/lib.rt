@@ -1,4 +1,6 @@
 // Restores a word file from its stored form.
+#![tactic(auto)]
+
 ghost use Rattle.std.specs.Prelude.{◌+◌, ◌*◌, ◌≤◌, ◌≡◌, ◌&&◌, eqb, length, take};
 ghost use mathlib.Core.List.{zip_with};
 ghost use Rattle.base.specs.Questions.{first_no};

@@ -1,4 +1,6 @@
 // Shortening of a word file: the shorter of two words that arcs give, with handle reduction before and without.
+#![tactic(auto)]
+
 ghost use Rattle.word_shortener.specs.Shortener.{Shortened};
 
 use routes::shorten_codes;

@@ -27,4 +27,4 @@ shorter a b = granted (shorter_answer a b) (of_shorter a b a b) []
 
 -- on answer 0 the slice that is given is one of the two lent slices, and not a copy of its bytes
 abbrev pub IsThatSlice : Bor (List ℕ) → Bor (List ℕ) → Bor (List ℕ) → Type 0
-IsThatSlice a b r = shorter_answer a.now b.now ≡ 0 → r.ptr ≡ of_shorter a.now b.now a.ref_ptr b.ref_ptr
+IsThatSlice a b r = shorter_answer a.now b.now ≡ 0 → r.ref_ptr ≡ of_shorter a.now b.now a.ref_ptr b.ref_ptr

@@ -1,11 +1,13 @@
 // The shorter of two word files: which file it is, and the file itself as one of two lent slices.
+#![tactic(auto)]
+
 ghost use Rattle.std.specs.Prelude.{◌≡◌};
 ghost use Rattle.word_shorter.specs.Shorter.{shorter, Chose, IsThatSlice};
 
 // Which of two word files is the shorter. `answer` is the number of the first question answered no, or 0. `which` is 1
 // for the first file, 2 for the second, and 0 on a refusal.
 #[repr(C)]
-#[derive(Drop)]
+#[derive(Clone, Copy)]
 pub struct Choice {
     pub answer: u8,
     pub which: u8,

@@ -124,7 +124,8 @@ turns g k i h =
 
 start_rule : ℕ → Bool
 start_rule k =
-    eqb (cond (equal four_labels (inverse_of (get_or listed k []))) 1 0) (cond (equal four_labels (get_or listed k [])) 1 0)
+    eqb (cond (equal four_labels (inverse_of (get_or listed k []))) 1 0)
+    (cond (equal four_labels (get_or listed k [])) 1 0)
 
 start_rules : every start_rule (values (λ k. k) 24) ≡ true
 unfolding start_rule every values_from equal

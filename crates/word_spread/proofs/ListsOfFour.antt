@@ -150,7 +150,8 @@ module _ (labels : List ℕ) (f : is_four labels ≡ true) where
   unfolding place_rule
   placed =
       let are = labels_are labels four_long in
-      let rule = of_four place_rule place_rules (get_or labels 0 0) (get_or labels 1 0) (get_or labels 2 0) (get_or labels 3 0)
+      let rule = of_four place_rule place_rules (get_or labels 0 0) (get_or labels 1 0) (get_or labels 2 0)
+      (get_or labels 3 0)
       (four_small labels four_long once) in
       go (each_once 4 labels) once
       (subst

@@ -1,6 +1,7 @@
 -- How words spread (document 02, §13): four strands, the letters b1 to b3 and their inverses. How many words of a
 -- length, begun from the list 0 to 3, end in a given list.
-use Rattle.std.specs.Prelude.{ℕ, zero, suc, ◌+◌, ◌≡◌, Bool, cond, ◌&&◌, List, [], ◌∷◌, ◌++◌, map, leb, eqb, length, get_or, replicate}
+use Rattle.std.specs.Prelude.{ℕ, zero, suc, ◌+◌, ◌≡◌, Bool, cond, ◌&&◌, List, [], ◌∷◌, ◌++◌, map, leb, eqb, length}
+use Rattle.std.specs.Prelude.{get_or, replicate}
 use Rattle.base.specs.Questions.{Question, ◌else◌, first_no, granted}
 use Rattle.base.specs.Lists.{values, equal, each_once}
 use Rattle.word.specs.Strands.{list_after}

@@ -1,4 +1,6 @@
 // How words spread: how many words of a length end in a list of four labels.
+#![tactic(auto)]
+
 ghost use Rattle.std.specs.Prelude.{◌≤◌, ◌<◌, ◌≡◌, replicate};
 ghost use Rattle.word_spread.specs.Spread.{is_four, max_length, Ends, EndsAll, list_at};
 ghost use Rattle.word_spread.specs.steps.Counting.{all_small, all_differ, smaller, place_of};
@@ -11,7 +13,7 @@ pub const MAX_LENGTH: usize = 12;
 
 // 0, or 35; and how many words end in the list, 0 on a refusal.
 #[repr(C)]
-#[derive(Drop)]
+#[derive(Clone, Copy)]
 pub struct Count {
     pub answer: u8,
     pub words: u32,
@@ -30,7 +32,7 @@ impl Count {
 }
 
 // 0, or 35; and how many words end in each of the 24 lists, zeros on a refusal.
-#[derive(Drop)]
+#[derive(Clone, Copy)]
 pub struct AllCounts {
     pub answer: u8,
     pub numbers: [u32; 24],

@@ -8,7 +8,7 @@ use native.Mathlib.Numerals.{add-one}
 use native.Mathlib.Omega.{arith}
 use lib.ListN.{length, take, drop, get_or, length-drop, length-map}
 use lib.Seq.{get_or-take, get_or-drop, length-take-le}
-use Rattle.base.specs.Lists.{values_from, values, overlaid}
+use Rattle.base.specs.Lists.{values_from, overlaid}
 use Rattle.base.specs.Digits.{value, digits, part, halves}
 use Rattle.base.proofs.ListLaws.{values_of, laid_more}
 use Rattle.base.proofs.DigitLaws.{length_digits, length_halves, halves_more, value_append, digits_join}

@@ -14,7 +14,7 @@ use Rattle.base.specs.Digits.{value, digits, halves}
 use Rattle.base.specs.Packing.{Below, row_bytes, filler_bits, packed_row}
 use Rattle.base.proofs.ListLaws.{every_all, length_overlaid, overlaid_more}
 use Rattle.base.proofs.DigitLaws.{take_below, drop_below, append_below, length_digits, length_halves, halves_append}
-use Rattle.word_stored.specs.Stored.{signs, generators, stored_parts, stored_file}
+use Rattle.word_stored.specs.Stored.{signs, generators, stored_file}
 use Rattle.base.proofs.RowLaws.{length_packed_row}
 use Rattle.word_stored.proofs.SignLaws.{signs_high}
 use Rattle.word_stored.proofs.StoredLaws.{length_stored}
@@ -101,7 +101,8 @@ module _ (bytes : List ℕ) (n : ℕ) (s : Storable bytes n) (whole : List ℕ)
   -- the row that f makes of the codes, packed, from the numbers that f makes of all groups
   row_packed : 4 * groups ≤ length whole → (b m : ℕ) (f : ℕ → ℕ) → f 0 ≡ 0
       → (8 * groups - n) * b ≡ filler_bits b n + m * 8
-      → take (row_bytes b n) (digits 256 (row_bytes b n + m) (value (2 ^ b) (map f filled))) ≡ packed_row b (map f codes)
+      → take (row_bytes b n) (digits 256 (row_bytes b n + m) (value (2 ^ b) (map f filled)))
+      ≡ packed_row b (map f codes)
   row_packed h b m f z fill =
       let l = length_whole h in
       ap (λ (xs : List ℕ). take (row_bytes b n) (digits 256 (row_bytes b n + m) (value (2 ^ b) xs)))

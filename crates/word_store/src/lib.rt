@@ -1,4 +1,6 @@
 // Stores a word file: writes its stored form, with signs and generators apart.
+#![tactic(auto)]
+
 ghost use Rattle.std.specs.Prelude.{◌+◌, ◌*◌, ◌/◌, ◌%◌, ◌≤◌, ◌<◌, ◌≡◌, ◌++◌, map, length, take};
 ghost use Rattle.base.specs.Lists.{overlaid};
 ghost use Rattle.base.specs.Digits.{value, digits, part, halves};

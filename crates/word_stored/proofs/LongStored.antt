@@ -1,18 +1,17 @@
 -- Stored forms that are too long. Over 5,006 bytes a stored form is refused: by 28, or by 10 if the number of letters
 -- that it states is too large. Its first two bytes decide which. So 5,007 bytes are enough to read of a stored form of
 -- any length.
-use Prim.Native.Nat.{ℕ, ◌+◌, ◌≤◌, ◌<◌}
+use Prim.Native.Nat.{ℕ, ◌≤◌, ◌<◌}
 use native.Mathlib.Decide.{dec_le}
 use native.Mathlib.Omega.{arith}
 use mathlib.Core.Path.{◌≡◌, refl, sym, ap, ◌∙◌}
 use mathlib.Core.Bool.{Bool, true, false, cond}
-use mathlib.Core.List.{List, [], ◌∷◌, ◌++◌}
+use mathlib.Core.List.{List, ◌∷◌}
 use borrow.Author.Tests.{le-leb, lt-leb, eqb-true, ne_eqb}
-use lib.Dec.{leb, eqb}
+use lib.Dec.{leb}
 use lib.ListN.{length, take, drop}
 use Rattle.base.specs.Questions.{Question, ◌else◌, first_no}
 use Rattle.base.specs.Digits.{value}
-use Rattle.base.specs.Packing.{row_bytes}
 use Rattle.base.proofs.QuestionLaws.{passes, fails}
 use Rattle.text.specs.Enough.{Enough}
 use Rattle.text.proofs.EnoughLaws.{Whole, enough_long, whole_long}

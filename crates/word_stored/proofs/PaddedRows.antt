@@ -1,6 +1,6 @@
 -- Rows with zeros after them, so that whole groups of eight numbers can be taken. A row followed by zeros is packed
 -- into the row's bytes and zeros. Bytes followed by zero bytes hold the row and zeros.
-use Prim.Native.Nat.{ℕ, zero, suc, ◌+◌, ◌*◌, ◌/◌, ◌^◌, ◌<◌}
+use Prim.Native.Nat.{ℕ, zero, suc, ◌+◌, ◌*◌, ◌/◌, ◌^◌}
 use mathlib.Core.Path.{◌≡◌, refl, sym, ap, ap₂, ◌∙◌}
 use mathlib.Core.List.{List, [], ◌∷◌, ◌++◌}
 use native.Mathlib.Nat.{pow-zero, pow-suc, suc-mul, mul_assoc, zero-mul, add-zero, mul-div_cancel, mul-div-mul_right}

@@ -1,14 +1,14 @@
 -- Signs and generators of letters: a letter is its sign and its generator, and a sign with a generator number below 7
 -- is a letter. The same holds of rows.
-use Prim.Native.Nat.{ℕ, zero, suc, ◌+◌, ◌*◌, ◌/◌, ◌%◌, ◌<◌}
+use Prim.Native.Nat.{ℕ, zero, suc, ◌/◌, ◌%◌, ◌<◌}
 use mathlib.Core.Path.{◌≡◌, refl, sym, ap, ap₂, ◌∙◌}
 use mathlib.Core.Bool.{Bool, true, false, cond, not, ◌&&◌, beq}
-use mathlib.Core.List.{List, [], ◌∷◌, ◌++◌, map, zip_with}
+use mathlib.Core.List.{List, [], ◌∷◌, map, zip_with}
 use native.Mathlib.Nat.{mod-lt}
 use native.Mathlib.Omega.{arith}
 use borrow.Author.Tests.{eqb-true}
 use lib.Dec.{eqb}
-use lib.ListN.{length, get_or, length-map, get_or-map}
+use lib.ListN.{length}
 use Rattle.base.specs.Lists.{every, values_from, values}
 use Rattle.base.specs.Packing.{Below}
 use Rattle.base.proofs.ListLaws.{and_left, and_right, beq_true, every_values}

@@ -1,20 +1,19 @@
 -- The stored form of at most 10,000 letters, part by part: it is accepted and holds the letters. An accepted file is
 -- the stored form of the letters that it holds, which are at most 10,000.
-use Prim.Native.Nat.{ℕ, ◌+◌, ◌^◌, ◌≤◌, ◌<◌}
+use Prim.Native.Nat.{ℕ, ◌+◌, ◌^◌, ◌≤◌}
 use mathlib.Core.Path.{◌≡◌, refl, sym, ap, ap₂, ◌∙◌}
-use mathlib.Core.Bool.{Bool, true}
+use mathlib.Core.Bool.{true}
 use mathlib.Core.List.{List, [], ◌∷◌, ◌++◌, map, zip_with}
 use native.Mathlib.Nat.{zero-add}
 use native.Mathlib.Omega.{arith}
 use borrow.Author.Tests.{le-leb, leb-true, eq-eqb, eqb-true}
-use lib.ListN.{length, take, drop, get_or, length-map}
-use Rattle.base.specs.Questions.{first_no}
+use lib.ListN.{length, get_or, length-map}
 use Rattle.base.specs.Lists.{every}
 use Rattle.base.specs.Digits.{value, digits, part}
 use Rattle.base.specs.Packing.{Below, row_bytes, packed_row, unpacked_row, row_filler}
-use Rattle.base.specs.Files.{joined, place_from, file_part}
+use Rattle.base.specs.Files.{place_from, file_part}
 use Rattle.base.proofs.QuestionLaws.{passed_answers, answers_passed}
-use Rattle.base.proofs.DigitLaws.{length_digits, digits_below, value_digits_below, digits_value}
+use Rattle.base.proofs.DigitLaws.{value_digits_below, digits_value}
 use Rattle.base.proofs.PackLaws.{below_part, length_part}
 use Rattle.base.proofs.RowLaws.{length_packed_row, unpacked_packed, filler_packed, length_unpacked, unpacked_below}
 use Rattle.base.proofs.RowLaws.{packed_unpacked}

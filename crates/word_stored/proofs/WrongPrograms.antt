@@ -4,9 +4,9 @@
 -- number 7 or filler that is not zero, that does not compare the sizes with the letters or with the length, that asks
 -- for the sizes before 10, or for the rows before the sizes.
 use Prim.Native.Nat.{ℕ, ◌≤◌}
-use mathlib.Core.Path.{◌≡◌, refl, sym, ap, ◌∙◌}
+use mathlib.Core.Path.{◌≡◌, refl, sym, ◌∙◌}
 use mathlib.Core.Bool.{false}
-use mathlib.Core.List.{List, [], ◌∷◌, zip_with}
+use mathlib.Core.List.{List, [], ◌∷◌}
 use native.Mathlib.Omega.{arith}
 use borrow.Author.Tests.{lt-leb}
 use lib.ListN.{length, take}
@@ -18,7 +18,7 @@ use Rattle.base.proofs.QuestionLaws.{fails}
 use Rattle.base.proofs.ListLaws.{true_false, equal_of}
 use Rattle.word.specs.Words.{codes, word_questions}
 use Rattle.word.proofs.RoundTrip.{wrote_file}
-use Rattle.word_stored.specs.Stored.{stored_file, stored_signs, stored_generators, stored_answer, WroteStored}
+use Rattle.word_stored.specs.Stored.{stored_file, stored_generators, stored_answer, WroteStored}
 use Rattle.word_stored.specs.Stored.{WroteRestored}
 use Rattle.word_stored.proofs.ThereAndBack.{restore_answers}
 

@@ -1,5 +1,7 @@
 // The writer of word files from codes. It asks questions 15, 10 and 12, then writes the file to the output's first
 // bytes.
+#![tactic(auto)]
+
 ghost use Rattle.std.specs.Prelude.{◌+◌, ◌*◌, ◌/◌, ◌≤◌, ◌<◌, ◌≡◌, true, length, take, get_or};
 ghost use Rattle.base.specs.Lists.{every, overlaid};
 ghost use Rattle.word.specs.Letters.{is_letter};

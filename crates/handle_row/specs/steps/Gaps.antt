@@ -1,7 +1,8 @@
 -- The working memory of handle reduction. Only contracts of functions that are no operation of the papers cite these
 -- definitions. A row of codes has a gap: the word is the codes before the gap and the codes after it. Two tables say
 -- where the generators last occur before the gap.
-use Rattle.std.specs.Prelude.{ℕ, zero, suc, ◌+◌, ◌-◌, ◌≤◌, ◌<◌, ◌≡◌, true, cond, List, ◌++◌, eqb, length, take, drop, get_or, set}
+use Rattle.std.specs.Prelude.{ℕ, zero, suc, ◌+◌, ◌-◌, ◌≤◌, ◌<◌, ◌≡◌, true, cond, List, ◌++◌, eqb, length, take, drop}
+use Rattle.std.specs.Prelude.{get_or, set}
 use Rattle.base.specs.Lists.{every}
 use Rattle.word.specs.Letters.{is_letter, generator}
 use Rattle.braid_handles.specs.Handles.{start_of, ends, conjugated_letter, conjugated}

@@ -68,7 +68,8 @@ pub record ColumnsAfter (bits : ℕ) (constants : List ℕ) (at g : ℕ) (invers
 -- columns and labels to the pair of the new ones.
 pub record Carried (bits : ℕ) (constants w columns labels columns' labels' : List ℕ) : Type 0 where
   pub holds : Held bits constants columns' labels'
-  pub carries : OverFields bits constants (λ F ts. held_pair columns' labels' ≡ word_on F ts w (held_pair columns labels))
+  pub carries : OverFields bits constants
+      (λ F ts. held_pair columns' labels' ≡ word_on F ts w (held_pair columns labels))
 
 -- What the first n packed letters leave. `WholeCarried` states what the letters of the first r bytes leave; fewer than
 -- sixteen of the n letters are then left.

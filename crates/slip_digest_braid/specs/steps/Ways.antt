@@ -36,7 +36,8 @@ pub record Setting (bits p : ℕ) (ts constants powers : List ℕ) : Type 0 wher
 -- If the pair of columns and labels is good and stands at level l, the word w carries it to the new pair.
 abbrev pub CarriedFrom : ℕ → List ℕ → List ℕ → ℕ → List ℕ → List ℕ → List ℕ → List ℕ → List ℕ → Type 0
 CarriedFrom bits constants powers l w columns labels columns' labels' =
-    (p : ℕ) (ts : List ℕ) → Setting bits p ts constants powers → GoodPair (polynomials bits p) (held_pair columns labels)
+    (p : ℕ) (ts : List ℕ) → Setting bits p ts constants powers
+    → GoodPair (polynomials bits p) (held_pair columns labels)
     → labels ≡ level_list l
     → held_pair columns' labels' ≡ word_on (polynomials bits p) ts w (held_pair columns labels)
 

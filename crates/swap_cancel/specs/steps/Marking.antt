@@ -1,5 +1,6 @@
 -- A word in which letters that cancel are marked. Only private contracts cite these definitions.
-use Rattle.std.specs.Prelude.{ℕ, ◌+◌, ◌-◌, ◌≤◌, ◌<◌, ◌≡◌, true, cond, List, [], ◌∷◌, ◌++◌, ◌⊎◌, length, take, drop, get_or}
+use Rattle.std.specs.Prelude.{ℕ, ◌+◌, ◌-◌, ◌≤◌, ◌<◌, ◌≡◌, true, cond, List, [], ◌∷◌, ◌++◌, ◌⊎◌, length, take, drop}
+use Rattle.std.specs.Prelude.{get_or}
 use Rattle.word.specs.Letters.{is_letter, generator, inverse}
 use Rattle.word.specs.Words.{max_letters}
 use Rattle.swap_cancel.specs.SwapCancel.{letter_behind}

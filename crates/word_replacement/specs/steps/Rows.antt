@@ -1,6 +1,7 @@
 -- The rows of Appendix A as the code holds them: ten entries to a row, filled with 15, which is no letter. Only private
 -- contracts cite these definitions.
-use Rattle.std.specs.Prelude.{ℕ, suc, ◌+◌, ◌-◌, ◌%◌, ◌≤◌, ◌≡◌, true, cond, ◌&&◌, List, [], ◌∷◌, ◌++◌, ltb, eqb, length, drop, replicate}
+use Rattle.std.specs.Prelude.{ℕ, suc, ◌+◌, ◌-◌, ◌%◌, ◌≤◌, ◌≡◌, true, cond, ◌&&◌, List, [], ◌∷◌, ◌++◌, ltb, eqb}
+use Rattle.std.specs.Prelude.{length, drop, replicate}
 use Rattle.base.specs.Lists.{every}
 use Rattle.base.specs.Digits.{part}
 use Rattle.word.specs.Letters.{is_letter}

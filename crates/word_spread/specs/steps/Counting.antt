@@ -1,5 +1,6 @@
 -- How the words are counted, for private contracts: one number for each of the 24 lists, and a letter more at a step.
-use Rattle.std.specs.Prelude.{ℕ, ◌+◌, ◌-◌, ◌*◌, ◌%◌, ◌^◌, ◌≤◌, ◌<◌, ◌≡◌, Bool, cond, not, ◌&&◌, List, ltb, eqb, length, get_or}
+use Rattle.std.specs.Prelude.{ℕ, ◌+◌, ◌-◌, ◌*◌, ◌%◌, ◌^◌, ◌≤◌, ◌<◌, ◌≡◌, Bool, cond, not, ◌&&◌, List, ltb, eqb}
+use Rattle.std.specs.Prelude.{length, get_or}
 use Rattle.word.specs.Strands.{swapped}
 use Rattle.word_spread.specs.Spread.{list_at, ending}
 
@@ -54,7 +55,8 @@ MoreAt counts k number = (n : ℕ) → Counted n counts → number ≡ ending (n
 abbrev pub OneMore : List ℕ → List ℕ → Type 0
 OneMore counts more = (n : ℕ) → Counted n counts → Counted (n + 1) more
 
--- 24 numbers, each at most 6 to the power of 11. Past the end of the list `get_or` gives 0. Then no sum for words of one
+-- 24 numbers, each at most 6 to the power of 11. Past the end of the list `get_or` gives 0. Then no sum for words of
+-- one
 -- letter more is over 6 to the power of 12, which is 2,176,782,336 and fits 32 bits.
 pub record Few (counts : List ℕ) : Type 0 where
   pub size : length counts ≡ 24

@@ -1,0 +1,17 @@
+-- `arc_relay::move_up` meets its contract. The loop's invariant: the first k codes are the part's codes after the first
+-- `by`, the others are unchanged.
+use Prim.Native.Nat.{◌-◌, ◌≤◌}
+use mathlib.Core.Path.{◌≡◌}
+use mathlib.Core.List.{◌++◌}
+use lib.ListN.{length, take, drop}
+use Rattle.arc_relay.proofs.move_up.Given as goal
+
+abbrev pub invariant-loop-k : goal.invariant-loop-k
+invariant-loop-k l =
+    (l.end ≡ length l.initial.part - l.by)
+    × (l.k ≤ l.end)
+    × (length l.part ≡ length l.initial.part)
+    × (l.part ≡ take l.k (drop l.by l.initial.part) ++ drop l.k l.initial.part)
+
+abbrev pub decreases-loop-k : goal.decreases-loop-k
+decreases-loop-k l = l.end - l.k

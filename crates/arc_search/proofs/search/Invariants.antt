@@ -1,0 +1,13 @@
+-- `arc_search::search` meets its contract. The loop's invariant: arcs of the word at the start were laid anew.
+use Prim.Native.Nat.{◌≤◌, ◌<◌}
+use mathlib.Core.Path.{◌≡◌}
+use lib.ListN.{length, take}
+use Rattle.braid_arcs.specs.Arcs.{Relays}
+use Rattle.arc_search.proofs.search.Given as goal
+
+abbrev pub invariant-loop-steps : goal.invariant-loop-steps
+invariant-loop-steps l = (l.count ≤ l.n) × (l.drawn < 2147483647) × (length l.codes ≡ length l.initial.codes)
+    × Relays (take l.n l.initial.codes) (take l.count l.codes)
+
+abbrev pub decreases-loop-steps : goal.decreases-loop-steps
+decreases-loop-steps l = l.steps

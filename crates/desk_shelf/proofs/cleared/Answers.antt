@@ -1,0 +1,27 @@
+-- `desk_shelf::cleared` meets its contract.
+use mathlib.Core.Path.{◌≡◌, refl, sym, ◌∙◌}
+use mathlib.Core.Bool.{true}
+use Rattle.shelf.specs.Calls.{clear}
+use Rattle.desk_shelf.specs.Serving.{is_shelf}
+use Rattle.desk_shelf.proofs.ServingLaws.{bare_of, no_shelf, on_shelf}
+use Rattle.desk_shelf.proofs.cleared.Goals as goal
+
+pub returns-then-not-is_shelf : goal.returns-then-not-is_shelf
+returns-then-not-is_shelf c =
+    let a = c.args in
+    no_shelf a.file.now a.publisher (clear a.number)
+    (sym c.is_shelf.ensures ∙ c.if-not-is_shelf.true) (bare_of c.none.ensures)
+
+pub returns : goal.returns
+returns c =
+    let whole : is_shelf c.args.file.now ≡ true =
+    sym c.is_shelf.ensures ∙ c.if-not-is_shelf.false in
+    let a = c.args in
+    on_shelf a.file.now a.publisher (clear a.number) whole refl refl
+    c.shelf_in-shelf.ensures c.clear-answer.ensures
+
+pub shelf_in-shelf-requires : goal.shelf_in-shelf-requires
+shelf_in-shelf-requires c =
+    let whole : is_shelf c.args.file.now ≡ true =
+    sym c.is_shelf.ensures ∙ c.if-not-is_shelf.false in
+    whole

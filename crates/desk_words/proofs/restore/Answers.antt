@@ -1,0 +1,26 @@
+-- `desk_words::restore` meets its contract.
+use Prim.Native.Nat.{ℕ}
+use native.Mathlib.Omega.{arith}
+use mathlib.Core.Path.{sym, subst₂}
+use mathlib.Core.Bool.{Bool}
+use mathlib.Core.List.{List}
+use borrow.Author.Tests.{not-true, not-false}
+use lib.ListN.{length}
+use Rattle.desk_words.specs.Making.{Restores}
+use Rattle.desk_words.proofs.MakingLaws.{bare_of, unread}
+use Rattle.desk_words.proofs.Enough.{enough_to_restore}
+use Rattle.desk_words.proofs.restore.Goals as goal
+
+pub returns-then-not-f : goal.returns-then-not-f
+returns-then-not-f c = record {
+  restores = unread _ _ (not-true _ c.if-not-f.true) (bare_of c.unread.ensures);
+  enough_to_restore = enough_to_restore (length c.args.form.now) (omega arith);
+}
+
+pub returns : goal.returns
+returns c = record {
+  restores =
+      subst₂ (λ (b : Bool) (l : List ℕ). Restores b l c.restored.result) (sym (not-false _ c.if-not-f.false))
+      c.part-f_read.ensures c.restored.ensures;
+  enough_to_restore = enough_to_restore (length c.args.form.now) (omega arith);
+}

@@ -1,0 +1,10 @@
+-- `examples::input::text_of` is safe and ends: the place stays within the line.
+use Prim.Native.Nat.{◌≤◌}
+use lib.ListN.{length}
+use Rattle.examples.proofs.input.text_of.Given as goal
+
+abbrev pub invariant-loop-left : goal.invariant-loop-left
+invariant-loop-left l = l.from ≤ length l.line
+
+abbrev pub decreases-loop-left : goal.decreases-loop-left
+decreases-loop-left l = l.left

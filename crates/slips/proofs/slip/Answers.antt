@@ -1,0 +1,7 @@
+-- `slips::slip` is safe: the line lies within its text.
+use Rattle.io.proofs.Counting.{prefix_len_of_le}
+use Rattle.text.proofs.TextLaws.{told_within}
+use Rattle.slips.proofs.slip.Goals as goal
+
+pub tell-requires : goal.tell-requires
+tell-requires g c = prefix_len_of_le _ _ (told_within c.slip_line.ensures.tells)

@@ -1,7 +1,0 @@
--- `word_crossing::Crossing::refused` meets its contract.
-use mathlib.Core.Path.{refl}
-use Rattle.word_crossing.proofs.Crossing.refused.Statement.{statement}
-use Rattle.word_crossing.proofs.Crossing.refused.Tie as tie
-
-pub refused_spec : {M : Type 1} → statement M
-refused_spec = tie.close (tie.spec (λ c. (refl, refl)))
