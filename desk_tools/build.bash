@@ -59,8 +59,8 @@ make_library() {
         ln -sfn "$so" "$lib/libwalnut.so"
 }
 
-# copy_sources N: makes N copies of the sources in target/room. Only one run of rt works in a crate and the crates below it
-# at a time, so runs that go on side by side need a copy each. What one copy built, rt gives to the others.
+# copy_sources N: makes N copies of the sources in target/room. Only one run of rt works in a crate and the crates below
+# it at a time, so runs that go on side by side need a copy each. What one copy built, rt gives to the others.
 copy_sources() (
     for ((number = 0; number < $1; number++)); do
         mkdir -p "$root/target/room/$number/crates" && cd "$root/target/room/$number" || exit 1
@@ -185,8 +185,8 @@ proving() {
 # current NEED: succeeds if what is built was built from the present sources.
 current() { [ "$(cat "$root/target/walnut-$1.stamp" 2>/dev/null)" = "$(sources_of "$1"; made_of "$1")" ]; }
 
-# build NEED..: only one build runs at a time. What all programs use is proved together, so that crates are proved side by
-# side.
+# build NEED..: only one build runs at a time. What all programs use is proved together, so that crates are proved side
+# by side.
 build() {
     mkdir -p "$root/target" && exec 9>"$root/target/walnut.lock" && flock 9 || return 1
     local each behind=() checked=() before=()

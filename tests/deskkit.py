@@ -116,7 +116,7 @@ MADE = 'if [ "$1" = run ]; then mkdir -p out && cp "../../made/$2" out/; fi'
 
 
 def tree(folder, programs):
-    """Makes a copy of ./walnut with other programs, which use no crate, and with an `rt` that proves nothing. `programs` is
+    """Makes a copy of ./walnut with other programs, which use no crate, and an `rt` that proves nothing. `programs` is
     a folder, or the text of a shell script for each name. Returns the options with which `run` starts the copy."""
     folder = os.path.abspath(folder)
     os.makedirs(os.path.join(folder, "target", "bin"))

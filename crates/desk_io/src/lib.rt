@@ -1,7 +1,8 @@
 // Reads files and writes lines. It decides nothing about the bytes.
 #![tactic(auto)]
 
-ghost use Rattle.std.specs.Prelude.{◌≡◌, false, length, IfOk};
+ghost use Rattle.std.specs.Prelude.{◌≡◌, pos, false, length, Some, IfOk, IsUtf8, MatchResult};
+ghost use Rattle.std.specs.IoError.{raw_os_error};
 ghost use Rattle.io.specs.Counts.{IsPrefixLen};
 ghost use Rattle.desk_line.specs.Desk.{GotOf};
 
@@ -151,7 +152,10 @@ pub fn argument_or_none(rt: &impl Env, i: usize, buf: &mut [u8]) -> usize
 }
 
 // The path that a name's bytes write. A name that is not UTF-8 is an error, since no path of std is.
-pub fn path(name: &[u8]) -> Result<&str, Error> {
+pub fn path(name: &[u8]) -> Result<&str, Error>
+    ensures { MatchResult result (λ text. text.now ≡ name.now)
+        (λ why. ¬ (IsUtf8 name.now) × (raw_os_error why ≡ Some (pos 84))) }
+{
     match from_utf8(name) {
         Ok(path) => Ok(path),
         Err(_) => Err(Error::from_raw_os_error(NOT_UTF_8)),
