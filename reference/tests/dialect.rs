@@ -127,7 +127,7 @@ fn this_table_is_the_sources() {
 #[test]
 fn the_librarys_tables_are_the_sources() {
     let code = repository("crates/word_replacement/src/lib.rt");
-    let table = code.split("const RELATIONS: [u8; 790] = [").nth(1).expect("the table").split("];").next();
+    let table = code.split("static RELATIONS: [u8; 790] = [").nth(1).expect("the table").split("];").next();
     let numbers: Vec<u8> =
         table.expect("its end").split(',').filter_map(|number| number.trim().parse().ok()).collect();
     let filled = |row: &Vec<Letter>| {

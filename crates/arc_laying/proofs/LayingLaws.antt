@@ -3,13 +3,11 @@ use Prim.Native.Nat.{ℕ, ◌+◌, ◌≤◌, ◌<◌}
 use mathlib.Core.Path.{◌≡◌, sym, subst}
 use mathlib.Core.Bool.{Bool, true}
 use mathlib.Core.List.{List, [], ◌∷◌, ◌++◌, append-nil}
-use native.Mathlib.Decide.{dec_lt}
-use native.Mathlib.Omega.{arith}
 use native.Mathlib.Numerals.{add-one}
 use lib.ListN.{length, take, get_or, set}
-use lib.Seq.{take-suc, take-suc-set, take_all, length-take-le}
+use lib.Seq.{take-suc, take-suc-set}
 use Rattle.word.specs.Letters.{is_letter, generator}
-use Rattle.braid_arcs.specs.Arcs.{beside, Arc, none, other, Relaid}
+use Rattle.braid_arcs.specs.Arcs.{beside, Arc, none, other}
 use Rattle.braid_arcs.proofs.ArcLaws.{arc_end, arc_on}
 use Rattle.arc_strand.specs.steps.Strand.{IsOther}
 use Rattle.arc_laying.specs.Plans.{PlacedAt, own, aside}
@@ -89,27 +87,6 @@ module _ (under : Bool) (p : ℕ) (part out : List ℕ) (read written old new : 
             (rw (← o.here) (other d o.letter o.later o.outside (none (arc_end laid.was))))
             (subst (λ (t : ℕ). Arc under t (beside d t ∷ []) t (d ∷ [])) e stands);
       }
-
-  -- the strand stands at both ends
-  pub relaid : read ≡ length part → new ≡ old → written ≤ length part → written ≤ length out
-      → Relaid under p part (take written out)
-  relaid r e h k =
-      record {
-        end = old;
-        others = laid.others;
-        was = subst (λ (l : List ℕ). Arc under p l old laid.others) (take_all read part (omega arith)) laid.was;
-        is = subst (λ (y : ℕ). Arc under p (take written out) y laid.others) e laid.is;
-        not_longer = omega (arith, length-take-le written out k);
-      }
-
--- what holds of the first m places and of the places from m to n holds of the first n places
-pub both_parts : (P : ℕ → Type 0) (m n : ℕ) → ((k : ℕ) → k < m → P k) → ((k : ℕ) → m ≤ k → k < n → P k)
-    → (k : ℕ) → k < n → P k
-both_parts P m n first rest k h = go (dec_lt k m)
-  where
-    go : Dec (k < m) → P k
-    go (yes l) = first k l
-    go (no l) = rest k (omega arith) h
 
 -- before the first letter, nothing is read and nothing is written
 pub none_laid : (under : Bool) (p : ℕ) (part out : List ℕ) → p ≤ 7 → LaidSoFar under p part out 0 0 p p

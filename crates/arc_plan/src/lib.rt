@@ -3,22 +3,26 @@
 // first pass finds these sides, and the second pass goes the other way and writes the plan.
 #![tactic(auto)]
 
-ghost use Rattle.std.specs.Prelude.{◌+◌, ◌≤◌, ◌<◌, length};
+ghost use Rattle.std.specs.Prelude.{◌≤◌, ◌<◌, length, IfSome};
+ghost use Rattle.std.specs.Iterator.{IsFinite};
 ghost use Rattle.arc_plan.specs.steps.Planning.{Planned};
 
-// The place between the two strands that the letter crosses. The answer is 8 if the letter is the strand's own.
-fn gap(c: u8, x: u8) -> u8
+// What the first pass writes for the strand's own letter.
+const OWN: u8 = 16;
+
+// The place between the two strands that the letter crosses. None if the letter is the strand's own.
+fn gap(c: u8, x: u8) -> Option<u8>
     requires { x ≤ 7 }
-    ensures { (0 < result) × (result ≤ 8) }
+    ensures { IfSome result (λ g. (0 < g) × (g ≤ 7)) }
 {
     let g = c % 8;
     if x < g {
-        return g;
+        return Some(g);
     }
     if g + 1 < x {
-        return g + 1;
+        return Some(g + 1);
     }
-    8
+    None
 }
 
 // The place of the strand after a letter, in either direction.
@@ -36,46 +40,25 @@ fn moved(c: u8, x: u8) -> u8
     x
 }
 
-// The place of the letter that a pass reads after j of n letters.
-fn turned(j: usize, n: usize, last_first: bool) -> usize
-    requires { j < n }
-    ensures { result < n }
-{
-    if last_first {
-        return n - 1 - j;
-    }
-    j
-}
-
-// The steps from place z to place x.
-fn distance(z: u8, x: u8) -> u8 {
-    if z < x {
-        return x - z;
-    }
-    z - x
-}
-
 // The steps from each place to place x.
 fn distances(x: u8) -> [u8; 9] {
-    let mut steps = [0u8; 9];
-    let mut z: u8 = 0;
-    while z < 8 {
-        steps[z as usize] = distance(z, x);
-        z += 1;
+    let mut steps = [0; 9];
+    for z in 0..8u8 {
+        steps[usize::from(z)] = z.abs_diff(x);
     }
     steps
 }
 
 // The gap of a letter, and the side to which the strand gives way: twice the gap, and 1 more for the left side. Also
-// stores the number of steps still to come from the gap. The answer is 16 for the strand's own letter.
+// stores the number of steps still to come from the gap. The answer is `OWN` for the strand's own letter. It is a
+// number, because the second pass reads it in the byte of the plan in which it then writes a place.
 fn side(c: u8, x: u8, coin: bool, steps: &mut [u8; 9]) -> u8
     requires { x ≤ 7 }
 {
-    let g = gap(c, x);
-    if g == 8 {
-        return 16;
-    }
-    let i = g as usize;
+    let Some(g) = gap(c, x) else {
+        return OWN;
+    };
+    let i = usize::from(g);
     let left = steps[i - 1];
     let right = steps[i + 1];
     if left < right || (left == right && coin) {
@@ -86,20 +69,23 @@ fn side(c: u8, x: u8, coin: bool, steps: &mut [u8; 9]) -> u8
     2 * g
 }
 
-// The first pass, from the end at which the strand stands at place `far`.
+// The first pass, from the end at which the strand stands at place `far`. It writes a side for each letter.
+// One loop over any zip of the letters and the plan makes shortening 5 % slower.
 fn sides(part: &[u8], plan: &mut [u8], far: u8, last_first: bool, coin: bool)
     requires { (length part.now ≤ length plan.old) × (far ≤ 7) }
-    ensures { Planned (length part.now) plan.old plan.new }
 {
     let mut steps = distances(far);
     let mut x = far;
-    let mut j = 0;
-    while j < part.len() {
-        let i = turned(j, part.len(), last_first);
-        let c = part[i];
-        plan[i] = side(c, x, coin, &mut steps);
-        x = moved(c, x);
-        j += 1;
+    if last_first {
+        for i in (0..part.len()).rev() {
+            plan[i] = side(part[i], x, coin, &mut steps);
+            x = moved(part[i], x);
+        }
+    } else {
+        for i in 0..part.len() {
+            plan[i] = side(part[i], x, coin, &mut steps);
+            x = moved(part[i], x);
+        }
     }
 }
 
@@ -117,18 +103,16 @@ fn given_way(side: u8, x: u8) -> u8
     (x + 1) % 8
 }
 
-// The second pass, from the end at which the strand stands at place `near`, over n letters.
-fn places(plan: &mut [u8], n: usize, near: u8, last_first: bool)
-    requires { (n ≤ length plan.old) × (near ≤ 7) }
-    ensures { Planned n plan.old plan.new }
+// The second pass, from the end at which the strand stands at place `near`. It goes over the bytes of the plan, and
+// turns each side into a place.
+fn places<'a, I: Iterator<Item = &'a mut u8>>(plan: I, near: u8)
+    requires can_next { I.can_next plan × IsFinite (I.remaining plan) }
+    requires start { near ≤ 7 }
 {
     let mut x = near;
-    let mut j = 0;
-    while j < n {
-        let i = turned(j, n, last_first);
-        x = given_way(plan[i], x);
-        plan[i] = x;
-        j += 1;
+    for place in plan {
+        x = given_way(*place, x);
+        *place = x;
     }
 }
 
@@ -138,11 +122,12 @@ pub fn find_plan(part: &[u8], plan: &mut [u8], p: u8, y: u8, from_end: bool, coi
     requires { (length part.now ≤ length plan.old) × (p ≤ 7) × (y ≤ 7) }
     ensures { Planned (length part.now) plan.old plan.new }
 {
+    let plan = &mut plan[..part.len()];
     if from_end {
         sides(part, plan, p, false, coin);
-        places(plan, part.len(), y, true);
+        places(plan.iter_mut().rev(), y);
     } else {
         sides(part, plan, y, true, coin);
-        places(plan, part.len(), p, false);
+        places(plan.iter_mut(), p);
     }
 }

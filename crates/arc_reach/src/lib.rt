@@ -1,7 +1,7 @@
 // The longest arc through a letter. Its strand goes over all others, or under all others, backward and forward.
 #![tactic(auto)]
 
-ghost use Rattle.std.specs.Prelude.{◌+◌, ◌≤◌, ◌<◌, length};
+ghost use Rattle.std.specs.Prelude.{◌+◌, ◌≤◌, ◌<◌, length, IfSome};
 ghost use Rattle.arc_reach.specs.steps.Reaching.{ArcAround};
 
 // Where an arc begins or ends: the place in the word, and the place of the strand.
@@ -20,47 +20,27 @@ pub struct Arc {
     pub to: u8,
 }
 
-// The place of the strand after a letter, or 8 if the strand's own letter has the wrong sign.
-fn after(c: u8, x: u8, under: bool) -> u8
+// The place of the strand after a letter. None if the letter is the strand's own and has the wrong sign.
+// `then_some` in place of the inner branches makes shortening 2 % slower.
+fn after(c: u8, x: u8, under: bool) -> Option<u8>
     requires { x ≤ 7 }
-    ensures { result ≤ 8 }
+    ensures { IfSome result (λ y. y ≤ 7) }
 {
     let g = c % 8;
     let right = (8 <= c) == under;
     if g == x {
-        if right {
-            return x + 1;
+        if right && x < 7 {
+            return Some(x + 1);
         }
-        return 8;
+        return None;
     }
     if g + 1 == x {
         if right {
-            return 8;
+            return None;
         }
-        return x - 1;
+        return Some(x - 1);
     }
-    x
-}
-
-// The lowest place to which an arc may go back from place k.
-fn lowest(k: usize) -> usize
-    ensures { (result ≤ k) × (k ≤ result + 256) }
-{
-    if k < 256 {
-        return 0;
-    }
-    k - 256
-}
-
-// The highest place to which an arc may go forward from place k of n letters.
-fn highest(k: usize, n: usize) -> usize
-    requires { (k ≤ n) × (k < 65536) }
-    ensures { (k ≤ result) × (result ≤ k + 256) × (result ≤ n) }
-{
-    if k + 256 < n {
-        return k + 256;
-    }
-    n
+    Some(x)
 }
 
 // Goes back from place k, over at most 256 letters. The strand stands at place x before letter k.
@@ -68,19 +48,15 @@ fn back(codes: &[u8], k: usize, x: u8, under: bool) -> Reach
     requires { (k ≤ length codes.now) × (k < 65536) × (x ≤ 7) }
     ensures { (result.at ≤ k) × (k ≤ result.at + 256) × (result.strand ≤ 7) }
 {
-    let mut low = lowest(k);
-    let mut at = k;
+    let low = k.saturating_sub(256);
     let mut strand = x;
-    while low < at {
-        let y = after(codes[at - 1], strand, !under);
-        if y == 8 {
-            low = at;
-        } else {
-            strand = y;
-            at -= 1;
-        }
+    for at in (low..k).rev() {
+        let Some(y) = after(codes[at], strand, !under) else {
+            return Reach { at: at + 1, strand };
+        };
+        strand = y;
     }
-    Reach { at, strand }
+    Reach { at: low, strand }
 }
 
 // Goes forward from place k of a word of n codes, over at most 256 letters.
@@ -88,19 +64,15 @@ fn on(codes: &[u8], n: usize, k: usize, x: u8, under: bool) -> Reach
     requires { (k ≤ n) × (n ≤ length codes.now) × (n < 65536) × (x ≤ 7) }
     ensures { (k ≤ result.at) × (result.at ≤ k + 256) × (result.at ≤ n) × (result.strand ≤ 7) }
 {
-    let mut high = highest(k, n);
-    let mut at = k;
+    let high = n.min(k + 256);
     let mut strand = x;
-    while at < high {
-        let y = after(codes[at], strand, under);
-        if y == 8 {
-            high = at;
-        } else {
-            strand = y;
-            at += 1;
-        }
+    for at in k..high {
+        let Some(y) = after(codes[at], strand, under) else {
+            return Reach { at, strand };
+        };
+        strand = y;
     }
-    Reach { at, strand }
+    Reach { at: high, strand }
 }
 
 // The place of the strand before its own letter c.

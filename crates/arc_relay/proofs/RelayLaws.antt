@@ -19,7 +19,7 @@ module _ (row : List ℕ) (n b e : ℕ) (h : b ≤ e) (k : e ≤ n) (l : n ≤ l
   abbrev behind : List ℕ
   behind = take (n - b) (drop b row)
 
-  pub length_behind : length behind ≡ n - b
+  length_behind : length behind ≡ n - b
   length_behind = length-take-le (n - b) (drop b row) (omega (arith, length-drop b row))
 
   old_length : length (part b (e - b) row) ≡ e - b

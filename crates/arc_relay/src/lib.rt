@@ -2,51 +2,30 @@
 #![tactic(auto)]
 
 ghost use Rattle.std.specs.Prelude.{◌+◌, ◌-◌, ◌≤◌, ◌<◌, ◌≡◌, true, ◌++◌, length, take, drop};
-ghost use Rattle.base.specs.Lists.{overlaid};
 ghost use Rattle.arc_relay.specs.Relay.{Relayed};
 ghost use Rattle.arc_relay.specs.steps.Places.{Fits};
 
 use arc_laying::lay;
 
-// Moves the codes after the first `by` to the front. The last `by` codes do not change. Nothing moves if `by` is 0,
-// which is the most frequent case.
-fn move_up(part: &mut [u8], by: usize)
-    requires { by ≤ length part.old }
-    ensures { part.new ≡ overlaid (drop by part.old) part.old }
-{
-    if by == 0 {
-        return;
-    }
-    let end = part.len() - by;
-    let mut k = 0;
-    while k < end {
-        part[k] = part[k + by];
-        k += 1;
-    }
-}
-
-// Replaces the first `old` codes of a part by new codes, at most as many. The codes after them move up.
+// Replaces the first `old` codes of a part by new codes, at most as many. The codes after them move up. Nothing moves
+// if there are as many new codes, which is the most frequent case.
 fn replace(part: &mut [u8], old: usize, new: &[u8])
     requires { (length new.now ≤ old) × (old ≤ length part.old) }
     ensures { take (length part.old - (old - length new.now)) part.new
         ≡ new.now ++ drop old part.old }
 {
-    base::put(part, new);
     let m = new.len();
-    move_up(&mut part[m..], old - m);
+    part[..m].copy_from_slice(new);
+    if m < old {
+        part.copy_within(old.., m);
+    }
 }
 
 // Are b and e places of a word of n codes in the row, is p a place of the strand, and is there room for the part?
 fn fits(n: usize, b: usize, e: usize, p: u8, row: usize, room: usize) -> bool
     ensures { result ≡ true → Fits n b e p row room }
 {
-    if e < b || n < e || row < n {
-        return false;
-    }
-    if 7 < p || 65535 < room {
-        return false;
-    }
-    e - b <= room
+    b <= e && e <= n && n <= row && p <= 7 && room <= 65535 && e - b <= room
 }
 
 // Lays the letters at places b to e - 1 anew, if they are an arc. Returns how many letters the word then has.
@@ -63,10 +42,9 @@ fn relay_inside(
     requires { Fits n b e p (length codes.old) (length out.old) × (e - b ≤ length plan.now) }
     ensures { Relayed n b e p under plan.now codes.old codes.new result }
 {
-    let m = lay(&codes[b..e], p, under, plan, out);
-    if e - b < m {
+    let Some(m) = lay(&codes[b..e], p, under, plan, out) else {
         return n;
-    }
+    };
     replace(&mut codes[b..n], e - b, &out[..m]);
     n - (e - b - m)
 }
@@ -85,10 +63,7 @@ pub fn relay(
 ) -> usize
     ensures { Relayed n b e p under plan.now codes.old codes.new result }
 {
-    if !fits(n, b, e, p, codes.len(), out.len()) {
-        return n;
-    }
-    if plan.len() < e - b {
+    if !fits(n, b, e, p, codes.len(), out.len()) || plan.len() < e - b {
         return n;
     }
     relay_inside(codes, n, b, e, p, under, plan, out)

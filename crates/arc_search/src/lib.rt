@@ -78,11 +78,12 @@ pub fn search(codes: &mut [u8], n: usize, effort: u16) -> usize
     let mut out = [0u8; PART];
     let mut count = n;
     let mut drawn = 1;
-    let mut steps = n * effort as usize;
-    while 0 < steps && 0 < count {
+    for _ in 0..n * usize::from(effort) {
+        if count == 0 {
+            break;
+        }
         drawn = next(drawn);
         count = one_step(codes, count, drawn, &mut plan, &mut out);
-        steps -= 1;
     }
     count
 }

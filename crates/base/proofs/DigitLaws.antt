@@ -1,7 +1,7 @@
 -- Laws of digits: how many there are; the number that digits write, and the digits of a number, each the inverse of the
 -- other; rows that are joined; half bytes one by one. "All below b" covers every place, also past the end, where `get_or`
 -- gives 0.
-use Prim.Native.Nat.{ℕ, zero, suc, ◌+◌, ◌-◌, ◌*◌, ◌/◌, ◌%◌, ◌^◌, ◌≤◌, ◌<◌}
+use Prim.Native.Nat.{ℕ, zero, suc, ◌+◌, ◌*◌, ◌/◌, ◌%◌, ◌^◌, ◌<◌}
 use mathlib.Core.Path.{◌≡◌, refl, sym, ap, ap₂, ◌∙◌}
 use mathlib.Core.Bool.{Bool, true, ◌&&◌}
 use mathlib.Core.List.{List, [], ◌∷◌, ◌++◌}
@@ -76,11 +76,6 @@ value_snoc b xs x =
 value_two : (b x y : ℕ) → value b (x ∷ y ∷ []) ≡ x * b + y
 unfolding value
 value_two b x y = value_snoc b (x ∷ []) y ∙ ap (λ (v : ℕ). v * b + y) (value_snoc b [] x ∙ rw (zero-mul b, zero-add x))
-
-pub value_first_two : (b : ℕ) (xs : List ℕ) → 2 ≤ length xs → value b (take 2 xs) ≡ get_or xs 0 0 * b + get_or xs 1 0
-value_first_two b [] h = absurd (omega arith)
-value_first_two b (x ∷ []) h = absurd (omega arith)
-value_first_two b (x ∷ y ∷ xs) h = value_two b x y
 
 -- n digits below b write a number below b to the power n
 pub value_below : (b : ℕ) (xs : List ℕ) → ((k : ℕ) → get_or xs k 0 < b) → value b xs < b ^ length xs

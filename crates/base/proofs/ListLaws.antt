@@ -10,6 +10,7 @@ use native.Mathlib.Omega.{arith}
 use native.Mathlib.Decide.{ℕ_discrete}
 use borrow.Author.Tests.{eqb-true, eq-eqb}
 use lib.Dec.{eqb}
+use lib.Pointwise.{pointwise}
 use lib.ListN.{length, take, drop, get_or, set, length-append, length-take, length-drop, take-append-drop}
 use lib.Seq.{take-suc, drop-cons, length-take-le, drop-nil, drop-drop, drop-length, take-length, take_all, take_at}
 use lib.Seq.{drop_at, set_at, append_snoc, take-append_seam, drop-append_seam, drop-append-le, ext_get_or}
@@ -156,9 +157,6 @@ values_of f n l e h =
     ext_get_or 0 l (values f n) (e ∙ sym (length_values f 0 n))
     (λ k b. let b' : k < n = omega arith in h k b' ∙ sym (get_d_values f n k b'))
 
-pub values_get_d : (l : List ℕ) (n : ℕ) → length l ≡ n → values (λ k. get_or l k 0) n ≡ l
-values_get_d l n e = sym (values_of (λ k. get_or l k 0) n l e (λ k b. refl))
-
 -- a loop that fills a list: it has the values at the places before i, and then also at i
 pub one_more : (f : ℕ → ℕ) (l : List ℕ) (i v : ℕ) → i < length l → ((k : ℕ) → k < i → get_or l k 0 ≡ f k) → v ≡ f i
     → (k : ℕ) → k < i + 1 → get_or (set l i v) k 0 ≡ f k
@@ -185,6 +183,14 @@ equal_true (x ∷ xs) (y ∷ ys) e =
     ap₂ (λ (z : ℕ) (zs : List ℕ). z ∷ zs) (eqb-true x y (and_left (eqb x y) (equal xs ys) e))
     (equal_true xs ys (and_right (eqb x y) (equal xs ys) e))
 
+-- what `==` computes of two slices
+pub pointwise_equal : (xs ys : List ℕ) → pointwise eqb xs ys ≡ equal xs ys
+unfolding equal
+pointwise_equal [] [] = refl
+pointwise_equal [] (y ∷ ys) = refl
+pointwise_equal (x ∷ xs) [] = refl
+pointwise_equal (x ∷ xs) (y ∷ ys) = ap (λ (b : Bool). eqb x y && b) (pointwise_equal xs ys)
+
 pub equal_refl : (xs : List ℕ) → equal xs xs ≡ true
 unfolding equal
 equal_refl [] = refl
@@ -195,10 +201,6 @@ equal_of {xs} e = ap (equal xs) (sym e) ∙ equal_refl xs
 
 pub equal_false : (xs ys : List ℕ) → (xs ≡ ys → ⊥) → equal xs ys ≡ false
 equal_false xs ys h = not_true_false (equal xs ys) (λ t. h (equal_true xs ys t))
-
--- lists that differ at a place are not equal
-pub equal_refuted : (xs ys : List ℕ) (k : ℕ) → (get_or xs k 0 ≡ get_or ys k 0 → ⊥) → equal xs ys ≡ false
-equal_refuted xs ys k h = equal_false xs ys (λ e. h (ap (λ (l : List ℕ). get_or l k 0) e))
 
 -- ---- how many elements pass a test
 

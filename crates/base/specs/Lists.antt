@@ -1,6 +1,6 @@
 -- Lists of numbers: a test of every element, bytes, how often a number occurs, the first number that passes a test, the
 -- values of a function in a row, two lists compared, and the output after a writer.
-use Rattle.std.specs.Prelude.{ℕ, zero, suc, ◌+◌, ◌≡◌, Bool, true, false, cond, ◌&&◌, List, [], ◌∷◌, ◌++◌, eqb, ltb}
+use Rattle.std.specs.Prelude.{ℕ, zero, suc, ◌≡◌, Bool, true, false, cond, ◌&&◌, List, [], ◌∷◌, ◌++◌, eqb, ltb}
 use Rattle.std.specs.Prelude.{length, drop}
 
 -- every element passes the test

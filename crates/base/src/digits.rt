@@ -3,22 +3,14 @@ ghost use Rattle.std.specs.Prelude.{◌≡◌, ◌^◌, ◌≤◌, ◌<◌, leng
 ghost use Rattle.base.specs.Digits.{value, digits};
 ghost use Rattle.base.specs.Packing.{Below};
 
-fn wide(x: u8) -> u64
-    ensures { result ≡ x }
-{
-    x as u64
-}
-
 // The number that the digits write to the base.
 pub fn number(src: &[u8], base: u64) -> u64
     requires { Below base src.now × (base ^ length src.now ≤ 2 ^ 64) }
     ensures { result ≡ value base src.now }
 {
     let mut v: u64 = 0;
-    let mut i = 0;
-    while i < src.len() {
-        v = v * base + wide(src[i]);
-        i += 1;
+    for digit in src {
+        v = v * base + u64::from(*digit);
     }
     v
 }
@@ -29,9 +21,7 @@ pub fn spell(dst: &mut [u8], base: u64, number: u64)
     ensures { dst.new ≡ digits base (length dst.old) number }
 {
     let mut v = number;
-    let mut i = dst.len();
-    while 0 < i {
-        i -= 1;
+    for i in (0..dst.len()).rev() {
         dst[i] = (v % base) as u8;
         v /= base;
     }

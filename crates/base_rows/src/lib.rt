@@ -18,7 +18,7 @@ pub fn row_bytes(bits: usize, n: usize) -> usize
     requires { bits ≤ 8 }
     ensures { result ≡ row_bytes bits n }
 {
-    n / 8 * bits + (n % 8 * bits + 7) / 8
+    n / 8 * bits + (n % 8 * bits).div_ceil(8)
 }
 
 // How many numbers the filler bits after a row of n numbers can write. Eight numbers leave no filler, so only the last
@@ -28,7 +28,7 @@ pub fn filler_values(bits: usize, n: usize) -> u64
     ensures { result ≡ 2 ^ filler_bits bits n }
 {
     let last = n % 8 * bits;
-    power((last + 7) / 8 * 8 - last)
+    power(last.next_multiple_of(8) - last)
 }
 
 // Are all filler bits after a row of n numbers zero?
@@ -36,9 +36,8 @@ pub fn filler_is_zero(bytes: &[u8], bits: usize, n: usize) -> bool
     requires { (bits ≤ 8) × (length bytes.now ≡ row_bytes bits n) }
     ensures { result ≡ eqb (row_filler bits n bytes.now) 0 }
 {
-    if bytes.len() == 0 {
-        return true;
+    match bytes.last() {
+        Some(last) => u64::from(*last) % filler_values(bits, n) == 0,
+        None => true,
     }
-    let last = bytes[bytes.len() - 1] as u64;
-    last % filler_values(bits, n) == 0
 }

@@ -52,7 +52,7 @@ codes_tested : every (λ c. eqb (c % 8) 7 || is_letter c) (values (λ c. c) 16) 
 unfolding values_from every
 codes_tested = refl
 
-pub is_letter_lem : (c : ℕ) → c < 16 → (c % 8 ≡ 7 → ⊥) → is_letter c ≡ true
+is_letter_lem : (c : ℕ) → c < 16 → (c % 8 ≡ 7 → ⊥) → is_letter c ≡ true
 is_letter_lem c h n =
     ap (λ (b : Bool). b || is_letter c) (sym (ne_eqb (c % 8) 7 n))
     ∙ every_values (λ c. eqb (c % 8) 7 || is_letter c) (λ k. k) 16 codes_tested c h

@@ -43,9 +43,8 @@ fn judge_copies(rt: &(impl Files + Env + Print + Eprint), n: usize) {
     if !first.read {
         return;
     }
-    let made = first.made;
     for i in 3..n {
-        judge_copy(rt, made, i);
+        judge_copy(rt, first.made, i);
     }
 }
 
@@ -53,17 +52,13 @@ fn judge_copies(rt: &(impl Files + Env + Print + Eprint), n: usize) {
 // more names the copies of a slip.
 fn main(rt: HostRuntime) {
     let rt = &rt;
-    let n = desk_io::arg_count(rt);
-    if n < 2 {
-        judge_input(rt);
-    } else if n == 4 {
-        judge_files(rt);
-    } else if 4 < n {
-        judge_copies(rt, n);
-    } else {
-        desk_io::misused(
+    match desk_io::arg_count(rt) {
+        0 | 1 => judge_input(rt),
+        2 | 3 => desk_io::misused(
             rt,
-            b"desk takes names of files, key, digest and one or more signatures, or none\n",
-        );
+            b"desk takes names of files, key, digest and one or more signatures, or none",
+        ),
+        4 => judge_files(rt),
+        n => judge_copies(rt, n),
     }
 }

@@ -20,16 +20,12 @@ pub fn word_text(input: &[u8; WORD_ROOM], got: Got) -> Text
     ensures tells_in { TellsIn text_size (word_text got input.now) result.bytes result.text }
     ensures enough_of_word { EnoughOfWord (length input.now) }
 {
-    let n = got.bytes;
-    let word = text::part(input, 0, n);
     if !got.read {
         return Text::none();
     }
-    let all = word_crossing::all_crossings(word);
-    let answer = all.answer;
-    if answer != 0 {
-        return desk_text::answer_text(answer);
+    let all = word_crossing::all_crossings(text::part(input, 0, got.bytes));
+    if all.answer != 0 {
+        return desk_text::answer_text(all.answer);
     }
-    let numbers = all.numbers;
-    line::lines(&numbers)
+    line::lines(&all.numbers)
 }

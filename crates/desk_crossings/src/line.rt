@@ -10,20 +10,14 @@ ghost use Rattle.desk_crossings.specs.steps.Range.{Numbers};
 
 use desk_text::{TEXT, Text};
 
-fn wide(x: u8) -> u32
-    ensures { result ≡ x }
-{
-    x as u32
-}
-
 // Writes the line of pair k behind the first `at` bytes of a text. Returns the place after it.
 fn line(text: &mut [u8], at: usize, k: usize, number: i32) -> usize
     requires { (at + 11 ≤ length text.old) × (k < 28) × (nat_abs number ≤ 10000) }
     ensures { Laid at (pair_line (pair_at k) number) text.old text.new result }
 {
     let two = word_crossing::pair_at(k);
-    let second = text::decimal(text, at, wide(two.smaller), b' ');
-    let third = text::decimal(text, second, wide(two.larger), b' ');
+    let second = text::decimal(text, at, u32::from(two.smaller), b' ');
+    let third = text::decimal(text, second, u32::from(two.larger), b' ');
     text::signed(text, third, number, b'\n')
 }
 
@@ -34,11 +28,8 @@ pub(crate) fn lines(numbers: &[i32; 28]) -> Text
 {
     let mut text = [0u8; TEXT];
     let mut at = 0;
-    let mut k = 0;
-    while k < 28 {
-        let number = numbers[k];
-        at = line(&mut text, at, k, number);
-        k += 1;
+    for (k, number) in numbers.iter().enumerate() {
+        at = line(&mut text, at, k, *number);
     }
     Text { text, bytes: at }
 }

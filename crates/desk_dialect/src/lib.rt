@@ -2,20 +2,21 @@
 // sizes are given in `desk_line`, so a program cannot hand in a buffer of another size.
 #![tactic(auto)]
 
-ghost use Rattle.std.specs.Prelude.{◌≤◌, ◌≡◌, true, false, length, take};
+ghost use Rattle.std.specs.Prelude.{◌≤◌, ◌≡◌, true, length, take};
 ghost use Rattle.desk_dialect.specs.Converting.{digit_shown, part_at, parts_of, Converts, EnoughToConvert};
 
 use desk_line::Got;
 use desk_words::Made;
 
 // The digit that a byte shows; 0 for a byte that shows none.
+// The result is no Option: the definition `digit_shown`, whose value is a part, gives 0.
 fn digit_of(b: u8) -> u8
     ensures { result ≡ digit_shown b }
 {
-    if (b'0' <= b) & (b <= b'9') {
-        return b - b'0';
+    match b {
+        b'0'..=b'9' => b - b'0',
+        _ => 0,
     }
-    0
 }
 
 // Part k of a text of digits with commas between them. The part is 0 if the text goes on after its digit without a
@@ -47,42 +48,20 @@ fn parts_of(text: &[u8], parts: &mut [u8]) -> usize
         return 0;
     }
     let n = text.len() / 2 + 1;
-    let mut k = 0;
-    while k < n {
+    for k in 0..n {
         parts[k] = part_at(text, k);
-        k += 1;
     }
     n
-}
-
-// The file could not be read: no answer.
-fn unread(way: bool, text: &[u8], word: &[u8]) -> Made
-    ensures { Converts way false (parts_of text.now) word.now result }
-{
-    Made {
-        read: false,
-        answer: Made::NO_ANSWER,
-        bytes: 0,
-        file: [0; word_store::MAX_STORED],
-    }
 }
 
 // A word turned into the other dialect.
 fn converted(way: bool, text: &[u8], word: &[u8]) -> Made
     ensures { Converts way true (parts_of text.now) word.now result }
 {
-    let mut parts = [0u8; 7];
-    let n = parts_of(text, &mut parts);
-    let mut file = [0u8; word_store::MAX_STORED];
-    let written = word_dialect::convert(way, word, &parts[..n], &mut file);
-    let answer = written.answer;
-    let bytes = written.bytes;
-    Made {
-        read: true,
-        answer,
-        bytes,
-        file,
-    }
+    let mut row = [0u8; 7];
+    let n = parts_of(text, &mut row);
+    let parts = &row[..n];
+    Made::by(|file| word_dialect::convert(way, word, parts, file))
 }
 
 // Turns the word in a file into the other dialect, to Y if `way` is true, by the parts that a text writes.
@@ -90,10 +69,8 @@ pub fn convert(way: bool, text: &[u8], word: &[u8; desk_line::WORD_ROOM], w: Got
     ensures converts { Converts way w.read (parts_of text.now) (take w.bytes word.now) result }
     ensures enough_to_convert { EnoughToConvert way (parts_of text.now) (length word.now) }
 {
-    let n = w.bytes;
-    let read = text::part(word, 0, n);
     if !w.read {
-        return unread(way, text, read);
+        return Made::unread();
     }
-    converted(way, text, read)
+    converted(way, text, text::part(word, 0, w.bytes))
 }

@@ -23,15 +23,16 @@ use Rattle.desk_handles.specs.declared.Taken.{Taken}
 -- ---- what is made
 
 -- the file could not be read
-pub none_taken : {limit : ℕ} {word : List ℕ} {taken : Taken} → Bare false no_answer taken.made → taken.left ≡ false
-    → TakesOut false limit word taken
+pub none_taken : {read : Bool} {limit : ℕ} {word : List ℕ} {taken : Taken} → read ≡ false
+    → Bare false no_answer taken.made → taken.left ≡ false → TakesOut read limit word taken
 unfolding is_left
-none_taken b e =
-    record {
+none_taken r b e =
+    rw r
+    (record {
       makes = unread _ _ refl b;
       left_is = e;
       keeps = λ z. absurd (omega (arith, b.answer_is));
-    }
+    })
 
 -- the file could be read, and the operation wrote to an output of zeros
 pub handles_taken : {limit : ℕ} {word : List ℕ} {taken : Taken} → taken.made.read ≡ true

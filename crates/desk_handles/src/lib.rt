@@ -2,7 +2,7 @@
 // cannot hand in a buffer of another size.
 #![tactic(auto)]
 
-ghost use Rattle.std.specs.Prelude.{true, false, length, take};
+ghost use Rattle.std.specs.Prelude.{true, length, take};
 ghost use Rattle.desk_handles.specs.Taking.{TakesOut, EnoughToTake};
 
 use desk_line::Got;
@@ -15,35 +15,22 @@ pub struct Taken {
     pub left: bool,
 }
 
-// The file could not be read: no answer.
-fn unread(word: &[u8], limit: u16) -> Taken
-    ensures { TakesOut false limit word.now result }
-{
-    let made = Made {
-        read: false,
-        answer: Made::NO_ANSWER,
-        bytes: 0,
-        file: [0; word_store::MAX_STORED],
-    };
-    Taken { made, left: false }
-}
-
 // Handles taken out of a word, in at most `limit` steps.
 fn handled(word: &[u8], limit: u16) -> Taken
     ensures { TakesOut true limit word.now result }
 {
     let mut file = [0u8; word_store::MAX_STORED];
     let handles = handle_reducer::handle_reduce(word, limit, &mut file);
-    let answer = handles.answer;
-    let bytes = handles.bytes;
-    let left = handles.left;
     let made = Made {
         read: true,
-        answer,
-        bytes,
+        answer: handles.answer,
+        bytes: handles.bytes,
         file,
     };
-    Taken { made, left }
+    Taken {
+        made,
+        left: handles.left,
+    }
 }
 
 // Takes handles out of the word in a file, in at most `limit` steps.
@@ -51,10 +38,11 @@ pub fn take_handles(word: &[u8; desk_line::WORD_ROOM], limit: u16, w: Got) -> Ta
     ensures takes_out { TakesOut w.read limit (take w.bytes word.now) result }
     ensures enough_to_take { EnoughToTake limit (length word.now) }
 {
-    let n = w.bytes;
-    let read = text::part(word, 0, n);
     if !w.read {
-        return unread(read, limit);
+        return Taken {
+            made: Made::unread(),
+            left: false,
+        };
     }
-    handled(read, limit)
+    handled(text::part(word, 0, w.bytes), limit)
 }

@@ -1,7 +1,7 @@
 // Reads files and writes lines. It decides nothing about the bytes.
 #![tactic(auto)]
 
-ghost use Rattle.std.specs.Prelude.{◌≡◌, pos, false, length, Some, IfOk, IsUtf8, MatchResult};
+ghost use Rattle.std.specs.Prelude.{◌≤◌, ◌≡◌, pos, false, length, Some, IfOk, IsUtf8, MatchResult};
 ghost use Rattle.std.specs.IoError.{raw_os_error};
 ghost use Rattle.io.specs.Counts.{IsPrefixLen};
 ghost use Rattle.desk_line.specs.Desk.{GotOf};
@@ -68,9 +68,7 @@ pub fn say(rt: &(impl Print + Eprint), bytes: &[u8]) {
 pub fn tell(rt: &(impl Print + Eprint), line: Line)
     requires { IsPrefixLen line.bytes line.text }
 {
-    let text = line.text;
-    let n = line.bytes;
-    say(rt, &text[..n]);
+    say(rt, &line.text[..line.bytes]);
 }
 
 // Reports on standard error that a file could not be read, and returns what such a reading gives.
@@ -81,21 +79,30 @@ fn unread(rt: &impl Eprint, path: &[u8], why: Error) -> Got
     Got::unread()
 }
 
-// Reads an open file into `buf`, until the buffer is full or the file ends.
-pub fn fill(rt: &impl Eprint, from: &mut impl Read, path: &[u8], buf: &mut [u8]) -> Got
-    ensures { GotOf (length buf.new) result }
+// Reads into `buf` until the buffer is full, the input ends or a read fails. Returns how many bytes there are, and the
+// error of a read that failed.
+fn read_into(from: &mut impl Read, buf: &mut [u8]) -> (usize, Result<(), Error>)
+    ensures { IsPrefixLen result.0 buf.new }
 {
     let mut n = 0;
+    // No count of elements: the place moves on by what each read gives.
     while n < buf.len() {
         match from.read(&mut buf[n..]) {
             Ok(0) => break,
             Ok(more) => n += more,
-            Err(why) => return unread(rt, path, why),
+            Err(why) => return (n, Err(why)),
         }
     }
-    Got {
-        read: true,
-        bytes: n,
+    (n, Ok(()))
+}
+
+// Reads an open file into `buf`, until the buffer is full or the file ends.
+pub fn fill(rt: &impl Eprint, from: &mut impl Read, path: &[u8], buf: &mut [u8]) -> Got
+    ensures { GotOf (length buf.new) result }
+{
+    match read_into(from, buf) {
+        (bytes, Ok(())) => Got { read: true, bytes },
+        (_, Err(why)) => unread(rt, path, why),
     }
 }
 
@@ -103,19 +110,14 @@ pub fn fill(rt: &impl Eprint, from: &mut impl Read, path: &[u8], buf: &mut [u8])
 pub fn read_full(from: &mut impl Read, buf: &mut [u8]) -> usize
     ensures { IsPrefixLen result buf.new }
 {
-    let mut n = 0;
-    while n < buf.len() {
-        match from.read(&mut buf[n..]) {
-            Ok(0) | Err(_) => break,
-            Ok(more) => n += more,
-        }
-    }
+    let (n, _) = read_into(from, buf);
     n
 }
 
 // Says on standard error which arguments a program takes.
 pub fn misused(rt: &impl Eprint, takes: &[u8]) {
-    let _ = rt.eprint(Shown(takes));
+    let takes = Shown(takes);
+    let _ = eprintln!(rt; "{takes}");
 }
 
 // How many arguments the program has, its own name among them.
@@ -133,21 +135,22 @@ pub fn arg_count(rt: &impl Env) -> usize {
 pub fn argument(rt: &impl Env, i: usize, buf: &mut [u8]) -> Result<usize, Error>
     ensures { IfOk result (λ n. IsPrefixLen n buf.new) }
 {
-    match rt.arg(i, buf) {
-        Ok(n) => Ok(n),
-        Err(FillError::NotPresent) => Err(Error::from_raw_os_error(MISSING)),
-        Err(FillError::TooLong) => Err(Error::from_raw_os_error(TOO_LONG)),
-    }
+    rt.arg(i, buf).map_err(|why| {
+        Error::from_raw_os_error(match why {
+            FillError::NotPresent => MISSING,
+            FillError::TooLong => TOO_LONG,
+        })
+    })
 }
 
-// The length of argument i, which is written to the front of a buffer. It is 0 if the argument is missing or longer
-// than the buffer.
-pub fn argument_or_none(rt: &impl Env, i: usize, buf: &mut [u8]) -> usize
-    ensures { IsPrefixLen result buf.new }
+// Argument i, which is written to the front of a buffer. It is empty if the argument is missing or longer than the
+// buffer.
+pub fn argument_or_empty<'a>(rt: &impl Env, i: usize, buf: &'a mut [u8]) -> &'a [u8]
+    ensures { length result.now ≤ length buf.old }
 {
     match argument(rt, i, buf) {
-        Ok(n) => n,
-        Err(_) => 0,
+        Ok(n) => &buf[..n],
+        Err(_) => &[],
     }
 }
 
@@ -156,10 +159,7 @@ pub fn path(name: &[u8]) -> Result<&str, Error>
     ensures { MatchResult result (λ text. text.now ≡ name.now)
         (λ why. ¬ (IsUtf8 name.now) × (raw_os_error why ≡ Some (pos 84))) }
 {
-    match from_utf8(name) {
-        Ok(path) => Ok(path),
-        Err(_) => Err(Error::from_raw_os_error(NOT_UTF_8)),
-    }
+    from_utf8(name).map_err(|_| Error::from_raw_os_error(NOT_UTF_8))
 }
 
 // Opens a file for reading.

@@ -35,27 +35,19 @@ impl Line {
         ensures { Tells no_answer_line result.bytes result.text }
     {
         Line {
-            text: [
-                b'n', b'o', b' ', b'a', b'n', b's', b'w', b'e', b'r', b'\n', 0,
-            ],
+            text: *b"no answer\n\0",
             bytes: 10,
         }
     }
-}
-
-fn wide(x: u8) -> u32
-    ensures { result ≡ x }
-{
-    x as u32
 }
 
 // "answer ", the decimal number, a line end.
 pub fn answer_line(answer: u8) -> Line
     ensures { Tells (answer_line answer) result.bytes result.text }
 {
-    let mut line = [b'a', b'n', b's', b'w', b'e', b'r', b' ', 0, 0, 0, 0];
-    let bytes = text::decimal(&mut line, 7, wide(answer), b'\n');
-    Line { text: line, bytes }
+    let mut text = *b"answer \0\0\0\0";
+    let bytes = text::decimal(&mut text, 7, u32::from(answer), b'\n');
+    Line { text, bytes }
 }
 
 // What reading a file gave: could the file be read, and how many bytes of its buffer were filled?
@@ -77,14 +69,8 @@ impl Got {
     }
 }
 
-pub fn both(a: bool, b: bool) -> bool
-    ensures { result ≡ a && b }
-{
-    a && b
-}
-
 pub fn all_read(k: Got, d: Got, w: Got) -> bool
     ensures { result ≡ k.read && d.read && w.read }
 {
-    both(both(k.read, d.read), w.read)
+    k.read && d.read && w.read
 }

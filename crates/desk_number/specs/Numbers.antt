@@ -1,5 +1,5 @@
 -- Numbers that the desk's programs take as arguments, in decimal.
-use Rattle.std.specs.Prelude.{ℕ, ◌-◌, cond, ◌&&◌, List, map, ltb}
+use Rattle.std.specs.Prelude.{ℕ, ◌-◌, cond, ◌&&◌, List, map, ltb, Option, Some, None}
 use Rattle.base.specs.Lists.{equal}
 use Rattle.base.specs.Digits.{value}
 use Rattle.text.specs.Decimal.{decimal}
@@ -13,3 +13,8 @@ shown_number text = value 10 (map (λ x. x - 48) text)
 unfoldable pub number_of : List ℕ → ℕ
 number_of argument =
     let n : ℕ = shown_number argument in cond (equal argument (decimal n) && ltb n 65536) n 65536
+
+-- a number, or 65,536 in place of none
+abbrev pub number_or_none : Option ℕ → ℕ
+number_or_none (Some n) = n
+number_or_none None = 65536

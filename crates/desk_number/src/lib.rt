@@ -4,19 +4,13 @@
 ghost use Rattle.std.specs.Prelude.{◌-◌, ◌≤◌, ◌<◌, ◌≡◌, length};
 ghost use Rattle.base.specs.Lists.{equal as equalTo};
 ghost use Rattle.text.specs.Decimal.{decimal};
-ghost use Rattle.desk_number.specs.Numbers.{shown_number, number_of};
-
-// The least number that is too large. It stands for an argument that writes no number.
-pub const NONE: usize = 65536;
+ghost use Rattle.desk_number.specs.Numbers.{shown_number, number_of, number_or_none};
 
 // The digit that a byte shows. A byte before '0' counts as 0.
 fn digit(b: u8) -> u64
     ensures { (result ≡ b - 48) × (result < 256) }
 {
-    if b < b'0' {
-        return 0;
-    }
-    (b - b'0') as u64
+    u64::from(b.saturating_sub(b'0'))
 }
 
 // The number that up to five digits show.
@@ -25,37 +19,30 @@ fn shown(text: &[u8]) -> u64
     ensures { result ≡ shown_number text.now }
 {
     let mut v: u64 = 0;
-    let mut i = 0;
-    while i < text.len() {
-        v = v * 10 + digit(text[i]);
-        i += 1;
+    for b in text {
+        v = v * 10 + digit(*b);
     }
     v
 }
 
 // Does an argument write this number in decimal?
-pub fn writes(argument: &[u8], number: u32) -> bool
-    requires { number < 65536 }
+pub fn writes(argument: &[u8], number: u16) -> bool
     ensures { result ≡ equalTo argument.now (decimal number) }
 {
     let mut text = [0u8; 6];
-    let end = text::decimal(&mut text, 0, number, b'\n');
+    let end = text::decimal(&mut text, 0, u32::from(number), b'\n');
     base::equal(argument, &text[..end - 1])
 }
 
 // The number that an argument writes. No sign, no space and no zero in front of other digits may stand in it.
-pub fn number_of(argument: &[u8]) -> usize
-    ensures { result ≡ number_of argument.now }
+pub fn number_of(argument: &[u8]) -> Option<u16>
+    ensures { number_or_none result ≡ number_of argument.now }
 {
     if 5 < argument.len() {
-        return NONE;
+        return None;
     }
-    let n = shown(argument);
-    if 65535 < n {
-        return NONE;
-    }
-    if !writes(argument, n as u32) {
-        return NONE;
-    }
-    n as usize
+    let Ok(n) = u16::try_from(shown(argument)) else {
+        return None;
+    };
+    if writes(argument, n) { Some(n) } else { None }
 }

@@ -2,9 +2,6 @@
 // it is complete.
 #![tactic(auto)]
 
-ghost use Rattle.std.specs.Prelude.{IfSome};
-ghost use Rattle.io.specs.Counts.{IsPrefixLen};
-
 use desk_io::NAME_ROOM;
 use std::fs;
 use std::fs::{OpenFile, OpenOptions};
@@ -67,13 +64,11 @@ fn put(rt: &(impl Files + Eprint), beside: &[u8], new: &[u8], bytes: &[u8], alon
     }
 }
 
-// The length of the name of a file, argument i, which is written to the front of a buffer. If that fails, a line on
-// standard error says so.
-fn name(rt: &(impl Env + Eprint), i: usize, buf: &mut [u8]) -> Option<usize>
-    ensures { IfSome result (λ n. IsPrefixLen n buf.new) }
-{
+// The name of a file, argument i, which is written to the front of a buffer. If that fails, a line on standard error
+// says so.
+fn name<'a>(rt: &(impl Env + Eprint), i: usize, buf: &'a mut [u8]) -> Option<&'a [u8]> {
     match desk_io::argument(rt, i, buf) {
-        Ok(n) => Some(n),
+        Ok(n) => Some(&buf[..n]),
         Err(why) => {
             desk_io::report(rt, b"name of a file", why);
             None
@@ -90,14 +85,14 @@ pub fn put_at(
     alone: bool,
 ) -> bool {
     let mut first = [0u8; NAME_ROOM];
-    let Some(n) = name(rt, beside, &mut first) else {
+    let Some(beside) = name(rt, beside, &mut first) else {
         return false;
     };
     let mut second = [0u8; NAME_ROOM];
-    let Some(m) = name(rt, new, &mut second) else {
+    let Some(new) = name(rt, new, &mut second) else {
         return false;
     };
-    put(rt, &first[..n], &second[..m], bytes, alone)
+    put(rt, beside, new, bytes, alone)
 }
 
 // The line of an answer.

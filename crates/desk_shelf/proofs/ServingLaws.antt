@@ -1,7 +1,7 @@
 -- What a verb gives, from what its parts give: where a file could not be read, where the first file is no shelf, and
 -- where the work is done on the shelf.
 use Prim.Native.Nat.{ℕ, ◌-◌, ◌≤◌, ◌<◌}
-use mathlib.Core.Path.{◌≡◌, sym, ap, ap₂, ◌∙◌, transport}
+use mathlib.Core.Path.{◌≡◌, refl, sym, ap, ap₂, ◌∙◌, transport}
 use mathlib.Core.Bool.{Bool, true, false, cond, ◌&&◌, ◌||◌}
 use mathlib.Core.List.{List}
 use mathlib.Core.Logic.{⊎_elim}
@@ -17,6 +17,7 @@ use Rattle.shelf.specs.Calls.{Work, answer_to, after, Serves}
 use Rattle.shelf.proofs.SlotLaws.{one_of}
 use Rattle.desk_shelf.specs.Serving.{is_shelf, shelf_in, digit_of, unanswered, served_answer, served_shelf, ServesFile}
 use Rattle.desk_shelf.specs.declared.Served.{Served}
+use Rattle.desk_shelf.specs.steps.Work.{ServedBy}
 
 -- ---- one digit
 
@@ -101,7 +102,7 @@ unread file p work e w b =
     }
 
 -- the file is no shelf
-pub no_shelf : {served : Served} (file : List ℕ) (p : ℕ) (work : Work) → is_shelf file ≡ false → Bare true false served
+no_shelf : {served : Served} (file : List ℕ) (p : ℕ) (work : Work) → is_shelf file ≡ false → Bare true false served
     → ServesFile true file p work served
 no_shelf file p work e b =
     record {
@@ -112,7 +113,7 @@ no_shelf file p work e b =
     }
 
 -- the work is done on the shelf in the file
-pub on_shelf : {served : Served} (file : List ℕ) (p : ℕ) (work : Work) {shelf : List ℕ} → is_shelf file ≡ true
+on_shelf : {served : Served} (file : List ℕ) (p : ℕ) (work : Work) {shelf : List ℕ} → is_shelf file ≡ true
     → served.read ≡ true → served.whole ≡ true → shelf ≡ shelf_in file
     → Serves p work shelf served.shelf served.answer → ServesFile true file p work served
 on_shelf file p work e r w s d =
@@ -122,6 +123,23 @@ on_shelf file p work e r w s d =
       answer_is = d.answer_is ∙ ap (answer_to p work) s ∙ sym (answer_as file p work e);
       shelf_is = d.shelf_is ∙ ap (after p work) s ∙ sym (shelf_as file p work e);
     }
+
+-- what work serves, from what its contract says of each call
+pub served_by : {calls : List ℕ → ℕ → List ℕ → Type 0} {served : Served} (file : List ℕ) (p : ℕ) (work : Work)
+    → ServedBy file calls served
+    → ((old : List ℕ) (answer : ℕ) (new : List ℕ) → calls old answer new → Serves p work old new answer)
+    → ServesFile true file p work served
+served_by {served = served} file p work s f = go (is_shelf file) refl
+  where
+    go : (b : Bool) → is_shelf file ≡ b → ServesFile true file p work served
+    go true e = on_shelf file p work e s.read_is (s.whole_is ∙ e) refl (f _ _ _ (s.done e))
+    go false e = no_shelf file p work e
+        (record {
+          read_is = s.read_is;
+          whole_is = s.whole_is ∙ e;
+          answer_is = (s.none e).0;
+          shelf_is = (s.none e).1;
+        })
 
 -- what was read, the numbers and the work may be replaced by equal ones
 pub serves_as : {read : Bool} {f file : List ℕ} {q p : ℕ} {w work : Work} {served : Served} → read ≡ true → f ≡ file

@@ -2,11 +2,12 @@
 #![tactic(auto)]
 
 ghost use Rattle.std.specs.Prelude.{◌≡◌, true, length};
+ghost use Rattle.std.specs.Fn.{FnOnceReturnsAtMut};
 ghost use Rattle.shelf.specs.Shelves.{empty_shelf};
-ghost use Rattle.shelf.specs.Calls.{load, clear, judge, round};
-ghost use Rattle.desk_shelf.specs.Serving.{is_shelf, shelf_in, digit_of, unanswered, ServesFile, LoadsFile};
+ghost use Rattle.desk_shelf.specs.Serving.{is_shelf, shelf_in, digit_of, unanswered, LoadsFile};
 ghost use Rattle.desk_shelf.specs.Serving.{ClearsFile, JudgesFile, StartsRound, EnoughOfShelf, EnoughToLoad};
 ghost use Rattle.desk_shelf.specs.Serving.{EnoughToJudge};
+ghost use Rattle.desk_shelf.specs.steps.Work.{ServedBy};
 
 use desk_line::Got;
 
@@ -48,6 +49,7 @@ fn is_shelf(file: &[u8]) -> bool
 }
 
 // The number that a text of one digit writes. Any other text counts as 10.
+// The result is no Option: the definition `digit_of`, which `LoadsFile` and the others pass on as a number, gives 10.
 fn digit_of(text: &[u8]) -> usize
     ensures { result ≡ digit_of text.now }
 {
@@ -74,66 +76,16 @@ fn shelf_in(file: &[u8]) -> [u8; shelf_calls::SHELF_BYTES]
     shelf
 }
 
-// A key loaded into the shelf in a file.
-fn loaded(file: &[u8], publisher: usize, number: usize, key: &[u8]) -> Served
-    ensures { ServesFile true file.now publisher (load number key.now) result }
+// A publisher's work on the shelf in a file.
+fn worked<F: FnOnce(&mut [u8; shelf_calls::SHELF_BYTES]) -> u8>(file: &[u8], work: F) -> Served
+    requires { F.IsAlwaysCallable work }
+    ensures { ServedBy file.now (FnOnceReturnsAtMut F.FnOnce work) result }
 {
     if !is_shelf(file) {
         return Served::none(true, false);
     }
     let mut shelf = shelf_in(file);
-    let answer = shelf_calls::load(&mut shelf, publisher, number, key);
-    Served {
-        read: true,
-        whole: true,
-        answer,
-        shelf,
-    }
-}
-
-// A number of the shelf in a file cleared.
-fn cleared(file: &[u8], publisher: usize, number: usize) -> Served
-    ensures { ServesFile true file.now publisher (clear number) result }
-{
-    if !is_shelf(file) {
-        return Served::none(true, false);
-    }
-    let mut shelf = shelf_in(file);
-    let answer = shelf_calls::clear(&mut shelf, publisher, number);
-    Served {
-        read: true,
-        whole: true,
-        answer,
-        shelf,
-    }
-}
-
-// A slip judged by the shelf in a file.
-fn judged(file: &[u8], publisher: usize, number: usize, digest: &[u8], word: &[u8]) -> Served
-    ensures { ServesFile true file.now publisher (judge number digest.now word.now) result }
-{
-    if !is_shelf(file) {
-        return Served::none(true, false);
-    }
-    let mut shelf = shelf_in(file);
-    let answer = shelf_calls::judge(&mut shelf, publisher, number, digest, word);
-    Served {
-        read: true,
-        whole: true,
-        answer,
-        shelf,
-    }
-}
-
-// A new round started on the shelf in a file.
-fn rounded(file: &[u8], publisher: usize) -> Served
-    ensures { ServesFile true file.now publisher round result }
-{
-    if !is_shelf(file) {
-        return Served::none(true, false);
-    }
-    let mut shelf = shelf_in(file);
-    let answer = shelf_calls::round(&mut shelf, publisher);
+    let answer = work(&mut shelf);
     Served {
         read: true,
         whole: true,
@@ -154,17 +106,15 @@ pub fn load(
     ensures loads_file { LoadsFile s k old.now publisher.now number.now key.now result }
     ensures enough_to_load { EnoughToLoad (length old.now) (length key.now) }
 {
-    let s_n = s.bytes;
-    let k_n = k.bytes;
-    let file = text::part(old, 0, s_n);
-    let k_read = text::part(key, 0, k_n);
+    let file = text::part(old, 0, s.bytes);
+    let read = s.read & k.read;
+    if !read {
+        return Served::none(false, is_shelf(file));
+    }
     let p = digit_of(publisher);
     let n = digit_of(number);
-    if !desk_line::both(s.read, k.read) {
-        let whole = is_shelf(file);
-        return Served::none(false, whole);
-    }
-    loaded(file, p, n, k_read)
+    let key = text::part(key, 0, k.bytes);
+    worked(file, |shelf| shelf_calls::load(shelf, p, n, key))
 }
 
 // Clears a number.
@@ -172,15 +122,13 @@ pub fn clear(old: &[u8; SHELF_ROOM], publisher: &[u8], number: &[u8], s: Got) ->
     ensures clears_file { ClearsFile s old.now publisher.now number.now result }
     ensures enough_of_shelf { EnoughOfShelf (length old.now) }
 {
-    let s_n = s.bytes;
-    let file = text::part(old, 0, s_n);
+    let file = text::part(old, 0, s.bytes);
+    if !s.read {
+        return Served::none(false, is_shelf(file));
+    }
     let p = digit_of(publisher);
     let n = digit_of(number);
-    if !s.read {
-        let whole = is_shelf(file);
-        return Served::none(false, whole);
-    }
-    cleared(file, p, n)
+    worked(file, |shelf| shelf_calls::clear(shelf, p, n))
 }
 
 // Starts a new round.
@@ -188,14 +136,12 @@ pub fn round(old: &[u8; SHELF_ROOM], publisher: &[u8], s: Got) -> Served
     ensures starts_round { StartsRound s old.now publisher.now result }
     ensures enough_of_shelf { EnoughOfShelf (length old.now) }
 {
-    let s_n = s.bytes;
-    let file = text::part(old, 0, s_n);
-    let p = digit_of(publisher);
+    let file = text::part(old, 0, s.bytes);
     if !s.read {
-        let whole = is_shelf(file);
-        return Served::none(false, whole);
+        return Served::none(false, is_shelf(file));
     }
-    rounded(file, p)
+    let p = digit_of(publisher);
+    worked(file, |shelf| shelf_calls::round(shelf, p))
 }
 
 // Judges the digest and the signature in two files. The shelf to write has the slip's letters charged on 0 and on 14.
@@ -213,17 +159,13 @@ pub fn judge(
         word.now result }
     ensures enough_to_judge { EnoughToJudge (length old.now) (length digest.now) (length word.now) }
 {
-    let s_n = s.bytes;
-    let d_n = d.bytes;
-    let w_n = w.bytes;
-    let file = text::part(old, 0, s_n);
-    let d_read = text::part(digest, 0, d_n);
-    let w_read = text::part(word, 0, w_n);
+    let file = text::part(old, 0, s.bytes);
+    if !desk_line::all_read(s, d, w) {
+        return Served::none(false, is_shelf(file));
+    }
     let p = digit_of(publisher);
     let n = digit_of(number);
-    if !desk_line::all_read(s, d, w) {
-        let whole = is_shelf(file);
-        return Served::none(false, whole);
-    }
-    judged(file, p, n, d_read, w_read)
+    let digest = text::part(digest, 0, d.bytes);
+    let word = text::part(word, 0, w.bytes);
+    worked(file, |shelf| shelf_calls::judge(shelf, p, n, digest, word))
 }

@@ -9,7 +9,7 @@ ghost use Rattle.desk_slip.specs.Slips.{cut_verdict, desk_verdict, input_line, f
 ghost use Rattle.desk_slip.specs.Slips.{EnoughOfInput, EnoughOfFiles};
 ghost use Rattle.desk_slip.specs.Copies.{FirstHalfOf, copy_answer, GivesVerdicts, copy_line, slip_line};
 
-use desk_line::{DIGEST_ROOM, Got, KEY_ROOM, Line, WORD_ROOM, all_read, answer_line, both};
+use desk_line::{DIGEST_ROOM, Got, KEY_ROOM, Line, WORD_ROOM, all_read, answer_line};
 use slip_verdict::Halved;
 
 // The bytes of a key and of a digest, over GF(32) and over GF(256).
@@ -62,12 +62,10 @@ pub fn input_line(input: &[u8; INPUT_ROOM], got: Got) -> Line
     ensures tells { Tells (input_line got input.now) result.bytes result.text }
     ensures enough_of_input { EnoughOfInput (length input.now) }
 {
-    let n = got.bytes;
-    let slip = text::part(input, 0, n);
     if !got.read {
         return Line::none();
     }
-    answer_line(judged(slip))
+    answer_line(judged(text::part(input, 0, got.bytes)))
 }
 
 // The line for a slip in three files. If one of them could not be read, there is no line.
@@ -82,16 +80,13 @@ pub fn files_line(
     ensures tells { Tells (files_line k d w key.now digest.now word.now) result.bytes result.text }
     ensures enough_of_files { EnoughOfFiles (length key.now) (length digest.now) (length word.now) }
 {
-    let k_n = k.bytes;
-    let d_n = d.bytes;
-    let w_n = w.bytes;
-    let k_read = text::part(key, 0, k_n);
-    let d_read = text::part(digest, 0, d_n);
-    let w_read = text::part(word, 0, w_n);
     if !all_read(k, d, w) {
         return Line::none();
     }
-    answer_line(slip_verdict::verify(k_read, d_read, w_read))
+    let key = text::part(key, 0, k.bytes);
+    let digest = text::part(digest, 0, d.bytes);
+    let word = text::part(word, 0, w.bytes);
+    answer_line(slip_verdict::verify(key, digest, word))
 }
 
 // The line for one of several slips in files. If one of its three files could not be read, the line is "no answer".
@@ -106,11 +101,10 @@ pub fn slip_line(
     ensures tells { Tells (slip_line k d w key.now digest.now word.now) result.bytes result.text }
     ensures enough_of_files { EnoughOfFiles (length key.now) (length digest.now) (length word.now) }
 {
-    let line = files_line(key, digest, word, k, d, w);
     if !all_read(k, d, w) {
         return Line::no_answer();
     }
-    line
+    files_line(key, digest, word, k, d, w)
 }
 
 // What key and digest give for all copies of a slip: could both files be read, and the first half of the verdict on the
@@ -127,13 +121,12 @@ pub fn first_half(key: &[u8; KEY_ROOM], digest: &[u8; DIGEST_ROOM], k: Got, d: G
     ensures first_half_of { FirstHalfOf k d key.now digest.now result.read result.made }
     ensures enough_of_files { EnoughOfFiles (length key.now) (length digest.now) 5003 }
 {
-    let k_n = k.bytes;
-    let d_n = d.bytes;
-    let k_read = text::part(key, 0, k_n);
-    let d_read = text::part(digest, 0, d_n);
-    let read = both(k.read, d.read);
-    let made = slip_verdict::first_half(k_read, d_read);
-    FirstHalf { read, made }
+    let key = text::part(key, 0, k.bytes);
+    let digest = text::part(digest, 0, d.bytes);
+    FirstHalf {
+        read: k.read & d.read,
+        made: slip_verdict::first_half(key, digest),
+    }
 }
 
 // The answer to a copy: the first half's refusal, or the answer of the second.
@@ -144,8 +137,7 @@ fn copy_answer(made: Halved, word: &[u8]) -> u8
     if refusal != 0 {
         return refusal;
     }
-    let half = made.half;
-    slip_verdict::second_half(half, word)
+    slip_verdict::second_half(made.half, word)
 }
 
 // The line for a copy. If the copy could not be read, the line is "no answer".
@@ -154,10 +146,8 @@ pub fn copy_line(made: Halved, word: &[u8; WORD_ROOM], w: Got) -> Line
     ensures gives_verdicts { GivesVerdicts made }
     ensures enough_of_files { EnoughOfFiles 129 65 (length word.now) }
 {
-    let n = w.bytes;
-    let w_read = text::part(word, 0, n);
     if !w.read {
         return Line::no_answer();
     }
-    answer_line(copy_answer(made, w_read))
+    answer_line(copy_answer(made, text::part(word, 0, w.bytes)))
 }

@@ -15,12 +15,10 @@ fn spread_text(length: usize) -> Text
     ensures { TellsIn text_size (spread_text length) result.bytes result.text }
 {
     let all = word_spread::all_endings(length);
-    let answer = all.answer;
-    if answer != 0 {
-        return desk_text::answer_text(answer);
+    if all.answer != 0 {
+        return desk_text::answer_text(all.answer);
     }
-    let numbers = all.numbers;
-    line::lines(&numbers)
+    line::lines(&all.numbers)
 }
 
 // What is written without an argument: length 2.
@@ -31,15 +29,14 @@ pub fn usual_text() -> Text
 }
 
 // The length that an argument writes, 0 to 12; 13 for any other argument.
+// The result is no Option: the definition `length_of`, whose value goes into `spread_text`, gives 13.
 fn length_of(argument: &[u8]) -> usize
     ensures { result ≡ length_of argument.now }
 {
-    let mut n = 0;
-    while n < 13 {
-        if desk_number::writes(argument, n as u32) {
-            return n;
+    for n in 0..13u16 {
+        if desk_number::writes(argument, n) {
+            return usize::from(n);
         }
-        n += 1;
     }
     13
 }

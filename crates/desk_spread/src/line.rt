@@ -10,19 +10,13 @@ ghost use Rattle.desk_spread.specs.steps.Numbers.{Shown};
 
 use desk_text::{TEXT, Text};
 
-fn wide(x: u8) -> u32
-    ensures { result ≡ x }
-{
-    x as u32
-}
-
 // Writes two labels, each with a space after it, behind the first `at` bytes of a text. Returns the place after them.
 fn two_labels(text: &mut [u8], at: usize, a: u8, b: u8) -> usize
     requires { (at + 4 ≤ length text.old) × (a < 10) × (b < 10) }
     ensures { Laid at (decimal a ++ (32 ∷ []) ++ (decimal b ++ (32 ∷ []))) text.old text.new result }
 {
-    let second = text::decimal(text, at, wide(a), b' ');
-    text::decimal(text, second, wide(b), b' ')
+    let second = text::decimal(text, at, u32::from(a), b' ');
+    text::decimal(text, second, u32::from(b), b' ')
 }
 
 // Writes the line of list k behind the first `at` bytes of a text. Returns the place after it.
@@ -43,11 +37,8 @@ pub(crate) fn lines(numbers: &[u32; 24]) -> Text
 {
     let mut text = [0u8; TEXT];
     let mut at = 0;
-    let mut k = 0;
-    while k < 24 {
-        let number = numbers[k];
-        at = line(&mut text, at, k, number);
-        k += 1;
+    for (k, number) in numbers.iter().enumerate() {
+        at = line(&mut text, at, k, *number);
     }
     Text { text, bytes: at }
 }

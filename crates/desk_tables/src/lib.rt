@@ -14,9 +14,7 @@ use std::rt::{Env, Files};
 fn tell_text(rt: &(impl Print + Eprint), t: Text)
     requires { IsPrefixLen t.bytes t.text }
 {
-    let text = t.text;
-    let n = t.bytes;
-    desk_io::say(rt, &text[..n]);
+    desk_io::say(rt, &t.text[..t.bytes]);
 }
 
 // Lists the crossings of the word on standard input.
@@ -37,16 +35,10 @@ fn crossings_file(rt: &(impl Files + Env + Print + Eprint)) {
 // The program that lists crossings. Without arguments it takes the word on standard input, and with a name the word in
 // that file.
 pub fn crossings(rt: &(impl Files + Env + Input + Print + Eprint)) {
-    let n = desk_io::arg_count(rt);
-    if n < 2 {
-        crossings_input(rt);
-    } else if n == 2 {
-        crossings_file(rt);
-    } else {
-        desk_io::misused(
-            rt,
-            b"crossings takes the name of a file, the word, or none\n",
-        );
+    match desk_io::arg_count(rt) {
+        0 | 1 => crossings_input(rt),
+        2 => crossings_file(rt),
+        _ => desk_io::misused(rt, b"crossings takes the name of a file, the word, or none"),
     }
 }
 
@@ -57,20 +49,17 @@ fn spread_usual(rt: &(impl Print + Eprint)) {
 
 // How words of the length that the argument writes spread. An argument that is longer than the buffer counts as empty.
 fn spread_length(rt: &(impl Env + Print + Eprint)) {
-    let mut argument = [0u8; NAME_ROOM];
-    let n = desk_io::argument_or_none(rt, 1, &mut argument);
-    tell_text(rt, desk_spread::argument_text(&argument[..n]));
+    let mut room = [0u8; NAME_ROOM];
+    let argument = desk_io::argument_or_empty(rt, 1, &mut room);
+    tell_text(rt, desk_spread::argument_text(argument));
 }
 
 // The program that prints how words spread. Without an argument it takes words of the usual length, and with a length
 // words of that length.
 pub fn spread(rt: &(impl Env + Print + Eprint)) {
-    let n = desk_io::arg_count(rt);
-    if n < 2 {
-        spread_usual(rt);
-    } else if n == 2 {
-        spread_length(rt);
-    } else {
-        desk_io::misused(rt, b"spread takes a length, 0 to 12, or none\n");
+    match desk_io::arg_count(rt) {
+        0 | 1 => spread_usual(rt),
+        2 => spread_length(rt),
+        _ => desk_io::misused(rt, b"spread takes a length, 0 to 12, or none"),
     }
 }

@@ -33,9 +33,8 @@ pub fn answer_text(answer: u8) -> Text
     ensures { TellsIn text_size (answer_line answer) result.bytes result.text }
 {
     let line = desk_line::answer_line(answer);
-    let shown = line.text;
     let bytes = line.bytes;
     let mut text = [0u8; TEXT];
-    base::put(&mut text, &shown[..bytes]);
+    base::put(&mut text, &line.text[..bytes]);
     Text { text, bytes }
 }

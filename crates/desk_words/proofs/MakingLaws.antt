@@ -11,9 +11,10 @@ use Rattle.base.specs.Lists.{overlaid}
 use Rattle.base.proofs.QuestionLaws.{granted_zero, granted_refused, granted_ap}
 use Rattle.base.proofs.ListLaws.{take_overlaid}
 use Rattle.word.specs.Words.{Wrote}
+use Rattle.word.specs.declared.Written.{Written}
 use Rattle.word.specs.Reduction.{Irreducible}
 use Rattle.slip_verdict.specs.Verdict.{verdict}
-use Rattle.desk_words.specs.Making.{to_write, no_answer, MakesNew, Shortens, Rewrites}
+use Rattle.desk_words.specs.Making.{to_write, no_answer, MakesNew, MadeBy, Shortens, Rewrites}
 use Rattle.desk_words.specs.declared.Made.{Made}
 
 -- nothing is written: what is made is the answer alone
@@ -66,6 +67,20 @@ wrote_makes {questions} {new} {made} answer r w e =
           w.output_is ∙ ap (λ (n : ℕ). granted n (overlaid new (replicate 5006 0)) (replicate 5006 0)) e
           ∙ sym (granted_ap (λ l. overlaid l (replicate 5006 0)) answer new []);
     }
+
+-- what holds of each call of a writer at zeros holds of what a verb makes by it
+pub wrote_by : {calls : List ℕ → Written → List ℕ → Type 0} {P : Written → List ℕ → Type 0} {made : Made}
+    → MadeBy calls made → ((w : Written) (file : List ℕ) → calls (replicate 5006 0) w file → P w file)
+    → P (record { answer = made.answer; bytes = made.bytes }) made.file
+wrote_by m f = f _ _ m.wrote
+
+-- what a verb makes by a writer, from what the writer's contract says of each call at zeros
+pub made_by : {calls : List ℕ → Written → List ℕ → Type 0} {questions : List Question} {new : List ℕ} {made : Made}
+    (answer : ℕ) → MadeBy calls made
+    → ((w : Written) (file : List ℕ) → calls (replicate 5006 0) w file
+    → Wrote questions new (replicate 5006 0) file w.answer w.bytes)
+    → first_no questions ≡ answer → MakesNew true answer new made
+made_by answer m f e = wrote_makes answer m.read_is (f _ _ m.wrote) e
 
 -- the answer may be replaced by an equal one
 pub makes_as : {read : Bool} {a b : ℕ} {new : List ℕ} {made : Made} → a ≡ b → MakesNew read a new made

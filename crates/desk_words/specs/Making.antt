@@ -5,6 +5,7 @@ use Rattle.base.specs.Lists.{overlaid}
 use Rattle.text.specs.Enough.{Enough, EnoughOfTwo, EnoughOfThree}
 use Rattle.word.specs.Words.{codes, word_answer, word_file}
 use Rattle.word.specs.Reduction.{reduced, Irreducible}
+use Rattle.word.specs.declared.Written.{Written}
 use Rattle.word_stored.specs.Stored.{max_stored, stored_file, stored_codes, stored_answer}
 use Rattle.slip_verdict.specs.Verdict.{verdict}
 use Rattle.move_kinds.specs.Rewriting.{rewritten, rewriter_questions}
@@ -28,6 +29,12 @@ pub record MakesNew (read : Bool) (answer : ℕ) (new : List ℕ) (made : Made) 
   pub answer_is : made.answer ≡ cond read answer no_answer
   pub bytes_are : made.bytes ≡ length (to_write read answer new)
   pub file_is : made.file ≡ overlaid (to_write read answer new) (replicate max_stored 0)
+
+-- What a verb makes by a writer, whose calls are given: a call at a file of zeros gave the answer and the number of
+-- bytes, and left the file that is made.
+pub record MadeBy (calls : List ℕ → Written → List ℕ → Type 0) (made : Made) : Type 0 where
+  pub read_is : made.read ≡ true
+  pub wrote : calls (replicate max_stored 0) (record { answer = made.answer; bytes = made.bytes }) made.file
 
 -- the file of the freely reduced word
 abbrev pub short_file : List ℕ → List ℕ

@@ -3,12 +3,14 @@
 #![tactic(auto)]
 
 ghost use Rattle.std.specs.Prelude.{◌≡◌, true, false, ◌&&◌, length, take, replicate};
+ghost use Rattle.std.specs.Fn.{FnOnceReturnsAtMut};
 ghost use Rattle.word_shortener.specs.Shortener.{Shortened};
-ghost use Rattle.desk_words.specs.Making.{no_answer, Shortens, Rewrites, Reduces, EnoughToShorten};
+ghost use Rattle.desk_words.specs.Making.{no_answer, MadeBy, Shortens, Rewrites, Reduces, EnoughToShorten};
 ghost use Rattle.desk_words.specs.Making.{EnoughToRewrite, EnoughToReduce, Stores, Restores};
 ghost use Rattle.desk_words.specs.Making.{EnoughToStore, EnoughToRestore};
 
 use desk_line::Got;
+use word::Written;
 
 // The bytes to read of a move list: one more than it may hold.
 pub const MOVES_ROOM: usize = 2 + 3 * 4096 + 1;
@@ -43,75 +45,26 @@ impl Made {
     }
 
     // A file could not be read: no answer.
-    fn unread() -> Made
+    pub fn unread() -> Made
         ensures { (result.read ≡ false) × (result.answer ≡ no_answer) × (result.bytes ≡ 0)
             × (result.file ≡ replicate 5006 0) }
     {
         Made::bare(false, Made::NO_ANSWER)
     }
-}
 
-// A word freely reduced.
-fn reduced(word: &[u8]) -> Made
-    ensures { Reduces true word.now result }
-{
-    let mut file = [0u8; word_store::MAX_STORED];
-    let written = word_reduction::free_reduce(word, &mut file);
-    let answer = written.answer;
-    let bytes = written.bytes;
-    Made {
-        read: true,
-        answer,
-        bytes,
-        file,
-    }
-}
-
-// A word stored.
-fn stored(word: &[u8]) -> Made
-    ensures { Stores true word.now result }
-{
-    let mut file = [0u8; word_store::MAX_STORED];
-    let written = word_store::store(word, &mut file);
-    let answer = written.answer;
-    let bytes = written.bytes;
-    Made {
-        read: true,
-        answer,
-        bytes,
-        file,
-    }
-}
-
-// A word restored from its stored form.
-fn restored(form: &[u8]) -> Made
-    ensures { Restores true form.now result }
-{
-    let mut file = [0u8; word_store::MAX_STORED];
-    let written = word_restore::restore(form, &mut file);
-    let answer = written.answer;
-    let bytes = written.bytes;
-    Made {
-        read: true,
-        answer,
-        bytes,
-        file,
-    }
-}
-
-// A word rewritten by a move list.
-fn rewritten(word: &[u8], moves: &[u8]) -> Made
-    ensures { Rewrites true word.now moves.now result }
-{
-    let mut file = [0u8; word_store::MAX_STORED];
-    let written = move_rewriter::rewrite(word, moves, &mut file);
-    let answer = written.answer;
-    let bytes = written.bytes;
-    Made {
-        read: true,
-        answer,
-        bytes,
-        file,
+    // What a writer makes: it writes the new file over zeros.
+    pub fn by<F: FnOnce(&mut [u8; word_store::MAX_STORED]) -> Written>(write: F) -> Made
+        requires { F.IsAlwaysCallable write }
+        ensures { MadeBy (FnOnceReturnsAtMut F.FnOnce write) result }
+    {
+        let mut file = [0u8; word_store::MAX_STORED];
+        let written = write(&mut file);
+        Made {
+            read: true,
+            answer: written.answer,
+            bytes: written.bytes,
+            file,
+        }
     }
 }
 
@@ -120,16 +73,7 @@ fn short(word: &[u8], effort: u16) -> Made
     ensures { (result.read ≡ true)
         × Shortened effort word.now (replicate 5006 0) result.file result.answer result.bytes }
 {
-    let mut file = [0u8; word_store::MAX_STORED];
-    let written = word_shortener::shorten_word(word, effort, &mut file);
-    let answer = written.answer;
-    let bytes = written.bytes;
-    Made {
-        read: true,
-        answer,
-        bytes,
-        file,
-    }
+    Made::by(|file| word_shortener::shorten_word(word, effort, file))
 }
 
 // The word of a slip, made shorter if the slip opens. The new word is judged before it is given. No contract asks for
@@ -142,9 +86,7 @@ fn shortened(key: &[u8], digest: &[u8], word: &[u8], effort: u16) -> Made
         return Made::bare(true, answer);
     }
     let made = short(word, effort);
-    let file = made.file;
-    let bytes = made.bytes;
-    let again = slip_verdict::verify(key, digest, &file[..bytes]);
+    let again = slip_verdict::verify(key, digest, &made.file[..made.bytes]);
     if again != 0 {
         return Made::bare(true, again);
     }
@@ -166,16 +108,13 @@ pub fn shorten(
         (take d.bytes digest.now) (take w.bytes word.now) result }
     ensures enough_to_shorten { EnoughToShorten (length key.now) (length digest.now) (length word.now) }
 {
-    let k_n = k.bytes;
-    let d_n = d.bytes;
-    let w_n = w.bytes;
-    let k_read = text::part(key, 0, k_n);
-    let d_read = text::part(digest, 0, d_n);
-    let w_read = text::part(word, 0, w_n);
     if !desk_line::all_read(k, d, w) {
         return Made::unread();
     }
-    shortened(k_read, d_read, w_read, n)
+    let key = text::part(key, 0, k.bytes);
+    let digest = text::part(digest, 0, d.bytes);
+    let word = text::part(word, 0, w.bytes);
+    shortened(key, digest, word, n)
 }
 
 // Rewrites the word in a file by the move list in another file.
@@ -183,14 +122,13 @@ pub fn rewrite(word: &[u8; desk_line::WORD_ROOM], moves: &[u8; MOVES_ROOM], w: G
     ensures rewrites { Rewrites (w.read && m.read) (take w.bytes word.now) (take m.bytes moves.now) result }
     ensures enough_to_rewrite { EnoughToRewrite (length word.now) (length moves.now) }
 {
-    let w_n = w.bytes;
-    let m_n = m.bytes;
-    let w_read = text::part(word, 0, w_n);
-    let m_read = text::part(moves, 0, m_n);
-    if !desk_line::both(w.read, m.read) {
+    let read = w.read & m.read;
+    if !read {
         return Made::unread();
     }
-    rewritten(w_read, m_read)
+    let word = text::part(word, 0, w.bytes);
+    let moves = text::part(moves, 0, m.bytes);
+    Made::by(|file| move_rewriter::rewrite(word, moves, file))
 }
 
 // Reduces the word in a file freely.
@@ -198,12 +136,11 @@ pub fn reduce(word: &[u8; desk_line::WORD_ROOM], w: Got) -> Made
     ensures reduces { Reduces w.read (take w.bytes word.now) result }
     ensures enough_to_reduce { EnoughToReduce (length word.now) }
 {
-    let w_n = w.bytes;
-    let w_read = text::part(word, 0, w_n);
     if !w.read {
         return Made::unread();
     }
-    reduced(w_read)
+    let word = text::part(word, 0, w.bytes);
+    Made::by(|file| word_reduction::free_reduce(word, file))
 }
 
 // Stores the word that a file holds.
@@ -211,12 +148,11 @@ pub fn store(word: &[u8; desk_line::WORD_ROOM], w: Got) -> Made
     ensures stores { Stores w.read (take w.bytes word.now) result }
     ensures enough_to_store { EnoughToStore (length word.now) }
 {
-    let w_n = w.bytes;
-    let w_read = text::part(word, 0, w_n);
     if !w.read {
         return Made::unread();
     }
-    stored(w_read)
+    let word = text::part(word, 0, w.bytes);
+    Made::by(|file| word_store::store(word, file))
 }
 
 // Restores the word whose stored form a file holds.
@@ -224,10 +160,9 @@ pub fn restore(form: &[u8; STORED_ROOM], f: Got) -> Made
     ensures restores { Restores f.read (take f.bytes form.now) result }
     ensures enough_to_restore { EnoughToRestore (length form.now) }
 {
-    let f_n = f.bytes;
-    let f_read = text::part(form, 0, f_n);
     if !f.read {
         return Made::unread();
     }
-    restored(f_read)
+    let form = text::part(form, 0, f.bytes);
+    Made::by(|file| word_restore::restore(form, file))
 }

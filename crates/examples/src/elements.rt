@@ -3,8 +3,7 @@ use crate::input::first;
 use field::{Element, Field};
 
 fn element(rt: &impl Print, found: Element) {
-    let value = [found.value];
-    print::line(rt, found.answer, &value);
+    print::line(rt, found.answer, &[found.value]);
 }
 
 pub(crate) fn product(rt: &impl Print, a: &[u8], b: &[u8], f: Field) {

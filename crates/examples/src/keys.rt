@@ -1,5 +1,5 @@
 // Key files, cloaking and verdicts.
-use crate::input::{first, wide};
+use crate::input::first;
 use crate::{FILL, show};
 use field::Field;
 use key::Key;
@@ -22,34 +22,28 @@ fn file(bytes: &[u8]) -> [u8; 83] {
 
 // Prints the T-values, then the pair, then the second matrix.
 fn show_key(rt: &impl Print, key: Key) {
-    let t_values = key.t_values;
-    let pair = key.pair;
-    let second = key.second;
     print::text(rt, b"\nT-values");
-    print::hex(rt, &t_values);
+    print::hex(rt, &key.t_values);
     print::text(rt, b"\nPub(S)");
-    show::pair(rt, pair);
+    show::pair(rt, key.pair);
     print::text(rt, b"matrix of Pub(S')");
-    show::rows(rt, &second);
+    show::rows(rt, &key.second);
 }
 
 // Is the key that of a refusal? It is all zeros, and its field is the one with 32 elements.
 fn is_zeros(key: Key) -> bool {
-    let f = key.field;
-    let t_values = key.t_values;
-    let pair = key.pair;
-    let second = key.second;
-    !field::is_large(f) && show::is_zero_pair(pair) && show::is_zeros(&second, &t_values)
+    !field::is_large(key.field)
+        && show::is_zero_pair(key.pair)
+        && show::is_zeros(&key.second, &key.t_values)
 }
 
 pub(crate) fn read(rt: &impl Print, file: &[u8]) {
     let found = key_reader::read_key(file);
-    let key = found.key;
     print::answer(rt, found.answer);
     if found.answer == 0 {
-        show_key(rt, key);
+        show_key(rt, found.key);
     } else {
-        show::zeros(rt, is_zeros(key));
+        show::zeros(rt, is_zeros(found.key));
     }
 }
 
@@ -80,7 +74,7 @@ pub(crate) fn write(rt: &impl Print, t_values: &[u8], labels: &[u8], entries: &[
     base::put(&mut eight, labels);
     let mut matrix = [0u8; 57];
     base::put(&mut matrix, entries);
-    let start = wide(first(lacks)) % 90;
+    let start = usize::from(first(lacks)) % 90;
     let mut out = [FILL; 90];
     write_into(rt, &ts, &eight, &matrix, &mut out[start..]);
 }
@@ -101,6 +95,5 @@ pub(crate) fn verdict(rt: &impl Print, digest: &[u8], word: &[u8], key: &[u8]) {
 
 // The verdict on a digest and a word, under the plain key over the larger field.
 pub(crate) fn larger_verdict(rt: &impl Print, digest: &[u8], word: &[u8]) {
-    let file = PLAIN_LARGER;
-    print::line(rt, slip_verdict::verify(&file, digest, word), b"");
+    print::line(rt, slip_verdict::verify(&PLAIN_LARGER, digest, word), b"");
 }

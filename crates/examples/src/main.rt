@@ -56,23 +56,19 @@ fn operate(rt: &impl Print, operation: u8, line: &[u8]) {
 
 // Runs the case of a line. A line of under two bytes, or one that starts with #, has no case.
 fn case(rt: &impl Print, line: &[u8]) {
-    if line.len() < 2 {
-        return;
+    match line {
+        [b'#', ..] => (),
+        [operation, _, rest @ ..] => {
+            input::name(rt, rest);
+            operate(rt, *operation, line);
+        }
+        _ => (),
     }
-    let operation = line[0];
-    if operation == b'#' {
-        return;
-    }
-    input::name(rt, line);
-    operate(rt, operation, line);
 }
 
 fn cases(rt: &impl Print, text: &[u8]) {
-    let mut from = 0;
-    while from < text.len() {
-        let end = input::find(text, from, b'\n');
-        case(rt, &text[from..end]);
-        from = end + 1;
+    for line in text.split(|b| *b == b'\n') {
+        case(rt, line);
     }
 }
 

@@ -15,19 +15,16 @@ pub(crate) fn limits(rt: &impl Print) {
 // The matrix of 64 entries given row by row.
 fn laid_out(rows: &[u8; 64]) -> [u8; 64] {
     let mut matrix = [0u8; 64];
-    let mut i = 0;
-    while i < 64 {
-        matrix[matrix::place(i / 8, i % 8)] = rows[i];
-        i += 1;
+    for (i, entry) in rows.iter().enumerate() {
+        matrix[matrix::place(i / 8, i % 8)] = *entry;
     }
     matrix
 }
 
 // The matrix of entries given row by row, or the identity if there are none.
 fn matrix_of(entries: &[u8]) -> [u8; 64] {
-    let start = Pair::start();
-    if entries.len() == 0 {
-        return start.matrix;
+    if entries.is_empty() {
+        return Pair::start().matrix;
     }
     let mut rows = [0u8; 64];
     base::put(&mut rows, entries);
@@ -35,16 +32,9 @@ fn matrix_of(entries: &[u8]) -> [u8; 64] {
 }
 
 // The same matrix and list with other positions, if any are given.
-fn with_positions(pair: Pair, given: &[u8]) -> Pair {
-    let matrix = pair.matrix;
-    let labels = pair.labels;
-    let mut positions = pair.positions;
-    base::put(&mut positions, given);
-    Pair {
-        matrix,
-        labels,
-        positions,
-    }
+fn with_positions(mut pair: Pair, given: &[u8]) -> Pair {
+    base::put(&mut pair.positions, given);
+    pair
 }
 
 // The pair of lists and a matrix. The lists are eight labels, and then eight positions, if these are not the inverse
@@ -62,22 +52,18 @@ fn pair_of(lists: &[u8], entries: &[u8]) -> Pair {
 // Multiplies letters into a pair, one by one, and returns what the last one gives.
 fn after(pair: Pair, t_values: &[u8; 8], codes: &[u8]) -> Multiplied {
     let mut last = Multiplied { answer: 0, pair };
-    let mut i = 0;
-    while i < codes.len() {
-        let pair = last.pair;
-        last = pair_multiplier::multiply(pair, t_values, codes[i], Field::Gf32);
-        i += 1;
+    for code in codes {
+        last = pair_multiplier::multiply(last.pair, t_values, *code, Field::Gf32);
     }
     last
 }
 
 fn show_pair(rt: &impl Print, found: Multiplied) {
-    let pair = found.pair;
     print::answer(rt, found.answer);
     if found.answer == 0 {
-        show::pair(rt, pair);
+        show::pair(rt, found.pair);
     } else {
-        show::zeros(rt, show::is_zero_pair(pair));
+        show::zeros(rt, show::is_zero_pair(found.pair));
     }
 }
 

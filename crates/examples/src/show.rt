@@ -3,15 +3,12 @@ use pair::Pair;
 
 // Are the matrix and the eight numbers all zeros?
 pub(crate) fn is_zeros(matrix: &[u8; 64], eight: &[u8; 8]) -> bool {
-    base::equal(matrix, &[0; 64]) && base::equal(eight, &[0; 8])
+    *matrix == [0; 64] && *eight == [0; 8]
 }
 
 // Are the matrix and both lists of the pair all zeros?
 pub(crate) fn is_zero_pair(pair: Pair) -> bool {
-    let matrix = pair.matrix;
-    let labels = pair.labels;
-    let positions = pair.positions;
-    is_zeros(&matrix, &labels) && base::equal(&positions, &[0; 8])
+    is_zeros(&pair.matrix, &pair.labels) && pair.positions == [0; 8]
 }
 
 // Prints whether the values beside a refusal are all zeros, and ends the line.
@@ -32,11 +29,8 @@ pub(crate) fn rows(rt: &impl Print, matrix: &[u8; 64]) {
 
 // Prints a pair: its list, the positions of the labels, then its matrix.
 pub(crate) fn pair(rt: &impl Print, pair: Pair) {
-    let labels = pair.labels;
-    let positions = pair.positions;
-    let matrix = pair.matrix;
-    print::hex(rt, &labels);
+    print::hex(rt, &pair.labels);
     print::text(rt, b", positions");
-    print::hex(rt, &positions);
-    rows(rt, &matrix);
+    print::hex(rt, &pair.positions);
+    rows(rt, &pair.matrix);
 }

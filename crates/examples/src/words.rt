@@ -1,6 +1,6 @@
 // Word files: read, and written from codes, from a word or from a digest; the shorter of two.
 use crate::FILL;
-use crate::input::{first, wide};
+use crate::input::first;
 use word::{Letter, Written};
 
 // Prints the answer, the number of letters, and the part that holds the codes.
@@ -20,7 +20,7 @@ fn show_letter(rt: &impl Print, found: Letter) {
 }
 
 pub(crate) fn letter(rt: &impl Print, file: &[u8], place: &[u8]) {
-    show_letter(rt, word::letter_at(file, wide(first(place))));
+    show_letter(rt, word::letter_at(file, usize::from(first(place))));
 }
 
 // Prints the second letter of a word, from a reader of words that is opened, moved on once, and read.
@@ -30,10 +30,10 @@ pub(crate) fn second(rt: &impl Print, file: &[u8]) {
 
 // A limit of steps: two bytes, the high one first; 0 if there are fewer.
 fn limit(bytes: &[u8]) -> u16 {
-    if bytes.len() < 2 {
-        return 0;
+    match bytes {
+        [high, low, ..] => u16::from_be_bytes([*high, *low]),
+        _ => 0,
     }
-    base::two_bytes(bytes, 0) as u16
 }
 
 // Takes handles out of a word. Prints the answer, the number of bytes written, whether a handle is left, the bytes
@@ -50,15 +50,12 @@ pub(crate) fn handles(rt: &impl Print, word: &[u8], steps: &[u8]) {
 // Prints the answer, which of two words is the shorter, and the bytes of its file. The words lie one after the other.
 // The first byte of `bytes` is the length of the first word's file.
 pub(crate) fn shorter(rt: &impl Print, both: &[u8], bytes: &[u8]) {
-    let n = wide(first(bytes));
-    if both.len() < n {
+    let Some((a, b)) = both.split_at_checked(usize::from(first(bytes))) else {
         return;
-    }
-    let a = &both[0..n];
-    let b = &both[n..];
+    };
     let chosen = word_shorter::choose(a, b);
     print::answer(rt, chosen.answer);
-    print::number(rt, wide(chosen.which));
+    print::number(rt, usize::from(chosen.which));
     print::hex(rt, word_shorter::shorter(a, b));
     print::text(rt, b"\n");
 }
@@ -83,7 +80,7 @@ fn write_into(rt: &impl Print, operation: u8, from: &[u8], moves: &[u8], out: &m
 
 // Writes a word file to an output of 5,002 bytes, less the number in `lacks`.
 pub(crate) fn write(rt: &impl Print, operation: u8, from: &[u8], moves: &[u8], lacks: &[u8]) {
-    let start = wide(first(lacks));
+    let start = usize::from(first(lacks));
     let mut out = [FILL; 5002];
     write_into(rt, operation, from, moves, &mut out[start..]);
 }

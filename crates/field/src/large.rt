@@ -1,8 +1,7 @@
 // The products of GF(256), and the table of its reciprocals.
 ghost use Rattle.std.specs.Prelude.{◌≡◌};
-ghost use Rattle.field.specs.Fields.{bits, modulus, operations};
+ghost use Rattle.field.specs.Fields.{operations};
 ghost use Rattle.field.specs.Elements.{product_questions, Gives};
-ghost use Rattle.field.specs.steps.Reciprocals.{reciprocals};
 ghost use Rattle.field.specs.declared.Field.TheVariants.{Gf256};
 
 use crate::steps::times;
@@ -18,15 +17,8 @@ pub(crate) fn large_product(a: u8, b: u8) -> Element
     }
 }
 
-// Only this function names the table.
-pub fn large_reciprocals() -> [u8; 255]
-    ensures { result ≡ reciprocals (bits Gf256) (modulus Gf256) }
-{
-    LARGE_RECIPROCALS
-}
-
 // Entry a - 1 is the reciprocal of a.
-const LARGE_RECIPROCALS: [u8; 255] = [
+pub(crate) static LARGE_RECIPROCALS: [u8; 255] = [
     1, 142, 244, 71, 167, 122, 186, 173, 157, 221, 152, 61, 170, 93, 150, 216, 114, 192, 88, 224,
     62, 76, 102, 144, 222, 85, 128, 160, 131, 75, 42, 108, 237, 57, 81, 96, 86, 44, 138, 112, 208,
     31, 74, 38, 139, 51, 110, 72, 137, 111, 46, 164, 195, 64, 94, 80, 34, 207, 169, 171, 12, 21,

@@ -11,12 +11,12 @@ mod large; // large.rt: the reciprocals of GF(256), and its products by steps
 mod small; // small.rt: the products and the reciprocals of GF(32)
 mod steps; // steps.rt: products and reciprocals in any field whose elements are bytes
 
-pub use large::large_reciprocals;
-pub use small::small_reciprocals;
+use large::LARGE_RECIPROCALS;
+use small::SMALL_RECIPROCALS;
 pub use steps::{inverse, times_x};
 
-// One of the two fields. A function that receives only the field matches on it once. It lends the functions below it
-// the bits of an element, the polynomial and the tables.
+// One of the two fields. A function that receives only the field lends the functions below it the bits of an element,
+// the polynomial and the tables.
 #[derive(Clone, Copy)]
 pub enum Field {
     Gf32,
@@ -73,6 +73,16 @@ pub fn bits_of(f: Field) -> usize
     }
 }
 
+// The polynomial that products are reduced by.
+pub fn modulus_of(f: Field) -> u64
+    ensures { result ≡ modulus f }
+{
+    match f {
+        Field::Gf32 => SMALL_MODULUS,
+        Field::Gf256 => LARGE_MODULUS,
+    }
+}
+
 // Field product. The answer is 17 if an operand is not an element.
 pub fn product(a: u8, b: u8, f: Field) -> Element
     ensures { Gives (product_questions f a b) ((operations f).mul a b) result.answer result.value }
@@ -83,12 +93,22 @@ pub fn product(a: u8, b: u8, f: Field) -> Element
     }
 }
 
-// Looks the reciprocal up in the field's table. The answer is 17 if the operand is greater than the table's length,
-// then 4 if the operand is zero.
-fn reciprocal_by(a: u8, table: &[u8], f: Field) -> Element
-    requires { table.now ≡ reciprocals (bits f) (modulus f) }
+// The table of reciprocals: entry a - 1 is the reciprocal of a.
+pub fn reciprocals(f: Field) -> &'static [u8]
+    ensures { result.now ≡ reciprocals (bits f) (modulus f) }
+{
+    match f {
+        Field::Gf32 => &SMALL_RECIPROCALS,
+        Field::Gf256 => &LARGE_RECIPROCALS,
+    }
+}
+
+// Reciprocal, looked up in the field's table. The answer is 17 if the operand is not an element, that is, greater than
+// the table's length, then 4 if it is zero.
+pub fn reciprocal(a: u8, f: Field) -> Element
     ensures { Gives (reciprocal_questions f a) ((operations f).inv a) result.answer result.value }
 {
+    let table = reciprocals(f);
     if table.len() < a as usize {
         return Element::refused(17);
     }
@@ -98,21 +118,5 @@ fn reciprocal_by(a: u8, table: &[u8], f: Field) -> Element
     Element {
         answer: 0,
         value: inverse(a, table),
-    }
-}
-
-// Reciprocal. The answer is 17 if the operand is not an element, then 4 if it is zero.
-pub fn reciprocal(a: u8, f: Field) -> Element
-    ensures { Gives (reciprocal_questions f a) ((operations f).inv a) result.answer result.value }
-{
-    match f {
-        Field::Gf32 => {
-            let table = small_reciprocals();
-            reciprocal_by(a, &table, f)
-        }
-        Field::Gf256 => {
-            let table = large_reciprocals();
-            reciprocal_by(a, &table, f)
-        }
     }
 }

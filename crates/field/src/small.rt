@@ -1,18 +1,16 @@
 // The products of GF(32), and the tables of its products and reciprocals.
 ghost use Rattle.std.specs.Prelude.{◌≡◌};
 ghost use Rattle.field.specs.Gf32.{gf32, products};
-ghost use Rattle.field.specs.Fields.{bits, modulus};
 ghost use Rattle.field.specs.Elements.{product_questions, Gives};
-ghost use Rattle.field.specs.steps.Reciprocals.{reciprocals};
 ghost use Rattle.field.specs.declared.Field.TheVariants.{Gf32};
 
 use crate::Element;
 
 // Only this function names the table.
-fn table() -> [u8; 1024]
-    ensures { result ≡ products }
+fn table() -> &'static [u8; 1024]
+    ensures { result.now ≡ products }
 {
-    PRODUCTS
+    &PRODUCTS
 }
 
 // Looks the product up in the table. Only the five low bits of each factor count.
@@ -20,8 +18,8 @@ fn product(a: u8, b: u8) -> u8
     ensures { result ≡ gf32.mul a b }
 {
     let products = table();
-    let i = (a % 32) as usize;
-    let j = (b % 32) as usize;
+    let i = usize::from(a % 32);
+    let j = usize::from(b % 32);
     products[32 * i + j]
 }
 
@@ -41,15 +39,8 @@ pub(crate) fn small_product(a: u8, b: u8) -> Element
     }
 }
 
-// Only this function names the table.
-pub fn small_reciprocals() -> [u8; 31]
-    ensures { result ≡ reciprocals (bits Gf32) (modulus Gf32) }
-{
-    RECIPROCALS
-}
-
 // Entry 32 a + b is a × b.
-const PRODUCTS: [u8; 1024] = [
+static PRODUCTS: [u8; 1024] = [
     0, 0, 0, 0, 0, 0, 0, 0, 0, 0, 0, 0, 0, 0, 0, 0, 0, 0, 0, 0, 0, 0, 0, 0, 0, 0, 0, 0, 0, 0, 0, 0,
     0, 1, 2, 3, 4, 5, 6, 7, 8, 9, 10, 11, 12, 13, 14, 15, 16, 17, 18, 19, 20, 21, 22, 23, 24, 25,
     26, 27, 28, 29, 30, 31, 0, 2, 4, 6, 8, 10, 12, 14, 16, 18, 20, 22, 24, 26, 28, 30, 5, 7, 1, 3,
@@ -93,7 +84,7 @@ const PRODUCTS: [u8; 1024] = [
 ];
 
 // Entry a - 1 is the reciprocal of a.
-const RECIPROCALS: [u8; 31] = [
+pub(crate) static SMALL_RECIPROCALS: [u8; 31] = [
     1, 18, 28, 9, 23, 14, 12, 22, 4, 25, 16, 7, 15, 6, 13, 11, 24, 2, 29, 30, 26, 8, 5, 17, 10, 21,
     31, 3, 19, 20, 27,
 ];

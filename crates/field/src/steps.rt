@@ -20,7 +20,7 @@ fn low(a: u8, bits: usize) -> u64
     ensures { result ≡ a % 2 ^ bits }
 {
     let size: u64 = 1 << bits;
-    (a as u64) & (size - 1)
+    u64::from(a) & (size - 1)
 }
 
 // Multiplies by one bit of b after another, the lowest first. Only the low bits of the factors count.
@@ -30,13 +30,11 @@ pub(crate) fn times(a: u8, b: u8, bits: usize, modulus: u64) -> u8
 {
     let mut total: u64 = 0;
     let mut t = low(a, bits);
-    let mut rest = b as u64;
-    let mut i = 0;
-    while i < bits {
-        total = total ^ (rest % 2 * t);
+    let mut rest = u64::from(b);
+    for _ in 0..bits {
+        total ^= rest % 2 * t;
         t = times_x(t, bits, modulus);
-        rest = rest / 2;
-        i += 1;
+        rest /= 2;
     }
     total as u8
 }
@@ -47,6 +45,6 @@ pub fn inverse(a: u8, table: &[u8]) -> u8
     requires { length table.now < 256 }
     ensures { result ≡ looked_up table.now a }
 {
-    let at = (a as usize) % (table.len() + 1);
+    let at = usize::from(a) % (table.len() + 1);
     if at == 0 { 0 } else { table[at - 1] }
 }

@@ -1,16 +1,8 @@
-// The table of logarithms and powers of GF(256). Only one function names it.
-ghost use Rattle.field.specs.declared.Field.TheVariants.{Gf256};
-ghost use Rattle.field_logarithms.specs.steps.Logarithms.{ProductsBy};
-
-pub fn large_logarithms() -> [u16; 1277]
-    ensures { ProductsBy Gf256 result }
-{
-    LARGE_LOGARITHMS
-}
+// The table of logarithms and powers of GF(256).
 
 // Entry a is the logarithm of the number a to base x. Entry 256 + i is x^i. The logarithm of zero is 510, and the
 // entries 256 + i from i = 510 on are 0.
-const LARGE_LOGARITHMS: [u16; 1277] = [
+pub(crate) static LARGE_LOGARITHMS: [u16; 1277] = [
     510, 0, 1, 25, 2, 50, 26, 198, 3, 223, 51, 238, 27, 104, 199, 75, 4, 100, 224, 14, 52, 141,
     239, 129, 28, 193, 105, 248, 200, 8, 76, 113, 5, 138, 101, 47, 225, 36, 15, 33, 53, 147, 142,
     218, 240, 18, 130, 69, 29, 181, 194, 125, 106, 39, 249, 185, 201, 154, 9, 120, 77, 228, 114,

@@ -11,15 +11,25 @@ use field::Field;
 mod large; // large.rt: the table of GF(256)
 mod small; // small.rt: the table of GF(32)
 
-pub use large::large_logarithms;
-pub use small::small_logarithms;
+use large::LARGE_LOGARITHMS;
+use small::SMALL_LOGARITHMS;
 
-// The logarithm of a number, by the lent table of the field. Naming a table copies it, so an operation names it once.
+// The table of logarithms and powers.
+pub fn logarithms(f: Field) -> &'static [u16]
+    ensures { ProductsBy f result.now }
+{
+    match f {
+        Field::Gf32 => &SMALL_LOGARITHMS,
+        Field::Gf256 => &LARGE_LOGARITHMS,
+    }
+}
+
+// The logarithm of a number, by the lent table of the field.
 pub fn logarithm(a: u8, table: &[u16], f: Field) -> usize
     requires { ProductsBy f table.now }
     ensures { LogarithmOf table.now a result }
 {
-    table[a as usize] as usize
+    usize::from(table[usize::from(a)])
 }
 
 // The product of the two numbers that have the logarithms i and j.

@@ -1,16 +1,8 @@
-// The table of logarithms and powers of GF(32). Only one function names it.
-ghost use Rattle.field.specs.declared.Field.TheVariants.{Gf32};
-ghost use Rattle.field_logarithms.specs.steps.Logarithms.{ProductsBy};
-
-pub fn small_logarithms() -> [u16; 381]
-    ensures { ProductsBy Gf32 result }
-{
-    SMALL_LOGARITHMS
-}
+// The table of logarithms and powers of GF(32).
 
 // Entry a is the logarithm, to base x, of the five low bits of a. Entry 256 + i is x^i. The logarithm of zero is 62,
 // and the entries 256 + i from i = 62 on are 0.
-const SMALL_LOGARITHMS: [u16; 381] = [
+pub(crate) static SMALL_LOGARITHMS: [u16; 381] = [
     62, 0, 1, 18, 2, 5, 19, 11, 3, 29, 6, 27, 20, 8, 12, 23, 4, 10, 30, 17, 7, 22, 28, 26, 21, 25,
     9, 16, 13, 14, 24, 15, 62, 0, 1, 18, 2, 5, 19, 11, 3, 29, 6, 27, 20, 8, 12, 23, 4, 10, 30, 17,
     7, 22, 28, 26, 21, 25, 9, 16, 13, 14, 24, 15, 62, 0, 1, 18, 2, 5, 19, 11, 3, 29, 6, 27, 20, 8,

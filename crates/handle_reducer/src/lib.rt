@@ -41,7 +41,7 @@ pub fn handle_reduce(word: &[u8], limit: u16, out: &mut [u8]) -> Handles
     }
     let mut codes = [0u8; word::MAX_LETTERS];
     word::unpack(&word[2..], &mut codes);
-    let last = handle_steps::reduce(&mut codes, w.letters, limit as usize);
+    let last = handle_steps::reduce(&mut codes, w.letters, usize::from(limit));
     if last.answer != 0 {
         return Handles::refused(last.answer);
     }

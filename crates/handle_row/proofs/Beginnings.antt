@@ -60,12 +60,12 @@ module _ (row : List ℕ) (left right : ℕ) (h : left < right) (r : right < len
     there : 0 < own → get_or (gapped row left right) (own - 1) 0 ≡ get_or row (own - 1) 0
     there p = before_gap (own - 1) (omega (arith, own_inside))
 
-    none : ends (gapped row left right) left ≡ false → 0 ≡ beginning row left right
+    none : ends (gapped row left right) left ≡ false → beginning row left right ≡ 0
     none e =
-        ap (λ (b : Bool). cond b (start_of (gapped row left right) left + 1) 0) (sym e)
+        ap (λ (b : Bool). cond b (start_of (gapped row left right) left + 1) 0) e
 
     -- there is no handle if a letter of the generator one less is later, or if no letter has the code's own generator
-    pub later_less : own ≤ less → 0 ≡ beginning row left right
+    pub later_less : own ≤ less → beginning row left right ≡ 0
     later_less p =
         let w = gapped row left right in
         none (decides
@@ -73,7 +73,7 @@ module _ (row : List ℕ) (left right : ℕ) (h : left < right) (r : right < len
 
     -- there is no handle if the latest letter of the code's own generator is not the code's inverse
     pub other_letter : less < own → (get_or row (own - 1) 0 ≡ inverse (get_or row right 0) → ⊥)
-        → 0 ≡ beginning row left right
+        → beginning row left right ≡ 0
     other_letter p n =
         none (decides
         ∙ ap (λ (b : Bool). ltb less own && b)
@@ -82,8 +82,8 @@ module _ (row : List ℕ) (left right : ℕ) (h : left < right) (r : right < len
         ∙ and_false (ltb less own))
 
     -- otherwise a handle begins at the latest letter of the code's own generator
-    pub handle_begins : less < own → get_or row (own - 1) 0 ≡ inverse (get_or row right 0) → own
-        ≡ beginning row left right
+    pub handle_begins : less < own → get_or row (own - 1) 0 ≡ inverse (get_or row right 0) → beginning row left right
+        ≡ own
     handle_begins p e =
         let w = gapped row left right in
         let t =
@@ -91,5 +91,5 @@ module _ (row : List ℕ) (left right : ℕ) (h : left < right) (r : right < len
         (eq-eqb (get_or w (own - 1) 0) (inverse (get_or w left 0)) (there (omega arith) ∙ e ∙ ap inverse (sym next))) in
         let start : start_of w left ≡ own - 1 =
         begins_ends w letters left inside own less own_latest less_latest t in
-        let own_is : own ≡ start_of w left + 1 = omega arith in
-        own_is ∙ ap (λ (b : Bool). cond b (start_of w left + 1) 0) (sym (decides ∙ t))
+        let own_is : start_of w left + 1 ≡ own = omega arith in
+        ap (λ (b : Bool). cond b (start_of w left + 1) 0) (decides ∙ t) ∙ own_is

@@ -1,15 +1,18 @@
 -- Laws of what replaces the letters between a handle's ends: letter by letter, and written from the last to the first.
-use Prim.Native.Nat.{ℕ, suc, ◌+◌, ◌-◌, ◌≤◌, ◌<◌}
+use Prim.Native.Nat.{ℕ, suc, ◌+◌, ◌-◌, ◌*◌, ◌≤◌, ◌<◌}
 use mathlib.Core.Path.{◌≡◌, refl, sym, ap, ap₂, ◌∙◌}
+use mathlib.Core.Logic.{◌⊎◌, inl, inr}
 use mathlib.Core.Bool.{Bool, true, false, cond}
-use mathlib.Core.List.{List, [], ◌∷◌, ◌++◌, append_assoc, append-nil}
+use mathlib.Core.List.{List, [], ◌∷◌, ◌++◌, append-nil}
 use native.Mathlib.Numerals.{add-one}
 use native.Mathlib.Omega.{arith}
 use borrow.Author.Tests.{eq-eqb, ne_eqb}
 use lib.Dec.{eqb}
 use lib.ListN.{length, take, drop, get_or, set, length-append, take-append-drop}
 use lib.Seq.{length-take-le, drop-length, take-suc, drop-cons, take-take}
-use lib.Seq.{take-append-le, drop_at, get_or-take, sets-eq, set_split}
+use lib.Seq.{take-append-le, drop_at, get_or-take, set_split}
+use Rattle.std.specs.List.{sum_by}
+use Rattle.std.proofs.lemmas.List.Sums.{sum_by-cons}
 use Rattle.word.specs.Letters.{generator, inverse}
 use Rattle.braid_handles.specs.Handles.{conjugated_letter, conjugated}
 use Rattle.braid_handles.proofs.Runs.{conjugated_append}
@@ -29,12 +32,14 @@ module _ (a : ℕ) where
       ap (λ (b : Bool). cond b (inverse (a + 1) ∷ (d - 1) ∷ (a + 1) ∷ []) (d ∷ []))
       (ne_eqb (generator d) (generator a + 1) h)
 
-  some_for : (d : ℕ) → 1 ≤ length (conjugated_letter a d)
-  some_for d = go (eqb (generator d) (generator a + 1))
+  -- one letter or three replace it
+  one_or_three : (d : ℕ) → (length (conjugated_letter a d) ≡ 1) ⊎ (length (conjugated_letter a d) ≡ 3)
+  one_or_three d = go (eqb (generator d) (generator a + 1))
     where
-      go : (b : Bool) → 1 ≤ length (cond b (inverse (a + 1) ∷ (d - 1) ∷ (a + 1) ∷ []) (d ∷ []))
-      go true = omega arith
-      go false = omega arith
+      go : (b : Bool) → (length (cond b (inverse (a + 1) ∷ (d - 1) ∷ (a + 1) ∷ []) (d ∷ [])) ≡ 1)
+          ⊎ (length (cond b (inverse (a + 1) ∷ (d - 1) ∷ (a + 1) ∷ []) (d ∷ [])) ≡ 3)
+      go true = inr refl
+      go false = inl refl
 
   -- ---- all letters
 
@@ -43,20 +48,27 @@ module _ (a : ℕ) where
   unfolding conjugated
   conjugated_long [] = omega arith
   conjugated_long (d ∷ u) =
-      omega (arith, length-append (conjugated_letter a d) (conjugated a u), some_for d, conjugated_long u)
+      omega (arith, length-append (conjugated_letter a d) (conjugated a u), one_or_three d, conjugated_long u)
+
+  -- at most three times as many letters replace them
+  pub conjugated_short : (u : List ℕ) → length (conjugated a u) ≤ 3 * length u
+  unfolding conjugated
+  conjugated_short [] = omega arith
+  conjugated_short (d ∷ u) =
+      omega (arith, length-append (conjugated_letter a d) (conjugated a u), one_or_three d, conjugated_short u)
+
+  -- how many letters replace them, letter by letter
+  pub conjugated_sum : (u : List ℕ) → sum_by (λ (d : ℕ). length (conjugated_letter a d)) u ≡ length (conjugated a u)
+  unfolding conjugated
+  conjugated_sum [] = refl
+  conjugated_sum (d ∷ u) =
+      sum_by-cons (λ (e : ℕ). length (conjugated_letter a e)) d u
+      ∙ ap (λ (n : ℕ). length (conjugated_letter a d) + n) (conjugated_sum u)
+      ∙ sym (length-append (conjugated_letter a d) (conjugated a u))
 
   single : (d : ℕ) → conjugated a (d ∷ []) ≡ conjugated_letter a d
   unfolding conjugated
   single d = append-nil (conjugated_letter a d)
-
-  -- one letter more at the end
-  pub conjugated_more : (u : List ℕ) (k : ℕ) → k < length u
-      → conjugated a (take (k + 1) u) ≡ conjugated a (take k u) ++ conjugated_letter a (get_or u k 0)
-  conjugated_more u k h =
-      ap (λ (n : ℕ). conjugated a (take n u)) (add-one k)
-      ∙ ap (conjugated a) (take-suc u k 0 h)
-      ∙ conjugated_append a (take k u) (get_or u k 0 ∷ [])
-      ∙ ap (λ (w : List ℕ). conjugated a (take k u) ++ w) (single (get_or u k 0))
 
   -- one letter more at the front
   conjugated_from : (u : List ℕ) (k : ℕ) → k < length u
@@ -80,26 +92,6 @@ module _ (a : ℕ) where
 -- ---- written to a part, right before a place
 
 module _ (part : List ℕ) (at a d : ℕ) (room : RoomFor part at a d) where
-  pub writes_three : generator d ≡ generator a + 1
-      → Replaces part
-      (set (set (set part (at - 3) (inverse (a + 1))) (at - 3 + 1) (d - 1)) (at - 3 + 2) (a + 1))
-      at a d (at - 3)
-  writes_three e =
-      let is = conjugated_three a d e in
-      let three : length (conjugated_letter a d) ≡ 3 = ap length is in
-      let from : ℕ = at - 3 in
-      let up : from + 3 ≡ at = omega (arith, room.enough, three) in
-      let two : from + 2 ≡ suc (suc from) = omega arith in
-      let more : List ℕ = inverse (a + 1) ∷ (d - 1) ∷ (a + 1) ∷ [] in
-      record {
-        place = ap (λ (n : ℕ). from + n) three ∙ up;
-        part_is =
-            ap₂ (λ (i j : ℕ). set (set (set part from (inverse (a + 1))) i (d - 1)) j (a + 1)) (add-one from) two
-            ∙ sets-eq more part from (omega (arith, room.within))
-            ∙ append_assoc (take from part) more (drop (from + 3) part)
-            ∙ ap₂ (λ (w : List ℕ) (n : ℕ). take from part ++ (w ++ drop n part)) (sym is) up;
-      }
-
   pub writes_one : (generator d ≡ generator a + 1 → ⊥) → Replaces part (set part (at - 1) d) at a d (at - 1)
   writes_one h =
       let is = conjugated_one a d h in

@@ -1,4 +1,3 @@
 pub mod PlaceLaws
 pub mod Beginnings
 pub mod EndLaws
-pub mod RowEnds

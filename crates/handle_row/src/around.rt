@@ -8,7 +8,7 @@ pub fn lay(row: &mut [u8], codes: &[u8])
     ensures { drop (length row.old - length codes.now) row.new ≡ codes.now }
 {
     let start = row.len() - codes.len();
-    base::put(&mut row[start..], codes);
+    row[start..].copy_from_slice(codes);
 }
 
 // Gathers the word around a gap at the front of the codes.
@@ -16,6 +16,7 @@ pub fn gather(row: &[u8], left: usize, right: usize, codes: &mut [u8])
     requires { Gathers row.now left right codes.old }
     ensures { take (left + (length row.now - right)) codes.new ≡ gapped row.now left right }
 {
-    base::put(codes, &row[..left]);
-    base::put(&mut codes[left..], &row[right..]);
+    let rest = &row[right..];
+    codes[..left].copy_from_slice(&row[..left]);
+    codes[left..left + rest.len()].copy_from_slice(rest);
 }

@@ -21,13 +21,7 @@ pub fn grown(part: &[u8], a: u8) -> usize
     requires { length part.now ≤ 10001 }
     ensures { (result ≡ length (conjugated a part.now)) × (result ≤ 3 * length part.now) }
 {
-    let mut sum = 0;
-    let mut k = 0;
-    while k < part.len() {
-        sum += size_of(a, part[k]);
-        k += 1;
-    }
-    sum
+    part.iter().map(|d| size_of(a, *d)).sum()
 }
 
 // Writes what replaces d right before place `at`. Returns the place where it begins.
@@ -53,10 +47,8 @@ pub fn conjugate(part: &mut [u8], n: usize, a: u8) -> usize
     requires { (a < 16) × (n ≤ length part.old) × (length (conjugated a (take n part.old)) ≤ length part.old) }
     ensures { Conjugates part.old part.new n a result }
 {
-    let mut k = n;
     let mut at = part.len();
-    while 0 < k {
-        k -= 1;
+    for k in (0..n).rev() {
         let d = part[k];
         at = replace(part, at, a, d);
     }

@@ -1,40 +1,31 @@
 // The latest place of each generator before the gap. The tables hold each place plus 1, so that 0 means none. For each
 // place a second table has the latest place before it that has the same generator.
-ghost use Rattle.std.specs.Prelude.{◌+◌, ◌≤◌, ◌<◌, ◌≡◌, length};
+// An `Option<u16>` would take four bytes for each entry in place of two, and memory is fixed.
+ghost use Rattle.std.specs.Prelude.{◌+◌, ◌≤◌, ◌<◌, ◌≡◌, length, MatchOption};
 ghost use Rattle.handle_row.specs.steps.Gaps.{letter_slot, Tables, beginning, Reads, Open, LetterKept};
 
 use word::inverse;
-
-fn wide(place: u16) -> usize
-    ensures { result ≡ place }
-{
-    place as usize
-}
 
 // The slot of a letter: i for b_i and for its inverse.
 fn slot_of(c: u8) -> usize
     ensures { (result ≡ letter_slot c) × (result < 9) }
 {
-    (c % 8) as usize + 1
+    usize::from(c % 8) + 1
 }
 
-// Does a handle end with the first code after the gap? Gives one more than the place where it begins, or 0.
-pub fn begins(row: &[u8], latest: &[u16], left: usize, right: usize) -> usize
+// Does a handle end with the first code after the gap? Gives the place where it begins.
+pub fn begins(row: &[u8], latest: &[u16], left: usize, right: usize) -> Option<usize>
     requires { Reads row.now latest.now left right }
-    ensures { result ≡ beginning row.now left right }
+    ensures { MatchOption result (beginning row.now left right ≡ 0) (λ at. beginning row.now left right ≡ at + 1) }
 {
     let c = row[right];
     let s = slot_of(c);
-    let own = wide(latest[s]);
-    let less = wide(latest[s - 1]);
-    if own <= less {
-        return 0;
+    let own = usize::from(latest[s]);
+    let less = usize::from(latest[s - 1]);
+    if own <= less || row[own - 1] != inverse(c) {
+        return None;
     }
-    let other = inverse(c);
-    if row[own - 1] != other {
-        return 0;
-    }
-    own
+    Some(own - 1)
 }
 
 // The first code after the gap moves before the gap.
@@ -55,9 +46,7 @@ pub fn cut(row: &[u8], latest: &mut [u16], before: &[u16], from: usize, left: us
         × Tables row.now latest.old before.now left }
     ensures { Tables row.now latest.new before.now from }
 {
-    let mut k = left;
-    while from < k {
-        k -= 1;
+    for k in (from..left).rev() {
         let s = slot_of(row[k]);
         latest[s] = before[k];
     }

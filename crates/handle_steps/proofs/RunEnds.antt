@@ -1,11 +1,10 @@
 -- A run begins and ends: the row before the first step, and what the steps leave.
 use Prim.Native.Nat.{ℕ, zero, suc, ◌+◌, ◌-◌, ◌≤◌}
 use mathlib.Core.Path.{◌≡◌, refl, sym, ap, ◌∙◌}
-use mathlib.Core.Bool.{false}
+use mathlib.Core.Bool.{Bool, false}
 use mathlib.Core.List.{List}
 use native.Mathlib.Omega.{arith}
 use borrow.Author.Tests.{eqb-false}
-use lib.Dec.{eqb}
 use lib.ListN.{length, take, drop, get_or, replicate}
 use lib.Seq.{length-take-le}
 use Rattle.base.specs.Questions.{first_no, granted}
@@ -61,12 +60,12 @@ module _ (limit n : ℕ) (codes w : List ℕ) (e : w ≡ take n codes) where
         left_is = sym (granted_refused (has_handle (after_steps limit (take n codes))) false (eqb-false 32 0 refl));
       }
 
-  pub ended_steps : (row codes' : List ℕ) (left right stop : ℕ) → length row ≡ 10001
-      → Ended limit w row left right stop
+  pub ended_steps : (row codes' : List ℕ) (left right : ℕ) (handle : Bool) → length row ≡ 10001
+      → Ended limit w row left right handle
       → take (left + (length row - right)) codes' ≡ gapped row left right
-      → StepsOnRow limit n codes codes' 0 (left + (10001 - right)) (eqb stop 1)
+      → StepsOnRow limit n codes codes' 0 (left + (10001 - right)) handle
   unfolding granted
-  ended_steps row codes' left right stop l d t =
+  ended_steps row codes' left right handle l d t =
       record {
         answer_is = sym (ap (λ (x : List ℕ). first_no (step_questions limit x)) (sym e) ∙ d.answer_is);
         few = omega (arith, d.gap, d.within);
@@ -76,9 +75,10 @@ module _ (limit n : ℕ) (codes w : List ℕ) (e : w ≡ take n codes) where
         left_is = d.left_is ∙ ap (λ (x : List ℕ). has_handle (after_steps limit x)) e;
       }
 
-pub gathers : (limit : ℕ) (w row codes : List ℕ) (n left right stop : ℕ) → length row ≡ 10001 → HoldsWord n codes
-    → Ended limit w row left right stop → Gathers row left right codes
-gathers limit w row codes n left right stop s l d =
+pub gathers : (limit : ℕ) (w row codes : List ℕ) (n left right : ℕ) (handle : Bool) → length row ≡ 10001
+    → HoldsWord n codes
+    → Ended limit w row left right handle → Gathers row left right codes
+gathers limit w row codes n left right handle s l d =
     record {
       front = omega (arith, d.gap, d.within);
       within = omega (arith, d.within);

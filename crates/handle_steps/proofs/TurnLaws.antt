@@ -1,11 +1,9 @@
--- What a turn leaves, in the three ways that it can go, and what a run leaves.
+-- What a turn leaves, in the three ways that it can go, and what a run leaves when all codes are read.
 use Prim.Native.Nat.{ℕ, suc, ◌+◌, ◌-◌, ◌≤◌, ◌<◌}
-use mathlib.Core.Path.{◌≡◌, refl, sym, ap, ◌∙◌, subst}
-use mathlib.Core.Bool.{false}
+use mathlib.Core.Path.{◌≡◌, sym, ap, ◌∙◌, subst}
+use mathlib.Core.Bool.{true, false}
 use mathlib.Core.List.{List, ◌++◌, append-nil}
-use mathlib.Core.Logic.{◌⊎◌, inl, inr}
 use native.Mathlib.Omega.{arith}
-use lib.Dec.{eqb}
 use lib.ListN.{length, take, drop, get_or, length-set, drop_of_length-le}
 use lib.Seq.{length-take-le}
 use Rattle.base.specs.Questions.{first_no}
@@ -16,18 +14,15 @@ use Rattle.braid_handles.proofs.Runs.{no_steps, step_fits, step_refused, steps_f
 use Rattle.braid_handles.proofs.StepKeeps.{step_lettered}
 use Rattle.handle_row.specs.steps.Gaps.{gapped, beginning, Tables, LetterKept, Conjugates}
 use Rattle.handle_row.proofs.PlaceLaws.{tables_alike}
-use Rattle.handle_steps.specs.steps.Runs.{Gap, SameRun, Ended, Turned, Ran}
+use Rattle.handle_steps.specs.steps.Runs.{Gap, SameRun, Ended, Goes, Refused}
 use Rattle.handle_steps.proofs.GapLaws.{word_stays, front_free, own_inside}
 use Rattle.handle_steps.proofs.GapLaws.{one_left, step_long, at_is, front_stays}
 use Rattle.handle_steps.proofs.GapLaws.{word_after, length_after, free_after}
 
 -- equal words have the same run
-pub same_run : (n : ℕ) {v w : List ℕ} → v ≡ w → SameRun n v n w
+same_run : (n : ℕ) {v w : List ℕ} → v ≡ w → SameRun n v n w
 same_run n e =
     record { word_is = ap (after_steps n) e; answer_is = ap (λ (x : List ℕ). first_no (step_questions n x)) e }
-
-pub then_run : {k m n : ℕ} {u v w : List ℕ} → SameRun k u m v → SameRun m v n w → SameRun k u n w
-then_run a b = record { word_is = a.word_is ∙ b.word_is; answer_is = a.answer_is ∙ b.answer_is }
 
 -- a step that leaves no more than 10,000 letters
 one_step : (n : ℕ) {v : List ℕ} (w : List ℕ) → v ≡ stepped w → length (stepped w) ≤ 10000 → SameRun n v (suc n) w
@@ -47,12 +42,11 @@ module _ (row latest before : List ℕ) (left right n : ℕ) (g : Gap row latest
 
   pub code_kept : beginning row left right ≡ 0 → (row' latest' before' : List ℕ) → length before' ≡ length before
       → LetterKept row row' latest' before' left right
-      → Turned row left right n row' latest' before' (left + 1) (right + 1) n 0
+      → Goes row left right n row' latest' before' (left + 1) (right + 1) n
   code_kept b row' latest' before' l k =
       let stays = word_stays row left right g.gap inside row' k.row_is in
       record {
-        goes =
-            λ z.
+        gap =
             record {
               room = ap length k.row_is ∙ length-set row left (get_or row right 0) ∙ g.room;
               beside = l ∙ g.beside;
@@ -62,36 +56,24 @@ module _ (row latest before : List ℕ) (left right n : ℕ) (g : Gap row latest
               clean = front_free row left right g.gap inside row' k.row_is g.clean b;
               tables = k.tables;
             };
-        same = λ z. same_run n stays;
-        less = λ z. omega arith;
-        ended = λ z. absurd (omega arith);
-        refused = λ z. absurd (omega arith);
-        stops = inl refl;
+        same = same_run n stays;
+        less = omega arith;
       }
 
   -- ---- a handle ends with the code
 
   module _ (own : ℕ) (o : own ≡ beginning row left right) (some : 0 < own) where
     -- no step is left
-    pub limit_reached : n ≡ 0 → Turned row left right n row latest before left right n 1
+    pub limit_reached : n ≡ 0 → Ended n (gapped row left right) row left right true
     limit_reached z =
         record {
-          goes = λ e. absurd (omega arith);
-          same = λ e. absurd (omega arith);
-          less = λ e. absurd (omega arith);
-          ended =
-              λ e.
-              record {
-                gap = g.gap;
-                within = g.within;
-                answer_is =
-                    ap (λ (m : ℕ). first_no (step_questions m (gapped row left right))) z
-                    ∙ (no_steps (gapped row left right)).1;
-                word_is = sym stays;
-                left_is = sym (ap has_handle stays ∙ one_left row left right g.gap inside own o some g.clean);
-              };
-          refused = λ e. absurd (omega arith);
-          stops = inr (inl refl);
+          gap = g.gap;
+          within = g.within;
+          answer_is =
+              ap (λ (m : ℕ). first_no (step_questions m (gapped row left right))) z
+              ∙ (no_steps (gapped row left right)).1;
+          word_is = sym stays;
+          left_is = sym (ap has_handle stays ∙ one_left row left right g.gap inside own o some g.clean);
         }
       where
         stays : after_steps n (gapped row left right) ≡ gapped row left right
@@ -101,29 +83,21 @@ module _ (row latest before : List ℕ) (left right n : ℕ) (g : Gap row latest
     long = length (conjugated (get_or row (own - 1) 0) (take (left - own) (drop own row)))
 
     -- the step would leave too many letters
-    pub too_long : 0 < n → right + 1 < own + long → Turned row left right n row latest before left right n 32
+    pub too_long : 0 < n → right + 1 < own + long → Refused n (gapped row left right)
     too_long p t =
         let up : n ≡ suc (n - 1) = omega arith in
         let much : 10000 < length (stepped (gapped row left right)) =
         omega (arith, step_long row left right g.gap inside own o some g.clean, g.room) in
-        record {
-          goes = λ e. absurd (omega arith);
-          same = λ e. absurd (omega arith);
-          less = λ e. absurd (omega arith);
-          ended = λ e. absurd (omega arith);
-          refused =
-              λ e. ap (λ (m : ℕ). first_no (step_questions m (gapped row left right))) up
-              ∙ step_refused (n - 1) (gapped row left right) much;
-          stops = inr (inr refl);
-        }
+        ap (λ (m : ℕ). first_no (step_questions m (gapped row left right))) up
+        ∙ step_refused (n - 1) (gapped row left right) much
 
     -- the step is made
     pub step_made : 0 < n → own + long ≤ right + 1 → (latest' part' : List ℕ) (at : ℕ)
         → length part' ≡ length (take (right + 1 - own) (drop own row))
         → Conjugates (take (right + 1 - own) (drop own row)) part' (left - own) (get_or row (own - 1) 0) at
         → Tables row latest' before (own - 1)
-        → Turned row left right n (take own row ++ (part' ++ drop (right + 1 - own) (drop own row))) latest' before
-        (own - 1) (own + at) (n - 1) 0
+        → Goes row left right n (take own row ++ (part' ++ drop (right + 1 - own) (drop own row))) latest' before
+        (own - 1) (own + at) (n - 1)
     step_made p t latest' part' at s w tables =
         let h = g.gap in
         let up : n ≡ suc (n - 1) = omega arith in
@@ -133,8 +107,7 @@ module _ (row latest before : List ℕ) (left right n : ℕ) (g : Gap row latest
         let there = at_is row left right h inside own o some part' at s w in
         let low = own_inside row left right h inside own o some in
         record {
-          goes =
-              λ z.
+          gap =
               record {
                 room = length_after row left right h inside own o some part' at s w ∙ g.room;
                 beside = g.beside;
@@ -147,20 +120,16 @@ module _ (row latest before : List ℕ) (left right n : ℕ) (g : Gap row latest
                     (sym (front_stays row left right h inside own o some part' at s w)) tables;
               };
           same =
-              λ z.
               subst (λ (m : ℕ). SameRun (n - 1)
               (gapped (take own row ++ (part' ++ drop (right + 1 - own) (drop own row))) (own - 1) (own + at)) m
               (gapped row left right)) (sym up) (one_step (n - 1) (gapped row left right) is few);
-          less = λ z. omega arith;
-          ended = λ e. absurd (omega arith);
-          refused = λ e. absurd (omega arith);
-          stops = inl refl;
+          less = omega arith;
         }
 
 -- ---- nothing is after the gap
 
 pub all_read : (row latest before : List ℕ) (left right n m : ℕ) (w : List ℕ) → Gap row latest before left right
-    → 10001 ≤ right → SameRun m (gapped row left right) n w → Ended n w row left right 0
+    → 10001 ≤ right → SameRun m (gapped row left right) n w → Ended n w row left right false
 all_read row latest before left right n m w g e s =
     record {
       gap = g.gap;
@@ -188,25 +157,3 @@ all_read row latest before left right n m w g e s =
           g.gap,
           g.within,
         )
-
--- ---- a turn that stops, after turns that did not
-
-pub stopped : {row row' latest before w : List ℕ} {left right left' right' steps : ℕ} (n m stop : ℕ)
-    → SameRun m (gapped row left right) n w
-    → Turned row left right m row' latest before left' right' steps stop → (stop ≡ 0 → ⊥)
-    → Ran n w row' left' right' stop
-stopped {row} {row'} {w = w} {left} {right} {left'} {right'} n m stop s t some =
-    record { ended = λ d. last d t.stops; refused = λ e. sym s.answer_is ∙ t.refused e }
-  where
-    last : (stop ≡ 32 → ⊥) → (stop ≡ 0) ⊎ ((stop ≡ 1) ⊎ (stop ≡ 32)) → Ended n w row' left' right' stop
-    last d (inl e) = absurd (some e)
-    last d (inr (inr e)) = absurd (d e)
-    last d (inr (inl e)) =
-        let r = t.ended e in
-        record {
-          gap = r.gap;
-          within = r.within;
-          answer_is = sym s.answer_is ∙ r.answer_is;
-          word_is = r.word_is ∙ s.word_is;
-          left_is = ap (λ (k : ℕ). eqb k 1) e ∙ r.left_is ∙ ap has_handle s.word_is;
-        }

@@ -30,22 +30,18 @@ fn work_in(
     ensures { StepsOnRow limit n codes.old codes.new result.answer result.letters result.left }
 {
     lay(row, &codes[..n]);
-    let r = run(row, latest, before, ROOM - n, limit);
-    let stop = r.stop;
-    if stop == 32 {
+    let Ok(last) = run(row, latest, before, ROOM - n, limit) else {
         return Reduced {
             answer: 32,
             letters: n,
             left: false,
         };
-    }
-    let left = r.left;
-    let right = r.right;
-    gather(row, left, right, codes);
+    };
+    gather(row, last.left, last.right, codes);
     Reduced {
         answer: 0,
-        letters: left + (ROOM - right),
-        left: stop == 1,
+        letters: last.left + (ROOM - last.right),
+        left: last.handle,
     }
 }
 

@@ -2,19 +2,29 @@
 // taken out; otherwise the code moves before the gap.
 ghost use Rattle.std.specs.Prelude.{◌<◌};
 ghost use Rattle.handle_row.specs.steps.Gaps.{gapped};
-ghost use Rattle.handle_steps.specs.steps.Runs.{Gap, Found, Turned, Ran};
+ghost use Rattle.handle_steps.specs.steps.Runs.{Gap, Found, StepMade, Turned, Ran};
 
 use handle_row::{ROOM, begins, conjugate, cut, grown, keep};
 
-// The gap after a turn, and the steps that are left. `stop` is 0 if the turns go on, 1 if a handle is left but no step,
-// 32 if a step is refused.
+// Where the gap is, and the steps that are left.
 #[derive(Clone, Copy)]
 pub(crate) struct State {
     pub left: usize,
     pub right: usize,
     pub steps: usize,
-    pub stop: u8,
 }
+
+// Where the gap is after the last turn, and whether a handle is left.
+#[derive(Clone, Copy)]
+pub(crate) struct Last {
+    pub left: usize,
+    pub right: usize,
+    pub handle: bool,
+}
+
+// A step is refused, because it would leave over 10,000 letters.
+#[derive(Clone, Copy)]
+pub(crate) struct TooLong;
 
 // Takes out the handle that ends with the first code after the gap and begins right before place `own`. The tables go
 // back first, because the new letters may be written over the old ones.
@@ -23,95 +33,81 @@ fn take_out(
     latest: &mut [u16],
     before: &[u16],
     own: usize,
-    left: usize,
-    right: usize,
-    steps: usize,
-) -> State
-    requires { Gap row.old latest.old before.now left right × Found row.old own left right steps }
-    ensures { Turned row.old left right steps row.new latest.new before.now
-        result.left result.right result.steps result.stop }
+    s: State,
+) -> Result<State, TooLong>
+    requires { Gap row.old latest.old before.now s.left s.right × Found row.old own s.left s.right s.steps }
+    ensures { StepMade row.old s row.new latest.new before.now result }
 {
     let a = row[own - 1];
-    let long = grown(&row[own..left], a);
-    if right + 1 < own + long {
-        return State {
-            left,
-            right,
-            steps,
-            stop: 32,
-        };
+    let long = grown(&row[own..s.left], a);
+    if s.right + 1 < own + long {
+        return Err(TooLong);
     }
-    cut(row, latest, before, own - 1, left);
-    let at = conjugate(&mut row[own..right + 1], left - own, a);
-    State {
+    cut(row, latest, before, own - 1, s.left);
+    let at = conjugate(&mut row[own..s.right + 1], s.left - own, a);
+    Ok(State {
         left: own - 1,
         right: own + at,
-        steps: steps - 1,
-        stop: 0,
-    }
+        steps: s.steps - 1,
+    })
 }
 
-// One turn: the first code after the gap moves before it, or the handle that ends with the code is taken out.
+// One turn: the first code after the gap moves before it, or the handle that ends with the code is taken out. Gives no
+// state if a handle ends there but no step is left.
 fn turn(
     row: &mut [u8],
     latest: &mut [u16],
     before: &mut [u16],
-    left: usize,
-    right: usize,
-    steps: usize,
-) -> State
-    requires { Gap row.old latest.old before.old left right × (right < 10001) }
-    ensures { Turned row.old left right steps row.new latest.new before.new
-        result.left result.right result.steps result.stop }
+    s: State,
+) -> Result<Option<State>, TooLong>
+    requires { Gap row.old latest.old before.old s.left s.right × (s.right < 10001) }
+    ensures { Turned row.old s row.new latest.new before.new result }
 {
-    let own = begins(row, latest, left, right);
-    if own == 0 {
-        keep(row, latest, before, left, right);
-        return State {
-            left: left + 1,
-            right: right + 1,
-            steps,
-            stop: 0,
-        };
+    let Some(from) = begins(row, latest, s.left, s.right) else {
+        keep(row, latest, before, s.left, s.right);
+        return Ok(Some(State {
+            left: s.left + 1,
+            right: s.right + 1,
+            steps: s.steps,
+        }));
+    };
+    if s.steps == 0 {
+        return Ok(None);
     }
-    if steps == 0 {
-        return State {
-            left,
-            right,
-            steps,
-            stop: 1,
-        };
-    }
-    take_out(row, latest, before, own, left, right, steps)
+    let next = take_out(row, latest, before, from + 1, s)?;
+    Ok(Some(next))
 }
 
-// All turns, until no code is after the gap or a turn stops.
+// All turns, until no code is after the gap or no step is left for a handle.
 pub(crate) fn run(
     row: &mut [u8],
     latest: &mut [u16],
     before: &mut [u16],
     start: usize,
     limit: usize,
-) -> State
+) -> Result<Last, TooLong>
     requires { Gap row.old latest.old before.old 0 start }
-    ensures { Ran limit (gapped row.old 0 start) row.new result.left result.right result.stop }
+    ensures { Ran limit (gapped row.old 0 start) row.new result }
 {
-    let mut left = 0;
-    let mut right = start;
-    let mut steps = limit;
-    while right < ROOM {
-        let t = turn(row, latest, before, left, right, steps);
-        left = t.left;
-        right = t.right;
-        steps = t.steps;
-        if t.stop != 0 {
-            return t;
-        }
+    let mut s = State {
+        left: 0,
+        right: start,
+        steps: limit,
+    };
+    // A step may move the gap back, so no `for` counts the turns.
+    while s.right < ROOM {
+        let Some(next) = turn(row, latest, before, s)? else {
+            return Ok(Last {
+                left: s.left,
+                right: s.right,
+                handle: true,
+            });
+        };
+        s = next;
     }
-    State {
-        left,
-        right,
-        steps,
-        stop: 0,
-    }
+    Ok(Last {
+        left: s.left,
+        right: s.right,
+        handle: false,
+    })
 }

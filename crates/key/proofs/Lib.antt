@@ -6,3 +6,4 @@ pub mod ChangeOfLayout
 pub mod RoundTrip
 pub mod WrongPrograms
 pub mod Inverses
+pub mod Compared

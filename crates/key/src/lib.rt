@@ -35,14 +35,11 @@ impl KeyRead {
     pub fn refused(answer: u8) -> KeyRead
         ensures { (result.answer ≡ answer) × (result.key ≡ zero_key) }
     {
-        let pair = Pair::zeros();
-        let t_values = [0u8; 8];
-        let second = [0u8; 64];
         let key = Key {
             field: Field::Gf32,
-            t_values,
-            pair,
-            second,
+            t_values: [0; 8],
+            pair: Pair::zeros(),
+            second: [0; 64],
         };
         KeyRead { answer, key }
     }
@@ -52,7 +49,7 @@ impl KeyRead {
 pub fn starts_with_ones(ts: &[u8; 8]) -> bool
     ensures { result ≡ starts_with_ones ts.now }
 {
-    (ts[0] == 1) & (ts[1] == 1)
+    ts.starts_with(&[1, 1])
 }
 
 // The matrix of the 57 entries that a file holds: rows 1 to 7 whole, then the last entry of row 8, whose other entries
@@ -62,10 +59,8 @@ pub fn whole_matrix(all: &[u8]) -> [u8; 64]
     ensures { result ≡ whole_matrix all.now }
 {
     let mut m = [0u8; 64];
-    let mut k = 0;
-    while k < 56 {
+    for k in 0..56 {
         m[matrix::place(k / 8, k % 8)] = all[k];
-        k += 1;
     }
     m[matrix::place(7, 7)] = all[56];
     m
@@ -77,10 +72,8 @@ pub fn file_entries(matrix: &[u8; 64]) -> [u8; 57]
     ensures { result ≡ file_entries matrix.now }
 {
     let mut entries = [0u8; 57];
-    let mut k = 0;
-    while k < 56 {
+    for k in 0..56 {
         entries[k] = matrix::entry(matrix, k / 8, k % 8);
-        k += 1;
     }
     entries[56] = matrix::entry(matrix, 7, 7);
     entries

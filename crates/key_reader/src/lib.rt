@@ -18,15 +18,12 @@ fn key_of(file: &[u8], f: Field, bits: usize, t_values: [u8; 8], labels: [u8; 8]
         × (labels ≡ key_labels bits file.now) }
     ensures { result ≡ key_parts f bits file.now }
 {
-    let at = key::first_place(bits);
-    let after = key::second_place(bits);
-    let first = parts::matrix_at(file, at, bits);
-    let pair = Pair::with(first, labels);
-    let second = parts::matrix_at(file, after, bits);
+    let first = parts::matrix_at(file, key::first_place(bits), bits);
+    let second = parts::matrix_at(file, key::second_place(bits), bits);
     Key {
         field: f,
         t_values,
-        pair,
+        pair: Pair::with(first, labels),
         second,
     }
 }
@@ -52,10 +49,7 @@ fn read_over(file: &[u8], f: Field) -> KeyRead
         return KeyRead::refused(answer);
     }
     let key = key_of(file, f, bits, t_values, labels);
-    let pair = key.pair;
-    let first = pair.matrix;
-    let second = key.second;
-    if !matrix_elimination::both_invertible(first, second, f) {
+    if !matrix_elimination::both_invertible(key.pair.matrix, key.second, f) {
         return KeyRead::refused(26);
     }
     KeyRead { answer, key }
@@ -65,11 +59,9 @@ fn read_over(file: &[u8], f: Field) -> KeyRead
 pub fn read_key(file: &[u8]) -> KeyRead
     ensures { ReadsKey file.now result.answer result.key }
 {
-    if file.len() == key::SMALL_BYTES {
-        return read_over(file, Field::Gf32);
+    match file.len() {
+        key::SMALL_BYTES => read_over(file, Field::Gf32),
+        key::LARGE_BYTES => read_over(file, Field::Gf256),
+        _ => KeyRead::refused(1),
     }
-    if file.len() == key::LARGE_BYTES {
-        return read_over(file, Field::Gf256);
-    }
-    KeyRead::refused(1)
 }

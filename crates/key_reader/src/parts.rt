@@ -17,9 +17,8 @@ fn eight(file: &[u8], end: usize, bits: usize) -> [u8; 8]
     ensures { result ≡ unpacked_row bits 8 (part (end - bits) bits file.now) }
 {
     let mut all = [0u8; 8];
-    let size = base_rows::power(bits);
     let number = base::eight_bytes(file, end - 8);
-    base::spell(&mut all, size, number);
+    base::spell(&mut all, base_rows::power(bits), number);
     all
 }
 
@@ -27,16 +26,14 @@ pub(crate) fn t_values(file: &[u8], bits: usize) -> [u8; 8]
     requires { (5 ≤ bits) × (bits ≤ 8) × (length file.now ≡ file_bytes bits) }
     ensures { result ≡ t_values_of bits file.now }
 {
-    let end = key::first_place(bits);
-    eight(file, end, bits)
+    eight(file, key::first_place(bits), bits)
 }
 
 pub(crate) fn labels(file: &[u8], bits: usize) -> [u8; 8]
     requires { (5 ≤ bits) × (bits ≤ 8) × (length file.now ≡ file_bytes bits) }
     ensures { result ≡ key_labels bits file.now }
 {
-    let end = key::second_place(bits);
-    eight(file, end, 3)
+    eight(file, key::second_place(bits), 3)
 }
 
 // Puts eight entries of a file in row r of a matrix, one of the first seven rows.
@@ -44,10 +41,8 @@ fn put_row(m: &mut [u8; 64], row: &[u8; 8], r: usize)
     requires { (length m.old ≡ 64) × (r < 7) }
     ensures { RowPut row.now r m.old m.new }
 {
-    let mut c = 0;
-    while c < 8 {
+    for c in 0..8 {
         m[matrix::place(r, c)] = row[c];
-        c += 1;
     }
 }
 
@@ -57,15 +52,11 @@ pub(crate) fn matrix_at(file: &[u8], at: usize, bits: usize) -> [u8; 64]
     ensures { result ≡ whole_matrix (entries bits (part at (row_bytes bits 57) file.now)) }
 {
     let mut m = [0u8; 64];
-    let mut end = at;
-    let mut r = 0;
-    while r < 7 {
-        end += bits;
-        let row = eight(file, end, bits);
+    for r in 0..7 {
+        let row = eight(file, at + (r + 1) * bits, bits);
         put_row(&mut m, &row, r);
-        r += 1;
     }
-    m[matrix::place(7, 7)] = file[end] >> (8 - bits);
+    m[matrix::place(7, 7)] = file[at + 7 * bits] >> (8 - bits);
     m
 }
 
@@ -80,8 +71,8 @@ fn filler_is_zero(file: &[u8], bits: usize) -> bool
     if !base_rows::filler_is_zero(&file[at..end], bits, 57) {
         return false;
     }
-    let after = key::second_place(bits);
-    base_rows::filler_is_zero(&file[after..], bits, 57)
+    let second = key::second_place(bits);
+    base_rows::filler_is_zero(&file[second..], bits, 57)
 }
 
 // Questions 2 and 3, about the numbers N and q: the number of the first question answered no, or 0 if there is none.

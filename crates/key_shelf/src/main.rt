@@ -5,15 +5,17 @@
 #![tactic(auto)]
 
 use desk_io::NAME_ROOM;
+use desk_line::Got;
 use desk_shelf::Served;
 use std::rt::{Env, Files};
 
 // Is the shelf written? After judging, if a verdict changed it; after any other work, if the work was accepted.
 fn is_written(judges: bool, answer: u8, same: bool) -> bool {
-    if judges {
-        return ((answer == 0) | (answer == 14)) & !same;
+    match answer {
+        0 => !judges || !same,
+        14 => judges && !same,
+        _ => false,
     }
-    answer == 0
 }
 
 // Writes the shelf to the new file, if it is to be written, and then prints the answer. If a file could not be read, is
@@ -32,88 +34,72 @@ fn end(
         print::text(rt, b"no shelf\n");
         return;
     }
-    let answer = served.answer;
-    let shelf = served.shelf;
-    let before = text::part(old, 0, desk_shelf::SHELF_ROOM - 1);
-    let same = base::equal(before, &shelf);
-    if is_written(judges, answer, same) && !desk_put::put_at(rt, 2, 4, &shelf, true) {
+    let same = &old[..desk_shelf::SHELF_ROOM - 1] == served.shelf.as_slice();
+    if is_written(judges, served.answer, same) && !desk_put::put_at(rt, 2, 4, &served.shelf, true) {
         print::text(rt, b"not written\n");
         return;
     }
-    desk_put::tell(rt, answer);
+    desk_put::tell(rt, served.answer);
+}
+
+// Does a verb's work on the old shelf, for the publisher and the key number that the arguments write, and ends. A
+// number that is missing, which only a new round may leave out, counts as empty.
+fn work<F: FnOnce(&[u8; desk_shelf::SHELF_ROOM], &[u8], &[u8], Got) -> Served>(
+    rt: &(impl Files + Env + Print + Eprint),
+    judges: bool,
+    serve: F,
+)
+    requires { F.IsAlwaysCallable serve }
+{
+    let mut old = [0u8; desk_shelf::SHELF_ROOM];
+    let s = desk_io::file(rt, 3, &mut old);
+    let mut first = [0u8; NAME_ROOM];
+    let publisher = desk_io::argument_or_empty(rt, 5, &mut first);
+    let mut second = [0u8; NAME_ROOM];
+    let number = desk_io::argument_or_empty(rt, 6, &mut second);
+    let served = serve(&old, publisher, number, s);
+    end(rt, served, &old, judges);
 }
 
 // Loads a key.
 fn load(rt: &(impl Files + Env + Print + Eprint)) {
-    let mut old = [0u8; desk_shelf::SHELF_ROOM];
-    let mut key = [0u8; desk_line::KEY_ROOM];
-    let s = desk_io::file(rt, 3, &mut old);
-    let k = desk_io::file(rt, 7, &mut key);
-    let mut publisher = [0u8; NAME_ROOM];
-    let p = desk_io::argument_or_none(rt, 5, &mut publisher);
-    let mut number = [0u8; NAME_ROOM];
-    let n = desk_io::argument_or_none(rt, 6, &mut number);
-    let served = desk_shelf::load(&old, &publisher[..p], &number[..n], &key, s, k);
-    end(rt, served, &old, false);
-}
-
-// Clears a number.
-fn clear(rt: &(impl Files + Env + Print + Eprint)) {
-    let mut old = [0u8; desk_shelf::SHELF_ROOM];
-    let s = desk_io::file(rt, 3, &mut old);
-    let mut publisher = [0u8; NAME_ROOM];
-    let p = desk_io::argument_or_none(rt, 5, &mut publisher);
-    let mut number = [0u8; NAME_ROOM];
-    let n = desk_io::argument_or_none(rt, 6, &mut number);
-    let served = desk_shelf::clear(&old, &publisher[..p], &number[..n], s);
-    end(rt, served, &old, false);
-}
-
-// Starts a new round.
-fn round(rt: &(impl Files + Env + Print + Eprint)) {
-    let mut old = [0u8; desk_shelf::SHELF_ROOM];
-    let s = desk_io::file(rt, 3, &mut old);
-    let mut publisher = [0u8; NAME_ROOM];
-    let p = desk_io::argument_or_none(rt, 5, &mut publisher);
-    let served = desk_shelf::round(&old, &publisher[..p], s);
-    end(rt, served, &old, false);
+    work(rt, false, |old, publisher, number, s| {
+        let mut key = [0u8; desk_line::KEY_ROOM];
+        let k = desk_io::file(rt, 7, &mut key);
+        desk_shelf::load(old, publisher, number, &key, s, k)
+    });
 }
 
 // Judges a slip: digest and signature.
 fn judge(rt: &(impl Files + Env + Print + Eprint)) {
-    let mut old = [0u8; desk_shelf::SHELF_ROOM];
-    let mut digest = [0u8; desk_line::DIGEST_ROOM];
-    let mut word = [0u8; desk_line::WORD_ROOM];
-    let s = desk_io::file(rt, 3, &mut old);
-    let d = desk_io::file(rt, 7, &mut digest);
-    let w = desk_io::file(rt, 8, &mut word);
-    let mut publisher = [0u8; NAME_ROOM];
-    let p = desk_io::argument_or_none(rt, 5, &mut publisher);
-    let mut number = [0u8; NAME_ROOM];
-    let n = desk_io::argument_or_none(rt, 6, &mut number);
-    let served = desk_shelf::judge(&old, &publisher[..p], &number[..n], &digest, &word, s, d, w);
-    end(rt, served, &old, true);
+    work(rt, true, |old, publisher, number, s| {
+        let mut digest = [0u8; desk_line::DIGEST_ROOM];
+        let d = desk_io::file(rt, 7, &mut digest);
+        let mut word = [0u8; desk_line::WORD_ROOM];
+        let w = desk_io::file(rt, 8, &mut word);
+        desk_shelf::judge(old, publisher, number, &digest, &word, s, d, w)
+    });
 }
 
 // The verb decides how many arguments must follow.
 fn main(rt: HostRuntime) {
     let rt = &rt;
-    let mut name = [0u8; NAME_ROOM];
-    let m = desk_io::argument_or_none(rt, 1, &mut name);
-    let verb = &name[..m];
-    let n = desk_io::arg_count(rt);
-    if base::equal(verb, b"load") && n == 8 {
-        load(rt);
-    } else if base::equal(verb, b"clear") && n == 7 {
-        clear(rt);
-    } else if base::equal(verb, b"round") && n == 6 {
-        round(rt);
-    } else if base::equal(verb, b"judge") && n == 9 {
-        judge(rt);
-    } else {
-        desk_io::misused(
+    let mut room = [0u8; NAME_ROOM];
+    let verb = desk_io::argument_or_empty(rt, 1, &mut room);
+    match (verb, desk_io::arg_count(rt)) {
+        (b"load", 8) => load(rt),
+        (b"clear", 7) => work(rt, false, desk_shelf::clear),
+        (b"round", 6) => work(
             rt,
-            b"key_shelf takes load, clear, judge or round, a name beside the new file, the old shelf, the new one and a publisher; all but round take a key number too, then KEY to load, none to clear, DIGEST SIGNATURE to judge\n",
-        );
+            false,
+            |old, publisher, _, s| desk_shelf::round(old, publisher, s),
+        ),
+        (b"judge", 9) => judge(rt),
+        _ => desk_io::misused(
+            rt,
+            b"key_shelf takes load, clear, judge or round, a name beside the new file, the old shelf, the new one and a \
+             publisher; all but round take a key number too, then KEY to load, none to clear, DIGEST SIGNATURE to \
+             judge",
+        ),
     }
 }

@@ -18,13 +18,9 @@ mod rows; // rows.rt: rows of numbers packed into bytes
 fn all_fit(ts: &[u8; 8], first: &[u8; 57], second: &[u8; 57], bits: usize) -> bool
     ensures { result ≡ (fit bits ts.now && fit bits first.now && fit bits second.now) }
 {
-    if !pair_operands::all_fit(ts, bits) {
-        return false;
-    }
-    if !pair_operands::all_fit(first, bits) {
-        return false;
-    }
-    pair_operands::all_fit(second, bits)
+    pair_operands::all_fit(ts, bits)
+        && pair_operands::all_fit(first, bits)
+        && pair_operands::all_fit(second, bits)
 }
 
 // Questions 16, 17, 4, 5, 6, 26, in this order: the number of the first question answered no, or 0 if there is none. An

@@ -20,15 +20,36 @@ use Rattle.matrix.proofs.EliminationLaws.{pivot_below, without_other, without_sa
 
 -- ---- the pivot, from the last row back
 
-pub pivot_here : (column : ℕ → ℕ) (p : ℕ) → (column p ≡ 0 → ⊥) → pivot column p ≡ p
+pivot_here : (column : ℕ → ℕ) (p : ℕ) → (column p ≡ 0 → ⊥) → pivot column p ≡ p
 unfolding pivot
 pivot_here column zero h = refl
 pivot_here column (suc p) h = rw (ne_eqb (column (suc p)) 0 h)
 
-pub pivot_back : (column : ℕ → ℕ) (p : ℕ) → 0 < p → column p ≡ 0 → pivot column p ≡ pivot column (p - 1)
+pivot_back : (column : ℕ → ℕ) (p : ℕ) → 0 < p → column p ≡ 0 → pivot column p ≡ pivot column (p - 1)
 unfolding pivot
 pivot_back column zero pos z = absurd (omega arith)
 pivot_back column (suc p) pos z = let e : suc p - 1 ≡ p = omega arith in rw (e, eq-eqb (column (suc p)) 0 z)
+
+-- the pivot is the last entry that is not zero
+pub pivot_found : (column : ℕ → ℕ) (n p : ℕ) → p ≤ n → (column p ≡ 0 → ⊥)
+    → ((k : ℕ) → p < k → k ≤ n → column k ≡ 0)
+    → p ≡ pivot column n
+pivot_found column zero p h d zeros =
+    let e : p ≡ 0 = omega arith in
+    e ∙ sym (pivot_here column 0 (λ z. d (ap column e ∙ z)))
+pivot_found column (suc n) p h d zeros =
+    go (ℕ_discrete p (suc n)) (λ l. pivot_found column n p l d (λ k a b. zeros k a (omega arith)))
+  where
+    go : Dec (p ≡ suc n) → (p ≤ n → p ≡ pivot column n) → p ≡ pivot column (suc n)
+    go (yes e) rest = e ∙ sym (pivot_here column (suc n) (λ z. d (ap column e ∙ z)))
+    go (no e) rest =
+        let back : suc n - 1 ≡ n = omega arith in
+        let last : column (suc n) ≡ 0 = zeros (suc n) (omega arith) (omega arith) in
+        rest (omega arith) ∙ sym (pivot_back column (suc n) (omega arith) last ∙ ap (pivot column) back)
+
+-- without an entry that is not zero, the pivot's entry is zero
+pub pivot_zero : (column : ℕ → ℕ) (n : ℕ) → ((k : ℕ) → k ≤ n → column k ≡ 0) → column (pivot column n) ≡ 0
+pivot_zero column n zeros = zeros (pivot column n) (pivot_below column n)
 
 -- ---- elimination reads only the entries within its size
 

@@ -5,7 +5,6 @@ ghost use Rattle.field.specs.Polynomial.{Degree, polynomials};
 ghost use Rattle.matrix_columns.specs.steps.Constants.{Multiples, Filled, AllFilled, Reciprocals};
 ghost use Rattle.matrix_columns.specs.steps.Constants.{Constants};
 
-use crate::wide;
 use field::times_x;
 
 // Stores the products of a number with 1, x, x^2, .., starting at place `at`.
@@ -14,12 +13,10 @@ pub fn multiples(list: &mut [u64], at: usize, number: u8, bits: usize, modulus: 
     ensures { Filled (polynomials bits modulus) bits number at bits list.old list.new }
 {
     let size: u64 = 1 << bits;
-    let mut product = wide(number) % size;
-    let mut i = 0;
-    while i < bits {
+    let mut product = u64::from(number) % size;
+    for i in 0..bits {
         list[at + i] = product;
         product = times_x(product, bits, modulus);
-        i += 1;
     }
 }
 
@@ -38,10 +35,8 @@ fn all_multiples(list: &mut [u64; 128], from: usize, numbers: &[u8; 8], bits: us
     requires { (length list.old ≡ 128) × Below 256 list.old × (from + 64 ≤ 128) × (bits ≤ 8) × Degree bits modulus }
     ensures { AllFilled (polynomials bits modulus) bits numbers.now from 8 list.old list.new }
 {
-    let mut a = 0;
-    while a < 8 {
+    for a in 0..8 {
         multiples(list, from + 8 * a, numbers[a], bits, modulus);
-        a += 1;
     }
 }
 

@@ -11,12 +11,6 @@ mod layout; // layout.rt: the columns of a matrix as numbers, and back
 pub use constants::{constants_of, multiples, multiples_of};
 pub use layout::{columns_of, matrix_of};
 
-pub(crate) fn wide(x: u8) -> u64
-    ensures { (result ≡ x) × (result < 256) }
-{
-    x as u64
-}
-
 // 1 in each lane.
 const ONES: u64 = 0x0101_0101_0101_0101;
 
@@ -27,11 +21,9 @@ pub fn times(constants: &[u64], at: usize, bits: usize, column: u64) -> u64
 {
     let mut total: u64 = 0;
     let mut rest = column;
-    let mut i = 0;
-    while i < bits {
-        total = total ^ ((rest & ONES) * constants[at + i]);
-        rest = rest / 2;
-        i += 1;
+    for i in 0..bits {
+        total ^= (rest & ONES) * constants[at + i];
+        rest /= 2;
     }
     total
 }

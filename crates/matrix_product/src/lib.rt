@@ -9,7 +9,7 @@ ghost use Rattle.matrix.specs.Product.{matrix_product};
 ghost use Rattle.matrix_product.specs.steps.Multiplying.{Near, row_by_logarithms, ColumnFilled};
 
 use field::Field;
-use field_logarithms::{logarithm, product_of};
+use field_logarithms::{logarithm, logarithms, product_of};
 use matrix::{SIZE, place};
 
 // The logarithms of all entries, in the layout of the matrix.
@@ -18,11 +18,8 @@ fn logarithms_of(m: &[u8; 64], table: &[u16], f: Field) -> [usize; 64]
     ensures { (length result ≡ 64) × LogarithmsOf table.now (λ k. get_or m.now k 0) 64 result }
 {
     let mut logs = [0usize; 64];
-    let mut i = 0;
-    while i < 64 {
-        let x = m[i];
-        logs[i] = logarithm(x, table, f);
-        i += 1;
+    for i in 0..64 {
+        logs[i] = logarithm(m[i], table, f);
     }
     logs
 }
@@ -33,11 +30,8 @@ fn column_logarithms(m: &[u8; 64], table: &[u16], column: usize, f: Field) -> [u
     ensures { (length result ≡ 8) × LogarithmsOf table.now (λ k. entry m.now k column) 8 result }
 {
     let mut logs = [0usize; 8];
-    let mut k = 0;
-    while k < SIZE {
-        let x = m[place(k, column)];
-        logs[k] = logarithm(x, table, f);
-        k += 1;
+    for k in 0..SIZE {
+        logs[k] = logarithm(m[place(k, column)], table, f);
     }
     logs
 }
@@ -48,12 +42,8 @@ fn dot(table: &[u16], a: &[usize; 64], b: &[usize; 8], row: usize, f: Field) -> 
     ensures { result ≡ row_by_logarithms (operations f) table.now a.now b.now row }
 {
     let mut total: u8 = 0;
-    let mut k = 0;
-    while k < SIZE {
-        let x = a[place(row, k)];
-        let y = b[k];
-        total = total ^ product_of(x, y, table, f);
-        k += 1;
+    for k in 0..SIZE {
+        total ^= product_of(a[place(row, k)], b[k], table, f);
     }
     total
 }
@@ -75,11 +65,8 @@ fn fill_column(
     ensures { ColumnFilled (row_by_logarithms (operations f) table.now a.now b.now) column 8
         m.old m.new }
 {
-    let mut r = 0;
-    while r < SIZE {
-        let at = place(r, column);
-        m[at] = dot(table, a, b, r, f);
-        r += 1;
+    for r in 0..SIZE {
+        m[place(r, column)] = dot(table, a, b, r, f);
     }
 }
 
@@ -90,11 +77,9 @@ fn multiplied(table: &[u16], a: &[u8; 64], b: &[u8; 64], f: Field) -> [u8; 64]
 {
     let rows = logarithms_of(a, table, f);
     let mut m = [0u8; 64];
-    let mut c = 0;
-    while c < SIZE {
+    for c in 0..SIZE {
         let column = column_logarithms(b, table, c, f);
         fill_column(&mut m, table, &rows, &column, c, f);
-        c += 1;
     }
     m
 }
@@ -103,14 +88,5 @@ fn multiplied(table: &[u16], a: &[u8; 64], b: &[u8; 64], f: Field) -> [u8; 64]
 pub fn matrix_product(a: &[u8; 64], b: &[u8; 64], f: Field) -> [u8; 64]
     ensures { result ≡ matrix_product (operations f) a.now b.now }
 {
-    match f {
-        Field::Gf32 => {
-            let table = field_logarithms::small_logarithms();
-            multiplied(&table, a, b, f)
-        }
-        Field::Gf256 => {
-            let table = field_logarithms::large_logarithms();
-            multiplied(&table, a, b, f)
-        }
-    }
+    multiplied(logarithms(f), a, b, f)
 }

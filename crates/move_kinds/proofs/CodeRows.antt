@@ -1,14 +1,16 @@
--- Laws of rows of codes, as the rewriter's loops write them: a forward loop that moves codes two places to the front, a
--- backward loop that moves them two places to the end, and two or three stores in a row. The word is the first n codes
--- of the row.
-use Prim.Native.Nat.{ℕ, suc, ◌+◌, ◌-◌, ◌≤◌, ◌<◌}
+-- Laws of rows of codes, as a move writes them: a loop that moves codes two places to the front, `copy_within`
+-- that moves them two places to the end, and two or three stores in a row. The word is the first n codes of the row.
+use Prim.Native.Nat.{ℕ, ◌+◌, ◌-◌, ◌≤◌, ◌<◌}
 use mathlib.Core.Path.{◌≡◌, sym, ap, ap₂, ◌∙◌}
-use mathlib.Core.List.{List, [], ◌∷◌, ◌++◌, append_assoc, append-nil}
+use mathlib.Core.List.{List, [], ◌∷◌, ◌++◌, append_assoc}
 use native.Mathlib.Numerals.{add-one, add-two}
 use native.Mathlib.Omega.{arith}
-use lib.ListN.{length, take, drop, get_or, set, length-append, length-drop, drop_of_length-le, get_or-append}
-use lib.Seq.{length-take-le, take_all, take-suc, take-add, take-take, take_at, take-set-lt, drop-cons, drop-drop}
-use lib.Seq.{drop_at, append_snoc, get_or-append-add, get_or-take, get_or-drop, set_at, sets-eq}
+use lib.ListN.{length, take, drop, get_or, set, length-append, length-drop}
+use lib.Seq.{length-take-le, take-add, take-take, take_at, take-set-lt, drop-drop}
+use lib.Seq.{drop_at, get_or-append-add, get_or-drop, sets-eq}
+use Rattle.std.specs.List.{copy_within}
+use Rattle.std.proofs.lemmas.List.{take-append-le}
+use Rattle.std.proofs.lemmas.List.Edits.{length-paste, take-paste}
 use Rattle.base.specs.Lists.{overlaid}
 use Rattle.base.proofs.ListLaws.{overlay_step}
 use Rattle.word.specs.Cancellation.{removal}
@@ -36,54 +38,7 @@ module _ (part : List ℕ) where
       ∙ ap (λ (x : ℕ). set (take k (drop 2 part) ++ drop k part) k x) (ahead k h)
       ∙ overlay_step (drop 2 part) part k (omega (arith, length-drop 2 part)) (omega arith)
 
--- ---- codes that move two places to the end
-
--- one turn of a backward loop: the codes from i on are new, the codes before are unchanged
-back_step : (row new : List ℕ) (i : ℕ) → i < length row → i < length new
-    → set (take (i + 1) row ++ drop (i + 1) new) i (get_or new i 0) ≡ take i row ++ drop i new
-back_step row new i p q =
-    rw (add-one i, take-suc row i 0 p, append_snoc (take i row) (get_or row i 0) (drop (suc i) new))
-    (set_at (take i row) (get_or row i 0) (drop (suc i) new) (get_or new i 0) i (length-take-le i row (omega arith))
-    ∙ ap (λ (r : List ℕ). take i row ++ r) (sym (drop-cons new i 0 q)))
-
--- two codes, then a part without its last two codes
-abbrev pub led : ℕ → ℕ → List ℕ → List ℕ
-led c d part = c ∷ d ∷ take (length part - 2) part
-
-module _ (part : List ℕ) (c d : ℕ) (h : 2 ≤ length part) where
-  length_led : length (led c d part) ≡ length part
-  length_led = omega (arith, length-take-le (length part - 2) part (omega arith))
-
-  pub down_start : part ≡ take (length part - 2 + 2) part ++ drop (length part - 2 + 2) (led c d part)
-  down_start =
-      let e : length (led c d part) ≤ length part - 2 + 2 = omega (arith, length_led) in
-      let f : length part ≤ length part - 2 + 2 = omega arith in
-      sym (ap₂ (λ (p q : List ℕ). p ++ q) (take_all (length part - 2 + 2) part f) (drop_of_length-le (led c d part) e)
-      ∙ append-nil part)
-
-  pub down_step : (codes : List ℕ) (k i : ℕ) → k ≡ i + 1 → i + 2 < length part
-      → codes ≡ take (k + 2) part ++ drop (k + 2) (led c d part)
-      → set codes (i + 2) (get_or codes i 0) ≡ take (i + 2) part ++ drop (i + 2) (led c d part)
-  down_step codes k i f l e =
-      let t : k + 2 ≡ i + 2 + 1 = omega arith in
-      let m : length (take (k + 2) part) ≡ k + 2 = length-take-le (k + 2) part (omega arith) in
-      let v : get_or codes i 0 ≡ get_or (led c d part) (i + 2) 0 =
-      ap (λ (r : List ℕ). get_or r i 0) e
-      ∙ get_or-append (take (k + 2) part) (drop (k + 2) (led c d part)) 0 i (omega arith)
-      ∙ get_or-take (k + 2) part i 0 (omega arith)
-      ∙ sym (get_or-take (length part - 2) part i 0 (omega arith))
-      ∙ ap (λ (j : ℕ). get_or (led c d part) j 0) (sym (add-two i)) in
-      ap₂ (λ (r : List ℕ) (x : ℕ). set r (i + 2) x) (e ∙ ap (λ (j : ℕ). take j part ++ drop j (led c d part)) t) v
-      ∙ back_step part (led c d part) (i + 2) (omega arith) (omega (arith, length_led))
-
-  pub down_end : (codes : List ℕ) → codes ≡ take 2 part ++ drop 2 (led c d part)
-      → set (set codes 1 d) 0 c ≡ led c d part
-  down_end codes e =
-      ap (λ (r : List ℕ). set (set r 1 d) 0 c) e
-      ∙ ap (λ (r : List ℕ). set r 0 c) (back_step part (led c d part) 1 (omega arith) (omega (arith, length_led)))
-      ∙ back_step part (led c d part) 0 (omega arith) (omega (arith, length_led))
-
--- ---- a word in a row of which a part is lent
+-- ---- a word in a row
 
 module _ (row : List ℕ) (n place : ℕ) (h : place ≤ n) (l : n ≤ length row) where
   front_length : length (take place row) ≡ place
@@ -99,6 +54,34 @@ module _ (row : List ℕ) (n place : ℕ) (h : place ≤ n) (l : n ≤ length ro
       ap (λ (i : ℕ). drop place (take i row)) e
       ∙ ap (drop place) (take-add place (n - place) row)
       ∙ drop_at (take place row) (take (n - place) (drop place row)) place front_length
+
+-- ---- stores in a row
+
+module _ (row : List ℕ) (n p a b : ℕ) where
+  pub store_two : p + 2 ≤ n → n ≤ length row
+      → take n (set (set row p a) (p + 1) b) ≡ take p (take n row) ++ (a ∷ b ∷ drop (p + 2) (take n row))
+  store_two h l =
+      let m : length (take n row) ≡ n = length-take-le n row l in
+      take-set-lt n (set row p a) (p + 1) b (omega arith)
+      ∙ ap (λ (r : List ℕ). set r (p + 1) b) (take-set-lt n row p a (omega arith))
+      ∙ ap (λ (i : ℕ). set (set (take n row) p a) i b) (add-one p)
+      ∙ sets-eq (a ∷ b ∷ []) (take n row) p (omega arith)
+      ∙ append_assoc (take p (take n row)) (a ∷ b ∷ []) (drop (p + 2) (take n row))
+
+  pub store_three : (c : ℕ) → p + 3 ≤ n → n ≤ length row
+      → take n (set (set (set row p a) (p + 1) b) (p + 2) c)
+      ≡ take p (take n row) ++ (a ∷ b ∷ c ∷ drop (p + 3) (take n row))
+  store_three c h l =
+      let m : length (take n row) ≡ n = length-take-le n row l in
+      take-set-lt n (set (set row p a) (p + 1) b) (p + 2) c (omega arith)
+      ∙ ap (λ (r : List ℕ). set r (p + 2) c)
+      (take-set-lt n (set row p a) (p + 1) b (omega arith)
+      ∙ ap (λ (r : List ℕ). set r (p + 1) b) (take-set-lt n row p a (omega arith)))
+      ∙ ap₂ (λ (i j : ℕ). set (set (set (take n row) p a) i b) j c) (add-one p) (add-two p)
+      ∙ sets-eq (a ∷ b ∷ c ∷ []) (take n row) p (omega arith)
+      ∙ append_assoc (take p (take n row)) (a ∷ b ∷ c ∷ []) (drop (p + 3) (take n row))
+
+-- ---- codes that move by two places
 
 -- the codes up to the end of xs, where more codes follow in the part and in the row
 up_to : (row xs ys zs : List ℕ) (place m : ℕ) → place ≤ length row → place + length xs ≡ m
@@ -126,42 +109,23 @@ removed row rest n place h l =
     (ap (drop 2) (sym (rest_is row n place (omega arith) l)) ∙ drop-drop 2 place (take n row))
 
 -- two letters are inserted
-pub inserted : (row rest : List ℕ) (n place c d : ℕ) → place ≤ n → n + 2 ≤ length row
-    → take (n + 2) (take place row ++ (led c d (take (n + 2 - place) (drop place row)) ++ rest))
+pub inserted : (row : List ℕ) (n place c d : ℕ) → place ≤ n → n + 2 ≤ length row
+    → take (n + 2) (set (set (copy_within row place n (place + 2)) place c) (place + 1) d)
     ≡ insert_two c d place (take n row)
-inserted row rest n place c d h l =
-    let p = take (n + 2 - place) (drop place row) in
-    let m : length p ≡ n + 2 - place =
-    length-take-le (n + 2 - place) (drop place row) (omega (arith, length-drop place row)) in
-    let e : length p - 2 ≡ n - place = omega arith in
-    ap (λ (r : List ℕ). take (n + 2) (take place row ++ (r ++ rest))) (sym (append-nil (led c d p)))
-    ∙ up_to row (led c d p) [] rest place (n + 2) (omega arith) (omega (arith, length_led p c d (omega arith)))
-    ∙ ap₂ (λ (x y : List ℕ). x ++ (c ∷ d ∷ y)) (sym (front_is row n place h (omega arith)))
-    (ap (λ (i : ℕ). take i p) e ∙ take-take (n - place) (n + 2 - place) (drop place row) (omega arith)
-    ∙ sym (rest_is row n place h (omega arith)))
-
--- ---- stores in a row
-
-module _ (row : List ℕ) (n p a b : ℕ) where
-  pub store_two : p + 2 ≤ n → n ≤ length row
-      → take n (set (set row p a) (p + 1) b) ≡ take p (take n row) ++ (a ∷ b ∷ drop (p + 2) (take n row))
-  store_two h l =
-      let m : length (take n row) ≡ n = length-take-le n row l in
-      take-set-lt n (set row p a) (p + 1) b (omega arith)
-      ∙ ap (λ (r : List ℕ). set r (p + 1) b) (take-set-lt n row p a (omega arith))
-      ∙ ap (λ (i : ℕ). set (set (take n row) p a) i b) (add-one p)
-      ∙ sets-eq (a ∷ b ∷ []) (take n row) p (omega arith)
-      ∙ append_assoc (take p (take n row)) (a ∷ b ∷ []) (drop (p + 2) (take n row))
-
-  pub store_three : (c : ℕ) → p + 3 ≤ n → n ≤ length row
-      → take n (set (set (set row p a) (p + 1) b) (p + 2) c)
-      ≡ take p (take n row) ++ (a ∷ b ∷ c ∷ drop (p + 3) (take n row))
-  store_three c h l =
-      let m : length (take n row) ≡ n = length-take-le n row l in
-      take-set-lt n (set (set row p a) (p + 1) b) (p + 2) c (omega arith)
-      ∙ ap (λ (r : List ℕ). set r (p + 2) c)
-      (take-set-lt n (set row p a) (p + 1) b (omega arith)
-      ∙ ap (λ (r : List ℕ). set r (p + 1) b) (take-set-lt n row p a (omega arith)))
-      ∙ ap₂ (λ (i j : ℕ). set (set (set (take n row) p a) i b) j c) (add-one p) (add-two p)
-      ∙ sets-eq (a ∷ b ∷ c ∷ []) (take n row) p (omega arith)
-      ∙ append_assoc (take p (take n row)) (a ∷ b ∷ c ∷ []) (drop (p + 3) (take n row))
+inserted row n place c d h l =
+    let new : List ℕ = copy_within row place n (place + 2) in
+    let front = take (place + 2) row in
+    let rest = take (n - place) (drop place row) in
+    let few : n - place ≤ length (drop place row) = omega (arith, length-drop place row) in
+    let e : n + 2 ≡ place + 2 + (n - place) = omega arith in
+    let moved : take (n + 2) new ≡ front ++ rest =
+    ap (λ (i : ℕ). take i new) e ∙ take-paste row (place + 2) (drop place row) (n - place) (omega arith) few in
+    let same : length new ≡ length row =
+    length-paste row (place + 2) (drop place row) (n - place) (omega arith) few in
+    let two : length front ≡ place + 2 = length-take-le (place + 2) row (omega arith) in
+    store_two new (n + 2) place c d (omega arith) (omega arith)
+    ∙ ap (λ (w : List ℕ). take place w ++ (c ∷ d ∷ drop (place + 2) w)) moved
+    ∙ ap₂ (λ (x y : List ℕ). x ++ (c ∷ d ∷ y))
+    (take-append-le place front rest (omega arith) ∙ take-take place (place + 2) row (omega arith)
+    ∙ sym (front_is row n place h (omega arith)))
+    (drop_at front rest (place + 2) two ∙ sym (rest_is row n place h (omega arith)))

@@ -12,21 +12,21 @@ use crate::shift::{insert_two, remove_two};
 fn is_inverse(c: u8) -> bool
     ensures { result ≡ is_inverse c }
 {
-    8 <= c && c <= 14
+    (8..=14).contains(&c)
 }
 
 // Do the generators differ by at least 2?
 fn are_far(c: u8, d: u8) -> bool
     ensures { result ≡ far c d }
 {
-    c % 8 + 2 <= d % 8 || d % 8 + 2 <= c % 8
+    2 <= (c % 8).abs_diff(d % 8)
 }
 
 // Do the generators differ by 1?
 fn are_neighbours(c: u8, d: u8) -> bool
     ensures { result ≡ neighbours c d }
 {
-    c % 8 + 1 == d % 8 || d % 8 + 1 == c % 8
+    (c % 8).abs_diff(d % 8) == 1
 }
 
 // Are both letters inverses, or neither?
@@ -40,13 +40,7 @@ fn same_sign(c: u8, d: u8) -> bool
 fn is_braid(j: u8, k: u8, l: u8) -> bool
     ensures { result ≡ neighbours j k && same_sign j k && eqb l j }
 {
-    if !are_neighbours(j, k) {
-        return false;
-    }
-    if !same_sign(j, k) {
-        return false;
-    }
-    l == j
+    are_neighbours(j, k) && same_sign(j, k) && l == j
 }
 
 // Kind 1 removes a letter and the inverse right after it.

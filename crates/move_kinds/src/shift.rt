@@ -1,36 +1,18 @@
-// Removes two letters from a word, or inserts two. The word is the first n codes of a row. A plain loop moves the codes
-// after the place by two. Each loop works on the part of the row from the place on, so that its own places count from
-// 0.
-ghost use Rattle.std.specs.Prelude.{◌+◌, ◌-◌, ◌≤◌, ◌≡◌, ◌∷◌, length, take, drop};
+// Removes two letters from a word, or inserts two. The word is the first n codes of a row.
+ghost use Rattle.std.specs.Prelude.{◌+◌, ◌-◌, ◌≤◌, ◌≡◌, length, take, drop};
 ghost use Rattle.base.specs.Lists.{overlaid};
 ghost use Rattle.word.specs.Cancellation.{removal};
 ghost use Rattle.move_kinds.specs.steps.Leaving.{insert_two};
 
-// Moves the codes after the first two to the front. The last two codes do not change.
+// Moves the codes after the first two to the front. The last two codes do not change. This loop becomes a `memmove`;
+// `copy_within` towards the front does not, and took twice as long.
 fn move_up(part: &mut [u8])
     requires { 2 ≤ length part.old }
     ensures { part.new ≡ overlaid (drop 2 part.old) part.old }
 {
-    let end = part.len() - 2;
-    let mut k = 0;
-    while k < end {
+    for k in 0..part.len() - 2 {
         part[k] = part[k + 2];
-        k += 1;
     }
-}
-
-// Moves all codes but the last two by two places towards the end, over the last two, and puts c and d in front.
-fn move_down(part: &mut [u8], c: u8, d: u8)
-    requires { 2 ≤ length part.old }
-    ensures { part.new ≡ c ∷ d ∷ take (length part.old - 2) part.old }
-{
-    let mut k = part.len() - 2;
-    while 0 < k {
-        k -= 1;
-        part[k + 2] = part[k];
-    }
-    part[1] = d;
-    part[0] = c;
 }
 
 // Removes the two letters at a place.
@@ -46,5 +28,7 @@ pub(crate) fn insert_two(codes: &mut [u8], n: usize, place: usize, c: u8, d: u8)
     requires { (place ≤ n) × (n + 2 ≤ length codes.old) }
     ensures { take (n + 2) codes.new ≡ insert_two c d place (take n codes.old) }
 {
-    move_down(&mut codes[place..n + 2], c, d);
+    codes.copy_within(place..n, place + 2);
+    codes[place] = c;
+    codes[place + 1] = d;
 }

@@ -45,14 +45,12 @@ pub(crate) fn all_moves(codes: &mut [u8], n: usize, moves: &[u8]) -> Change
 {
     let count = base::two_bytes(moves, 0);
     let mut letters = n;
-    let mut k = 0;
-    while k < count {
+    for k in 0..count {
         let m = move_at(codes, letters, moves, k);
         if m.answer != 0 {
             return m;
         }
         letters = m.letters;
-        k += 1;
     }
     Change { answer: 0, letters }
 }

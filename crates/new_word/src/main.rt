@@ -13,26 +13,32 @@ use desk_io::NAME_ROOM;
 use desk_words::Made;
 use std::rt::{Env, Files};
 
-// The number of letters of a word's file, or the number that a stored form states.
-fn letters(file: &[u8], stored: bool) -> usize {
-    if stored && 2 <= file.len() {
-        return base::two_bytes(file, 0);
-    }
-    let w = word::read_word(file);
-    w.letters
+// What a file holds: a word, or a word's stored form.
+#[derive(Clone, Copy)]
+enum Form {
+    Word,
+    Stored,
 }
 
-// Prints how many letters and bytes the old file has and how many the new file has, without a line end. `from_stored`
-// and `to_stored` say which of the files is a stored form.
-fn sizes(rt: &impl Print, old: &[u8], new: &[u8], from_stored: bool, to_stored: bool) {
-    print::text(rt, b"letters");
-    print::number(rt, letters(old, from_stored));
-    print::text(rt, b" to");
-    print::number(rt, letters(new, to_stored));
-    print::text(rt, b", bytes");
-    print::number(rt, old.len());
-    print::text(rt, b" to");
-    print::number(rt, new.len());
+impl Form {
+    // The number of letters of a word's file, or the number that a stored form states.
+    fn letters(self, file: &[u8]) -> usize {
+        match self {
+            Form::Stored if 2 <= file.len() => base::two_bytes(file, 0),
+            _ => word::read_word(file).letters,
+        }
+    }
+}
+
+// Prints how many letters and bytes the old file has and how many the new file has, without a line end.
+fn sizes(rt: &impl Print, old: &[u8], from: Form, new: &[u8], to: Form) {
+    let _ = print!(rt;
+        "letters {} to {}, bytes {} to {}",
+        from.letters(old),
+        to.letters(new),
+        old.len(),
+        new.len()
+    );
 }
 
 // If the answer is 0, writes what was made to the file that argument `new` names. Then prints the answer, or that there
@@ -44,43 +50,36 @@ fn placed(rt: &(impl Files + Env + Print + Eprint), made: Made, new: usize, alon
         print::text(rt, b"no answer\n");
         return false;
     }
-    let answer = made.answer;
-    let file = made.file;
-    let bytes = made.bytes;
-    if answer == 0 && !desk_put::put_at(rt, 2, new, &file[..bytes], alone) {
+    if made.answer == 0 && !desk_put::put_at(rt, 2, new, &made.file[..made.bytes], alone) {
         print::text(rt, b"not written\n");
         return false;
     }
-    desk_put::tell(rt, answer);
-    answer == 0
+    desk_put::tell(rt, made.answer);
+    made.answer == 0
 }
 
 // Writes what was made and prints the answer, as `placed` does. If a file was written, also prints the line of sizes.
-// `from_stored` and `to_stored` say which of the files is a stored form.
 fn end(
     rt: &(impl Files + Env + Print + Eprint),
     made: Made,
     old: &[u8],
+    from: Form,
     new: usize,
+    to: Form,
     alone: bool,
-    from_stored: bool,
-    to_stored: bool,
 )
     requires { IsPrefixLen made.bytes made.file }
 {
-    let file = made.file;
-    let bytes = made.bytes;
     if placed(rt, made, new, alone) {
-        sizes(rt, old, &file[..bytes], from_stored, to_stored);
+        sizes(rt, old, from, &made.file[..made.bytes], to);
         print::text(rt, b"\n");
     }
 }
 
-// The number that an argument writes, 0 to 65,535; 65,536 for any other argument.
-fn number_at(rt: &impl Env, at: usize) -> usize {
-    let mut name = [0u8; NAME_ROOM];
-    let n = desk_io::argument_or_none(rt, at, &mut name);
-    desk_number::number_of(&name[..n])
+// The number that an argument writes, 0 to 65,535.
+fn number_at(rt: &impl Env, at: usize) -> Option<u16> {
+    let mut room = [0u8; NAME_ROOM];
+    desk_number::number_of(desk_io::argument_or_empty(rt, at, &mut room))
 }
 
 // One slip: key, digest, signature and new signature are the four arguments from a place on.
@@ -94,16 +93,8 @@ fn slip(rt: &(impl Files + Env + Print + Eprint), at: usize, alone: bool, effort
     let d = desk_io::file(rt, at + 1, &mut digest);
     let w = desk_io::file(rt, at + 2, &mut word);
     let made = desk_words::shorten(&key, &digest, &word, k, d, w, effort);
-    let n = w.bytes;
-    end(
-        rt,
-        made,
-        text::part(&word, 0, n),
-        at + 3,
-        alone,
-        false,
-        false,
-    );
+    let old = text::part(&word, 0, w.bytes);
+    end(rt, made, old, Form::Word, at + 3, Form::Word, alone);
 }
 
 // Shortens slips: a name beside the new files, the effort, then key, digest, signature and new signature of each slip.
@@ -122,8 +113,8 @@ fn rewrite(rt: &(impl Files + Env + Print + Eprint)) {
     let w = desk_io::file(rt, 3, &mut word);
     let m = desk_io::file(rt, 4, &mut moves);
     let made = desk_words::rewrite(&word, &moves, w, m);
-    let n = w.bytes;
-    end(rt, made, text::part(&word, 0, n), 5, true, false, false);
+    let old = text::part(&word, 0, w.bytes);
+    end(rt, made, old, Form::Word, 5, Form::Word, true);
 }
 
 // Reduces a word freely: a name beside the new file, the word, the new word.
@@ -131,17 +122,8 @@ fn reduce(rt: &(impl Files + Env + Print + Eprint)) {
     let mut word = [0u8; desk_line::WORD_ROOM];
     let w = desk_io::file(rt, 3, &mut word);
     let made = desk_words::reduce(&word, w);
-    let n = w.bytes;
-    end(rt, made, text::part(&word, 0, n), 4, true, false, false);
-}
-
-// Prints whether a handle is left, and ends the line with the sizes.
-fn handles_left(rt: &impl Print, left: bool) {
-    if left {
-        print::text(rt, b", handles left: yes\n");
-    } else {
-        print::text(rt, b", handles left: no\n");
-    }
+    let old = text::part(&word, 0, w.bytes);
+    end(rt, made, old, Form::Word, 4, Form::Word, true);
 }
 
 // Writes what taking handles out made and prints the answer, as `end` does. The line of sizes also says whether a
@@ -149,11 +131,9 @@ fn handles_left(rt: &impl Print, left: bool) {
 fn end_handles(rt: &(impl Files + Env + Print + Eprint), made: Made, left: bool, old: &[u8])
     requires { IsPrefixLen made.bytes made.file }
 {
-    let file = made.file;
-    let bytes = made.bytes;
     if placed(rt, made, 5, true) {
-        sizes(rt, old, &file[..bytes], false, false);
-        handles_left(rt, left);
+        sizes(rt, old, Form::Word, &made.file[..made.bytes], Form::Word);
+        print::choice(rt, left, b", handles left: yes\n", b", handles left: no\n");
     }
 }
 
@@ -162,17 +142,14 @@ fn steps(rt: &(impl Files + Env + Print + Eprint), limit: u16) {
     let mut word = [0u8; desk_line::WORD_ROOM];
     let w = desk_io::file(rt, 3, &mut word);
     let taken = desk_handles::take_handles(&word, limit, w);
-    let n = w.bytes;
-    end_handles(rt, taken.made, taken.left, text::part(&word, 0, n));
+    end_handles(rt, taken.made, taken.left, text::part(&word, 0, w.bytes));
 }
 
 // Takes handles out of a word: a name beside the new file, the word, the greatest number of steps, the new word.
 fn handles(rt: &(impl Files + Env + Print + Eprint)) {
-    let limit = number_at(rt, 4);
-    if limit < desk_number::NONE {
-        steps(rt, limit as u16);
-    } else {
-        desk_io::misused(rt, b"handles takes at most 65535 steps, in decimal\n");
+    match number_at(rt, 4) {
+        Some(limit) => steps(rt, limit),
+        None => desk_io::misused(rt, b"handles takes at most 65535 steps, in decimal"),
     }
 }
 
@@ -181,8 +158,8 @@ fn store(rt: &(impl Files + Env + Print + Eprint)) {
     let mut word = [0u8; desk_line::WORD_ROOM];
     let w = desk_io::file(rt, 3, &mut word);
     let made = desk_words::store(&word, w);
-    let n = w.bytes;
-    end(rt, made, text::part(&word, 0, n), 4, true, false, true);
+    let old = text::part(&word, 0, w.bytes);
+    end(rt, made, old, Form::Word, 4, Form::Stored, true);
 }
 
 // Restores a word: a name beside the new file, the stored form, the word.
@@ -190,8 +167,8 @@ fn restore(rt: &(impl Files + Env + Print + Eprint)) {
     let mut form = [0u8; desk_words::STORED_ROOM];
     let f = desk_io::file(rt, 3, &mut form);
     let made = desk_words::restore(&form, f);
-    let n = f.bytes;
-    end(rt, made, text::part(&form, 0, n), 4, true, true, false);
+    let old = text::part(&form, 0, f.bytes);
+    end(rt, made, old, Form::Stored, 4, Form::Word, true);
 }
 
 // Turns a word into the other dialect, to Y if `way` is true: a name beside the new file, the word, the parts of 7, the
@@ -199,41 +176,33 @@ fn restore(rt: &(impl Files + Env + Print + Eprint)) {
 fn convert(rt: &(impl Files + Env + Print + Eprint), way: bool) {
     let mut word = [0u8; desk_line::WORD_ROOM];
     let w = desk_io::file(rt, 3, &mut word);
-    let mut argument = [0u8; NAME_ROOM];
-    let m = desk_io::argument_or_none(rt, 4, &mut argument);
-    let made = desk_dialect::convert(way, &argument[..m], &word, w);
-    let n = w.bytes;
-    end(rt, made, text::part(&word, 0, n), 5, true, false, false);
+    let mut room = [0u8; NAME_ROOM];
+    let parts = desk_io::argument_or_empty(rt, 4, &mut room);
+    let made = desk_dialect::convert(way, parts, &word, w);
+    let old = text::part(&word, 0, w.bytes);
+    end(rt, made, old, Form::Word, 5, Form::Word, true);
 }
 
 // The verb decides how many arguments must follow. For `shorten`, each slip has four of them.
 fn main(rt: HostRuntime) {
     let rt = &rt;
-    let mut name = [0u8; NAME_ROOM];
-    let m = desk_io::argument_or_none(rt, 1, &mut name);
-    let verb = &name[..m];
+    let mut room = [0u8; NAME_ROOM];
+    let verb = desk_io::argument_or_empty(rt, 1, &mut room);
     let n = desk_io::arg_count(rt);
-    let effort = number_at(rt, 3);
-    if base::equal(verb, b"shorten") && 7 < n && n % 4 == 0 && effort < desk_number::NONE {
-        shorten(rt, n, effort as u16);
-    } else if base::equal(verb, b"rewrite") && n == 6 {
-        rewrite(rt);
-    } else if base::equal(verb, b"reduce") && n == 5 {
-        reduce(rt);
-    } else if base::equal(verb, b"handles") && n == 6 {
-        handles(rt);
-    } else if base::equal(verb, b"store") && n == 5 {
-        store(rt);
-    } else if base::equal(verb, b"restore") && n == 5 {
-        restore(rt);
-    } else if base::equal(verb, b"to-y") && n == 6 {
-        convert(rt, true);
-    } else if base::equal(verb, b"from-y") && n == 6 {
-        convert(rt, false);
-    } else {
-        desk_io::misused(
+    match (verb, number_at(rt, 3)) {
+        (b"shorten", Some(effort)) if 7 < n && n % 4 == 0 => shorten(rt, n, effort),
+        (b"rewrite", _) if n == 6 => rewrite(rt),
+        (b"reduce", _) if n == 5 => reduce(rt),
+        (b"handles", _) if n == 6 => handles(rt),
+        (b"store", _) if n == 5 => store(rt),
+        (b"restore", _) if n == 5 => restore(rt),
+        (b"to-y", _) if n == 6 => convert(rt, true),
+        (b"from-y", _) if n == 6 => convert(rt, false),
+        _ => desk_io::misused(
             rt,
-            b"new_word takes a verb and, after a name beside the new file, the verb's files: shorten EFFORT KEY DIGEST SIGNATURE NEW, rewrite WORD MOVES NEW, reduce WORD NEW, handles WORD LIMIT NEW, store WORD NEW, restore STORED NEW, to-y WORD PARTS NEW or from-y WORD PARTS NEW\n",
-        );
+            b"new_word takes a verb and, after a name beside the new file, the verb's files: shorten EFFORT KEY DIGEST \
+             SIGNATURE NEW, rewrite WORD MOVES NEW, reduce WORD NEW, handles WORD LIMIT NEW, store WORD NEW, restore \
+             STORED NEW, to-y WORD PARTS NEW or from-y WORD PARTS NEW",
+        ),
     }
 }

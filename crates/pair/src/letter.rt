@@ -36,9 +36,9 @@ fn spread(columns: &mut [u64; 9], g: usize, inverse: bool, column: u64, product:
     let by = side(inverse);
     let first = g + by;
     let second = g + 2 - by;
-    columns[first] = columns[first] ^ product;
+    columns[first] ^= product;
     columns[g + 1] = product;
-    columns[second] = columns[second] ^ column;
+    columns[second] ^= column;
 }
 
 // Exchanges the labels at places g and g + 1.
@@ -46,10 +46,7 @@ fn exchange(labels: &mut [u8; 8], g: usize)
     requires { g < 7 }
     ensures { labels.new ≡ swapped g labels.old }
 {
-    let own = labels[g];
-    let next = labels[g + 1];
-    labels[g] = next;
-    labels[g + 1] = own;
+    labels.swap(g, g + 1);
 }
 
 // Multiplies in a letter whose own column is g. The constants of the number that the letter takes begin at place `at`.
@@ -90,10 +87,10 @@ pub fn one_letter(
     ensures { Carried bits constants.now (code ∷ []) columns.old labels.old
         columns.new labels.new }
 {
-    let g = (code % 8) as usize;
+    let g = usize::from(code % 8);
     let inverse = 8 <= code;
-    let own = labels[g] as usize;
-    let next = labels[g + 1] as usize;
+    let own = usize::from(labels[g]);
+    let next = usize::from(labels[g + 1]);
     let at = constants_at(inverse, own, next);
     multiply_columns(columns, labels, constants, at, bits, g, inverse);
 }

@@ -1,7 +1,7 @@
 // Pairs, one letter on a pair, the braid relations.
 #![tactic(auto)]
 
-ghost use Rattle.std.specs.Prelude.{◌≡◌, length, get_or};
+ghost use Rattle.std.specs.Prelude.{◌≡◌, get_or};
 ghost use Rattle.word.specs.Strands.{inverse_list};
 ghost use Rattle.pair.specs.Action.{pair_of, start};
 ghost use Rattle.pair.specs.PairQuestions.{zero_pair};
@@ -44,13 +44,10 @@ impl Pair {
     pub fn zeros() -> Pair
         ensures { result ≡ zero_pair }
     {
-        let matrix = [0u8; 64];
-        let labels = [0u8; 8];
-        let positions = [0u8; 8];
         Pair {
-            matrix,
-            labels,
-            positions,
+            matrix: [0; 64],
+            labels: [0; 8],
+            positions: [0; 8],
         }
     }
 
@@ -59,14 +56,9 @@ impl Pair {
         ensures { result ≡ start }
     {
         let mut matrix = [0u8; 64];
-        matrix[0] = 1;
-        matrix[9] = 1;
-        matrix[18] = 1;
-        matrix[27] = 1;
-        matrix[36] = 1;
-        matrix[45] = 1;
-        matrix[54] = 1;
-        matrix[63] = 1;
+        for i in 0..8 {
+            matrix[9 * i] = 1;
+        }
         Pair::with(matrix, [0, 1, 2, 3, 4, 5, 6, 7])
     }
 }
@@ -77,25 +69,18 @@ fn positions_of(labels: &[u8; 8]) -> [u8; 8]
     ensures { result ≡ inverse_list labels.now }
 {
     let mut positions = [0u8; 8];
-    let mut i: u8 = 0;
-    while i < 8 {
-        let label = labels[i as usize];
+    for i in 0..8u8 {
+        let label = labels[usize::from(i)];
         if label < 8 {
-            positions[label as usize] = i + 1;
+            positions[usize::from(label)] = i + 1;
         }
-        i += 1;
     }
     positions
 }
 
-// The T-value of a label, or 0 for a label over 7.
+// The T-value of a label, or 0 for a label past the last one.
 pub fn value_of(t_values: &[u8], label: u8) -> u8
-    requires { length t_values.now ≡ 8 }
     ensures { result ≡ get_or t_values.now label 0 }
 {
-    if label < 8 {
-        t_values[label as usize]
-    } else {
-        0
-    }
+    t_values.get(usize::from(label)).copied().unwrap_or(0)
 }

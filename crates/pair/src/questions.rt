@@ -17,8 +17,7 @@ pub fn pair_answer(pair: Pair, t_values: &[u8; 8], others: &[u8], bits: usize, f
     if !all_fit(t_values, bits) {
         return 17;
     }
-    let matrix = pair.matrix;
-    if !all_fit(&matrix, bits) {
+    if !all_fit(&pair.matrix, bits) {
         return 17;
     }
     if !all_fit(others, bits) {
@@ -27,9 +26,7 @@ pub fn pair_answer(pair: Pair, t_values: &[u8; 8], others: &[u8], bits: usize, f
     if !all_nonzero(t_values) {
         return 4;
     }
-    let labels = pair.labels;
-    let positions = pair.positions;
-    if !are_inverse(&labels, &positions) {
+    if !are_inverse(&pair.labels, &pair.positions) {
         return 6;
     }
     0

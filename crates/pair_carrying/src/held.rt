@@ -1,6 +1,6 @@
 // A pair as the loop over letters holds it: columns of 64 bits, places instead of labels, and the constants of the
 // T-values. `pair_of` turns columns and places back into a pair.
-ghost use Rattle.std.specs.Prelude.{◌≡◌, ℕ, ◌<◌, length, get_or};
+ghost use Rattle.std.specs.Prelude.{◌≡◌, ◌<◌, length, get_or};
 ghost use Rattle.base.specs.Lists.{values};
 ghost use Rattle.field.specs.Polynomial.{polynomials};
 ghost use Rattle.field.specs.steps.Reciprocals.{looked_up, LentField};
@@ -12,18 +12,12 @@ ghost use Rattle.pair.specs.steps.Columns.{named, values_at};
 use field::inverse;
 use pair::Pair;
 
-// The T-values of the labels at the eight places.
-fn values_at(t_values: &[u8], labels: &[u8; 8]) -> [u8; 8]
-    requires { length t_values.now ≡ 8 }
-    ensures { result ≡ values_at t_values.now labels.now }
+// The numbers at eight places of a list: the T-values of labels, or the labels at places. Past the list's end a number
+// is 0.
+fn values_at(list: &[u8], places: &[u8; 8]) -> [u8; 8]
+    ensures { result ≡ values_at list.now places.now }
 {
-    let mut list = [0u8; 8];
-    let mut i = 0;
-    while i < 8 {
-        list[i] = pair::value_of(t_values, labels[i]);
-        i += 1;
-    }
-    list
+    places.map(|place| pair::value_of(list, place))
 }
 
 // The reciprocals of eight numbers, from the lent table. For 0 the table gives 0.
@@ -31,13 +25,7 @@ fn reciprocals_of(numbers: &[u8; 8], table: &[u8]) -> [u8; 8]
     requires { length table.now < 256 }
     ensures { result ≡ values (λ k. looked_up table.now (get_or numbers.now k 0)) 8 }
 {
-    let mut list = [0u8; 8];
-    let mut i = 0;
-    while i < 8 {
-        list[i] = inverse(numbers[i], table);
-        i += 1;
-    }
-    list
+    numbers.map(|number| inverse(number, table))
 }
 
 // The constants of the T-values of the labels at the eight places. The caller lends the field's table, bits and
@@ -49,7 +37,7 @@ pub fn constants_by_place(
     bits: usize,
     modulus: u64,
 ) -> [u64; 128]
-    requires { (length t_values.now ≡ 8) × LentField bits modulus table.now }
+    requires { LentField bits modulus table.now }
     ensures { Constants (polynomials bits modulus) bits (values_at t_values.now labels.now) result }
 {
     let numbers = values_at(t_values, labels);
@@ -57,26 +45,12 @@ pub fn constants_by_place(
     matrix_columns::constants_of(&numbers, &reciprocals, bits, modulus)
 }
 
-// The labels that stand at eight places of the list.
-fn names_at(labels: &[u8; 8], places: &[u8; 8]) -> [u8; 8]
-    requires { (k : ℕ) → get_or places.now k 0 < 8 }
-    ensures { result ≡ named labels.now places.now }
-{
-    let mut names = [0u8; 8];
-    let mut i = 0;
-    while i < 8 {
-        let place = places[i] as usize;
-        names[i] = labels[place];
-        i += 1;
-    }
-    names
-}
-
 // The pair of the columns' matrix and the labels at the given places.
 pub fn pair_of(columns: &[u64; 9], places: &[u8; 8], labels: &[u8; 8]) -> Pair
-    requires { (k : ℕ) → get_or places.now k 0 < 8 }
     ensures { result ≡ pair_of (columns_matrix columns.now) (named labels.now places.now) }
 {
-    let matrix = matrix_columns::matrix_of(columns);
-    Pair::with(matrix, names_at(labels, places))
+    Pair::with(
+        matrix_columns::matrix_of(columns),
+        values_at(labels, places),
+    )
 }

@@ -11,7 +11,7 @@ ghost use Rattle.word.specs.Letters.{is_letter};
 ghost use Rattle.pair.specs.Action.{pair_of, word_on};
 ghost use Rattle.pair.specs.steps.Columns.{Held, Carried};
 
-use field::{Field, LARGE_BITS, LARGE_MODULUS, SMALL_BITS, SMALL_MODULUS};
+use field::{Field, LARGE_BITS, LARGE_MODULUS, SMALL_BITS, SMALL_MODULUS, reciprocals};
 use pair::{Pair, one_letter};
 
 mod held; // held.rt: a pair as the loop over letters holds it
@@ -30,10 +30,8 @@ pub fn run(
     ensures { Carried bits constants.now codes.now columns.old labels.old
         columns.new labels.new }
 {
-    let mut i = 0;
-    while i < codes.len() {
-        one_letter(columns, labels, constants, bits, codes[i]);
-        i += 1;
+    for &code in codes {
+        one_letter(columns, labels, constants, bits, code);
     }
 }
 
@@ -51,13 +49,11 @@ fn row(
         ≡ word_on (polynomials bits modulus) t_values.now codes.now
         (pair_of pair.matrix pair.labels) }
 {
-    let matrix = pair.matrix;
-    let labels = pair.labels;
-    let constants = constants_by_place(t_values, &labels, table, bits, modulus);
-    let mut columns = matrix_columns::columns_of(&matrix);
-    let mut places = [0u8, 1, 2, 3, 4, 5, 6, 7];
+    let constants = constants_by_place(t_values, &pair.labels, table, bits, modulus);
+    let mut columns = matrix_columns::columns_of(&pair.matrix);
+    let mut places = [0, 1, 2, 3, 4, 5, 6, 7];
     run(&mut columns, &mut places, &constants, bits, codes);
-    pair_of(&columns, &places, &labels)
+    pair_of(&columns, &places, &pair.labels)
 }
 
 // Multiplies letters, one code to a byte, first to last, into the pair.
@@ -66,14 +62,10 @@ pub fn carry_letters(pair: Pair, t_values: &[u8; 8], codes: &[u8], f: Field) -> 
     ensures { result
         ≡ word_on (operations f) t_values.now codes.now (pair_of pair.matrix pair.labels) }
 {
+    let table = reciprocals(f);
+    // Each arm passes constants, which the compiler can spread into the loop over a letter's bits.
     match f {
-        Field::Gf32 => {
-            let table = field::small_reciprocals();
-            row(pair, t_values, codes, &table, SMALL_BITS, SMALL_MODULUS)
-        }
-        Field::Gf256 => {
-            let table = field::large_reciprocals();
-            row(pair, t_values, codes, &table, LARGE_BITS, LARGE_MODULUS)
-        }
+        Field::Gf32 => row(pair, t_values, codes, table, SMALL_BITS, SMALL_MODULUS),
+        Field::Gf256 => row(pair, t_values, codes, table, LARGE_BITS, LARGE_MODULUS),
     }
 }

@@ -12,7 +12,7 @@ ghost use Rattle.word.specs.Words.{codes, word_answer};
 ghost use Rattle.pair.specs.Action.{pair_of, word_on};
 ghost use Rattle.pair.specs.steps.Columns.{Held, PackedCarried, WholeCarried};
 
-use field::{Field, LARGE_BITS, LARGE_MODULUS, SMALL_BITS, SMALL_MODULUS};
+use field::{Field, LARGE_BITS, LARGE_MODULUS, SMALL_BITS, SMALL_MODULUS, reciprocals};
 use pair::Pair;
 use pair_carrying::{constants_by_place, pair_of};
 
@@ -32,13 +32,11 @@ fn words(
     ensures { WholeCarried bits n result part.now constants.now columns.old labels.old
         columns.new labels.new }
 {
-    let mut k = 0;
-    while k + 8 <= n / 2 {
-        let codes = word::sixteen_at(part, k);
+    for group in 0..n / 16 {
+        let codes = word::sixteen_at(part, 8 * group);
         pair_carrying::run(columns, labels, constants, bits, &codes);
-        k += 8;
     }
-    k
+    8 * (n / 16)
 }
 
 // Multiplies in the first n packed letters, first to last.
@@ -57,11 +55,9 @@ fn letters(
         columns.new labels.new }
 {
     let done = words(columns, labels, constants, bits, part, n);
-    let end = (n + 1) / 2;
     let mut last = [0u8; 16];
-    word::unpack(&part[done..end], &mut last);
-    let left = n - 2 * done;
-    pair_carrying::run(columns, labels, constants, bits, &last[..left]);
+    word::unpack(&part[done..n.div_ceil(2)], &mut last);
+    pair_carrying::run(columns, labels, constants, bits, &last[..n - 2 * done]);
 }
 
 // Multiplies the first n packed letters into the pair. The caller lends the field's table, bits and modulus.
@@ -81,13 +77,11 @@ fn packed(
         ≡ word_on (polynomials bits modulus) t_values.now (take n (halves part.now))
         (pair_of pair.matrix pair.labels) }
 {
-    let matrix = pair.matrix;
-    let labels = pair.labels;
-    let constants = constants_by_place(t_values, &labels, table, bits, modulus);
-    let mut columns = matrix_columns::columns_of(&matrix);
-    let mut places = [0u8, 1, 2, 3, 4, 5, 6, 7];
+    let constants = constants_by_place(t_values, &pair.labels, table, bits, modulus);
+    let mut columns = matrix_columns::columns_of(&pair.matrix);
+    let mut places = [0, 1, 2, 3, 4, 5, 6, 7];
     letters(&mut columns, &mut places, &constants, bits, part, n);
-    pair_of(&columns, &places, &labels)
+    pair_of(&columns, &places, &pair.labels)
 }
 
 // Multiplies the letters of an accepted word file, first to last, into the pair.
@@ -99,14 +93,10 @@ pub fn carry_file(pair: Pair, t_values: &[u8; 8], file: &[u8], f: Field) -> Pair
 {
     let n = word::stated(file);
     let part = &file[2..];
+    let table = reciprocals(f);
+    // Each arm passes constants, which the compiler can spread into the loop over a letter's bits.
     match f {
-        Field::Gf32 => {
-            let table = field::small_reciprocals();
-            packed(pair, t_values, part, n, &table, SMALL_BITS, SMALL_MODULUS)
-        }
-        Field::Gf256 => {
-            let table = field::large_reciprocals();
-            packed(pair, t_values, part, n, &table, LARGE_BITS, LARGE_MODULUS)
-        }
+        Field::Gf32 => packed(pair, t_values, part, n, table, SMALL_BITS, SMALL_MODULUS),
+        Field::Gf256 => packed(pair, t_values, part, n, table, LARGE_BITS, LARGE_MODULUS),
     }
 }

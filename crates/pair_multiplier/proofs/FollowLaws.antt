@@ -1,14 +1,13 @@
 -- The positions after a letter. Where two lists are inverse to each other, and two neighbouring labels change places,
 -- only the positions of these two labels change.
 use Prim.Native.Nat.{ℕ, ◌+◌, ◌<◌}
-use mathlib.Core.Path.{◌≡◌, sym, ap, ◌∙◌}
-use mathlib.Core.Bool.{true}
+use mathlib.Core.Path.{◌≡◌, ap, ◌∙◌}
 use mathlib.Core.List.{List}
 use native.Mathlib.Decide.{ℕ_discrete}
 use native.Mathlib.Omega.{arith}
 use lib.ListN.{length, get_or, set, length-set}
 use lib.Seq.{get_or-set_same, get_or-set_other}
-use Rattle.word.specs.Strands.{is_order, inverse_list, swapped}
+use Rattle.word.specs.Strands.{inverse_list, swapped}
 use Rattle.word.proofs.StrandLaws.{length_swapped, swapped_first, swapped_second, swapped_other, swapped_below}
 use Rattle.word.proofs.PositionLaws.{order_below, inverse_order, inverse_is, position_there, inverse_by_places}
 use Rattle.pair_multiplier.specs.steps.InversePositions.{InversePositions}

@@ -1,8 +1,8 @@
 // The multiplier used alone, by value and on a lent pair.
 #![tactic(auto)]
 
-ghost use Rattle.std.specs.Prelude.{◌≡◌, true, ◌<◌, length};
-ghost use Rattle.field.specs.Fields.{modulus, operations, field_of};
+ghost use Rattle.std.specs.Prelude.{◌≡◌, true, ◌<◌};
+ghost use Rattle.field.specs.Fields.{operations, field_of};
 ghost use Rattle.word.specs.Letters.{is_letter};
 ghost use Rattle.word.specs.Strands.{inverse_list, are_inverse, swapped};
 ghost use Rattle.pair.specs.Action.{letter_on};
@@ -12,7 +12,7 @@ ghost use Rattle.pair_multiplier.specs.Multiplier.{Multiplies};
 ghost use Rattle.pair_multiplier.specs.Lent.{Lends};
 ghost use Rattle.pair_multiplier.specs.steps.InversePositions.{InversePositions};
 
-use field::{Field, LARGE_MODULUS, SMALL_MODULUS, bits_of, inverse};
+use field::{Field, bits_of, inverse, modulus_of, reciprocals};
 use pair::{Pair, multiply_columns, value_of};
 
 // What the multiplier gives. The answer is the number of the first question answered no, or 0 if there is none. On a
@@ -33,42 +33,21 @@ impl Multiplied {
     }
 }
 
-// The polynomial that products are reduced by.
-fn modulus_of(f: Field) -> u64
-    ensures { result ≡ modulus f }
-{
-    match f {
-        Field::Gf32 => SMALL_MODULUS,
-        Field::Gf256 => LARGE_MODULUS,
-    }
-}
-
-// The reciprocal of a number, by the field's table. Naming a table copies it to the stack. Only inverse letters use
-// this function, so other letters copy no table.
+// The reciprocal of a number, by the field's table.
 fn inverse_of(a: u8, f: Field) -> u8
     ensures { result ≡ (operations f).inv a }
 {
-    match f {
-        Field::Gf32 => {
-            let table = field::small_reciprocals();
-            inverse(a, &table)
-        }
-        Field::Gf256 => {
-            let table = field::large_reciprocals();
-            inverse(a, &table)
-        }
-    }
+    inverse(a, reciprocals(f))
 }
 
 // The number that a letter with own column g takes. A generator takes the T-value of the label at place g. An inverse
 // letter takes the reciprocal of the T-value of the label at place g + 1.
 fn taken(t_values: &[u8], labels: &[u8; 8], negative: bool, g: usize, f: Field) -> u8
-    requires { (length t_values.now ≡ 8) × (g < 7) }
+    requires { g < 7 }
     ensures { result ≡ taken_by (operations f).inv t_values.now labels.now negative g }
 {
     if negative {
-        let value = value_of(t_values, labels[g + 1]);
-        inverse_of(value, f)
+        inverse_of(value_of(t_values, labels[g + 1]), f)
     } else {
         value_of(t_values, labels[g])
     }
@@ -79,35 +58,36 @@ fn follow(positions: &mut [u8; 8], labels: &[u8; 8], g: u8)
     requires { InversePositions labels.now positions.old × (g < 7) }
     ensures { positions.new ≡ inverse_list (swapped g labels.now) }
 {
-    let at = g as usize;
-    let own = labels[at] as usize;
-    let next = labels[at + 1] as usize;
+    let at = usize::from(g);
+    let own = usize::from(labels[at]);
+    let next = usize::from(labels[at + 1]);
     positions[next] = g + 1;
     positions[own] = g + 2;
 }
 
 // Multiplies one letter into a pair and asks no question. The pair's lists are inverse to each other.
-fn after_letter(pair: Pair, t_values: &[u8; 8], letter: u8, f: Field) -> Pair
+fn after_letter(mut pair: Pair, t_values: &[u8; 8], letter: u8, f: Field) -> Pair
     requires { (are_inverse pair.labels pair.positions ≡ true) × (is_letter letter ≡ true) }
     ensures { result ≡ letter_on (operations f) t_values.now letter pair }
 {
-    let matrix = pair.matrix;
-    let mut labels = pair.labels;
-    let mut positions = pair.positions;
-    let g = (letter % 8) as usize;
+    let g = usize::from(letter % 8);
     let negative = 8 <= letter;
     let bits = bits_of(f);
-    let number = taken(t_values, &labels, negative, g, f);
+    let number = taken(t_values, &pair.labels, negative, g, f);
     let constants = matrix_columns::multiples_of(number, bits, modulus_of(f));
-    let mut columns = matrix_columns::columns_of(&matrix);
-    follow(&mut positions, &labels, letter % 8);
-    multiply_columns(&mut columns, &mut labels, &constants, 0, bits, g, negative);
-    let after = matrix_columns::matrix_of(&columns);
-    Pair {
-        matrix: after,
-        labels,
-        positions,
-    }
+    let mut columns = matrix_columns::columns_of(&pair.matrix);
+    follow(&mut pair.positions, &pair.labels, letter % 8);
+    multiply_columns(
+        &mut columns,
+        &mut pair.labels,
+        &constants,
+        0,
+        bits,
+        g,
+        negative,
+    );
+    pair.matrix = matrix_columns::matrix_of(&columns);
+    pair
 }
 
 // The multiplier alone: 17 for T-values and entries, then 4, 6, 12. On a refusal the pair is all zeros.

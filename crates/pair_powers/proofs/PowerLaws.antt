@@ -1,7 +1,7 @@
 -- An even power of a generator on a pair is one change of three columns, over any binary field. Two changes with the
 -- same own column, one after the other, are one change. So a run of letters is one change, by adding letter after
 -- letter.
-use Prim.Native.Nat.{ℕ, zero, suc, ◌+◌, ◌*◌, ◌%◌, ◌<◌}
+use Prim.Native.Nat.{ℕ, zero, suc, ◌+◌, ◌*◌, ◌<◌}
 use mathlib.Core.Path.{◌≡◌, refl, sym, ap, ap₂, ◌∙◌}
 use mathlib.Core.Bool.{Bool, false, ◌&&◌}
 use mathlib.Core.List.{List, [], ◌∷◌, ◌++◌}
@@ -11,12 +11,12 @@ use borrow.Author.Tests.{lt-leb}
 use lib.Dec.{leb}
 use lib.ListN.{length, get_or, replicate}
 use Rattle.field.specs.Binary.{Operations, BinaryField}
-use Rattle.field.proofs.Ring.{ring, add_assoc, add_zero, zero_mul}
-use Rattle.matrix.specs.Layout.{entry, Matrix}
+use Rattle.field.proofs.Ring.{ring, add_zero, zero_mul}
+use Rattle.matrix.specs.Layout.{entry}
 use Rattle.matrix.proofs.LayoutLaws.{entry_matrix_of, matrix_ext, entry_below}
 use Rattle.word.specs.Letters.{is_inverse, generator}
 use Rattle.word.specs.Strands.{swapped}
-use Rattle.word.proofs.StrandLaws.{swapped_first, swapped_twice, length_swapped}
+use Rattle.word.proofs.StrandLaws.{swapped_first, swapped_twice}
 use Rattle.pair.specs.declared.Pair.{Pair}
 use Rattle.pair.specs.Action.{Share, t_value, share_of, positive_share, row_after, rows_on, pair_of, letter_on, word_on}
 use Rattle.pair.specs.Good.{GoodPair}

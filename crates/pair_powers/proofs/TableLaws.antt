@@ -1,21 +1,19 @@
 -- The constants of the powers: what three rows of constants do to three columns, and the table row by row.
-use Prim.Native.Nat.{ℕ, zero, suc, ◌+◌, ◌*◌, ◌-◌, ◌%◌, ◌<◌, ◌≤◌}
+use Prim.Native.Nat.{ℕ, suc, ◌+◌, ◌*◌, ◌-◌, ◌%◌, ◌<◌, ◌≤◌}
 use mathlib.Core.Path.{◌≡◌, refl, sym, ap, subst, ◌∙◌}
 use mathlib.Core.List.{List}
-use mathlib.Core.Logic.{inl, inr}
+use mathlib.Core.Logic.{inl}
 use native.Mathlib.Nat.{mod-eq_of_lt}
-use native.Mathlib.Numerals.{add-one}
 use native.Mathlib.Omega.{arith}
 use native.Mathlib.Decide.{dec_lt}
 use lib.ListN.{length, get_or}
 use Rattle.base.specs.Packing.{Below}
 use Rattle.field.specs.Binary.{Operations}
 use Rattle.field.specs.Polynomial.{Degree, polynomials, times}
-use Rattle.matrix_columns.specs.steps.Lanes.{lane, chosen, InLanes, columns_matrix}
+use Rattle.matrix_columns.specs.steps.Lanes.{lane, chosen, InLanes}
 use Rattle.matrix_columns.specs.steps.Constants.{Multiples, Constants, Filled}
 use Rattle.matrix_columns.proofs.LaneLaws.{lane_first}
 use Rattle.matrix_columns.proofs.BitLaws.{by_constants}
-use Rattle.pair.specs.Action.{rows_on}
 use Rattle.pair.specs.steps.Columns.{Spread}
 use Rattle.pair.proofs.ColumnLaws.{columns_spread}
 use Rattle.pair_powers.specs.declared.Gains.{Gains}

@@ -28,9 +28,9 @@ pub fn raise(columns: &mut [u64; 9], table: &[u64], at: usize, bits: usize, g: u
     let left = times(table, at, bits, column);
     let own = times(table, at + 8, bits, column);
     let right = times(table, at + 16, bits, column);
-    columns[g] = columns[g] ^ left;
+    columns[g] ^= left;
     columns[g + 1] = own;
-    columns[g + 2] = columns[g + 2] ^ right;
+    columns[g + 2] ^= right;
 }
 
 // The product of a number with the number whose constants begin at place `at`.
@@ -38,8 +38,7 @@ fn product(constants: &[u64], at: usize, bits: usize, number: u8) -> u8
     requires { Below 256 constants.now × (bits ≤ 8) × (at + bits ≤ length constants.now) }
     ensures { ProductIs bits constants.now at number result }
 {
-    let column = number as u64;
-    let product = times(constants, at, bits, column);
+    let product = times(constants, at, bits, u64::from(number));
     (product % 256) as u8
 }
 
@@ -48,12 +47,11 @@ fn one_more(gains: Gains, constants: &[u64; 128], at: usize, bits: usize) -> Gai
     requires { Below 256 constants.now × (bits ≤ 8) × (at + 8 ≤ 128) }
     ensures { OneMoreIs bits constants.now at gains result }
 {
-    let before = gains.own;
-    let own = product(constants, at, bits, before);
+    let own = product(constants, at, bits, gains.own);
     Gains {
         left: gains.left ^ own,
         own,
-        right: gains.right ^ before,
+        right: gains.right ^ gains.own,
     }
 }
 
@@ -62,12 +60,9 @@ fn store(table: &mut [u64], at: usize, gains: Gains, bits: usize, modulus: u64)
     requires { (at + 24 ≤ length table.old) × Below 256 table.old × (bits ≤ 8) × Degree bits modulus }
     ensures { StoredThree (polynomials bits modulus) bits at gains table.old table.new }
 {
-    let left = gains.left;
-    let own = gains.own;
-    let right = gains.right;
-    multiples(table, at, left, bits, modulus);
-    multiples(table, at + 8, own, bits, modulus);
-    multiples(table, at + 16, right, bits, modulus);
+    multiples(table, at, gains.left, bits, modulus);
+    multiples(table, at + 8, gains.own, bits, modulus);
+    multiples(table, at + 16, gains.right, bits, modulus);
 }
 
 // Stores the constants of four powers of the generator with own column 6 - 2 j, where label 7 stands in the next place.
@@ -87,12 +82,10 @@ fn level_powers(table: &mut [u64; 384], j: usize, constants: &[u64; 128], bits: 
         own: 1,
         right: 0,
     };
-    let mut k = 0;
-    while k < 4 {
+    for k in 0..4 {
         let once = one_more(gains, constants, place, bits);
         gains = one_more(once, constants, 56, bits);
         store(table, 96 * j + 24 * k, gains, bits, modulus);
-        k += 1;
     }
 }
 
@@ -102,10 +95,8 @@ pub fn powers_of(constants: &[u64; 128], bits: usize, modulus: u64) -> [u64; 384
     ensures { PowerTable (polynomials bits modulus) bits constants.now 4 result }
 {
     let mut table = [0u64; 384];
-    let mut j = 0;
-    while j < 4 {
+    for j in 0..4 {
         level_powers(&mut table, j, constants, bits, modulus);
-        j += 1;
     }
     table
 }

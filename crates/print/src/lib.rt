@@ -24,11 +24,7 @@ pub fn hex(rt: &impl Print, bytes: &[u8]) {
 
 // Prints one of two texts.
 pub fn choice(rt: &impl Print, first: bool, a: &[u8], b: &[u8]) {
-    if first {
-        text(rt, a);
-    } else {
-        text(rt, b);
-    }
+    text(rt, if first { a } else { b });
 }
 
 // Prints a colon, a space and an answer.
@@ -43,20 +39,12 @@ pub fn line(rt: &impl Print, found: u8, bytes: &[u8]) {
     text(rt, b"\n");
 }
 
-fn is_all(bytes: &[u8], byte: u8) -> bool {
-    for x in bytes {
-        if *x != byte {
-            return false;
-        }
-    }
-    true
-}
-
 // Prints the first n bytes of an output, and whether all bytes after them are `fill`, and ends the line.
 pub fn output(rt: &impl Print, out: &[u8], n: usize, fill: u8) {
     if out.len() < n {
         return;
     }
-    hex(rt, &out[0..n]);
-    choice(rt, is_all(&out[n..], fill), b" kept\n", b" changed\n");
+    hex(rt, &out[..n]);
+    let kept = out[n..].iter().all(|x| *x == fill);
+    choice(rt, kept, b" kept\n", b" changed\n");
 }

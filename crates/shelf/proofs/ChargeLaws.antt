@@ -47,7 +47,7 @@ module _ (at : ℕ) (bytes : List ℕ) (past : Past at bytes) (shelf : List ℕ)
 pub one_or_two : (p : ℕ) → is_publisher p ≡ true → (p ≡ 1) ⊎ (p ≡ 2)
 one_or_two p e = ⊎_elim (λ a. inl (eqb-true p 1 a)) (λ b. inr (eqb-true p 2 b)) (one_of (eqb p 1) (eqb p 2) e)
 
-pub charge_fits : (p : ℕ) → is_publisher p ≡ true → charge_place p + 2 ≤ shelf_bytes
+charge_fits : (p : ℕ) → is_publisher p ≡ true → charge_place p + 2 ≤ shelf_bytes
 charge_fits p e = ⊎_elim (λ a. omega arith) (λ a. omega arith) (one_or_two p e)
 
 pub partner_too : (p : ℕ) → is_publisher p ≡ true → is_publisher (partner p) ≡ true

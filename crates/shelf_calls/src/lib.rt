@@ -3,11 +3,10 @@
 
 ghost use Rattle.std.specs.Prelude.{◌+◌, ◌≤◌, ◌≡◌, true, length};
 ghost use Rattle.base.specs.Digits.{part};
-ghost use Rattle.shelf.specs.Shelves.{file_room, slot_bytes, shelf_bytes, is_publisher, has_slot, slot_place};
-ghost use Rattle.shelf.specs.Shelves.{slot_with};
-ghost use Rattle.shelf.specs.Shelves.{file_in, replaced};
+ghost use Rattle.shelf.specs.Shelves.{file_room, slot_bytes, shelf_bytes, is_publisher, slot_with, file_in, replaced};
 ghost use Rattle.shelf.specs.Calls.{load, clear, judge, round, Serves};
 ghost use Rattle.shelf_calls.specs.steps.Chip.{OnChip};
+ghost use Rattle.shelf_calls.specs.steps.Slots.{SlotFound};
 
 use key::Key;
 
@@ -20,22 +19,17 @@ pub const SHELF_BYTES: usize = 1036;
 fn is_publisher(publisher: usize) -> bool
     ensures { result ≡ is_publisher publisher }
 {
-    (publisher == 1) | (publisher == 2)
+    publisher == 1 || publisher == 2
 }
 
-// Is there a slot for this publisher and key number?
-fn has_slot(publisher: usize, number: usize) -> bool
-    ensures { result ≡ has_slot publisher number }
+// The place where the slot of a publisher and a key number begins, if there is such a slot.
+fn slot_place(publisher: usize, number: usize) -> Option<usize>
+    ensures { SlotFound publisher number result }
 {
-    is_publisher(publisher) & (number <= 3)
-}
-
-// The place where a slot begins.
-fn slot_place(publisher: usize, number: usize) -> usize
-    requires { has_slot publisher number ≡ true }
-    ensures { (result ≡ slot_place publisher number) × (result + slot_bytes ≤ shelf_bytes) }
-{
-    SLOT_BYTES * (4 * (publisher - 1) + number)
+    if is_publisher(publisher) && number <= 3 {
+        return Some(SLOT_BYTES * (4 * (publisher - 1) + number));
+    }
+    None
 }
 
 // Puts a file into the slot that begins at a place, with zeros after the file.
@@ -54,40 +48,32 @@ fn file_at(shelf: &[u8], at: usize) -> &[u8]
     requires { at + slot_bytes ≤ length shelf.now }
     ensures { result.now ≡ file_in (part at slot_bytes shelf.now) }
 {
-    let end = at + SLOT_BYTES;
-    let bytes = shelf[at] as usize;
-    text::part(&shelf[at..end], 1, bytes)
+    text::part(&shelf[at..at + SLOT_BYTES], 1, usize::from(shelf[at]))
 }
 
-// Loads a key into a shelf of at least `SHELF_BYTES` bytes.
-fn load_into(shelf: &mut [u8], publisher: usize, number: usize, key: &[u8]) -> u8
-    requires { shelf_bytes ≤ length shelf.old }
+// Loads a key under a publisher's number, in place of the key there: 30, then the key's questions.
+pub fn load(shelf: &mut [u8; SHELF_BYTES], publisher: usize, number: usize, key: &[u8]) -> u8
     ensures { Serves publisher (load number key.now) shelf.old shelf.new result }
 {
-    if !has_slot(publisher, number) {
+    let Some(at) = slot_place(publisher, number) else {
         return 30;
-    }
+    };
     let read = key_reader::read_key(key);
-    let refusal = read.answer;
-    if refusal != 0 {
-        return refusal;
+    if read.answer != 0 {
+        return read.answer;
     }
-    let at = slot_place(publisher, number);
     hold(shelf, at, key);
     0
 }
 
-// Clears a number of a shelf of at least `SHELF_BYTES` bytes.
-fn clear_in(shelf: &mut [u8], publisher: usize, number: usize) -> u8
-    requires { shelf_bytes ≤ length shelf.old }
+// Clears a publisher's number: 30. A number that holds no key may be cleared too.
+pub fn clear(shelf: &mut [u8; SHELF_BYTES], publisher: usize, number: usize) -> u8
     ensures { Serves publisher (clear number) shelf.old shelf.new result }
 {
-    if !has_slot(publisher, number) {
+    let Some(at) = slot_place(publisher, number) else {
         return 30;
-    }
-    let at = slot_place(publisher, number);
-    let none = [0u8; 0];
-    hold(shelf, at, &none);
+    };
+    hold(shelf, at, &[]);
     0
 }
 
@@ -97,70 +83,18 @@ fn judge_under(shelf: &mut [u8], publisher: usize, key: Key, digest: &[u8], word
     requires { (shelf_bytes ≤ length shelf.old) × (is_publisher publisher ≡ true) }
     ensures { OnChip publisher key digest.now word.now shelf.old shelf.new result }
 {
-    let f = key.field;
-    if !slip_digest::is_digest(digest, f) {
+    if !slip_digest::is_digest(digest, key.field) {
         return 8;
     }
     let read = word::read_word(word);
-    let word_answer = read.answer;
-    if word_answer != 0 {
-        return word_answer;
+    if read.answer != 0 {
+        return read.answer;
     }
-    let letters = read.letters;
-    if !shelf_charges::is_admitted(shelf, publisher, letters) {
+    if !shelf_charges::is_admitted(shelf, publisher, read.letters) {
         return 36;
     }
-    shelf_charges::charge(shelf, publisher, letters);
+    shelf_charges::charge(shelf, publisher, read.letters);
     slip_verdict::judge(key, digest, word)
-}
-
-// Judges a slip by a shelf of at least `SHELF_BYTES` bytes.
-fn judge_by(shelf: &mut [u8], publisher: usize, number: usize, digest: &[u8], word: &[u8]) -> u8
-    requires { shelf_bytes ≤ length shelf.old }
-    ensures { Serves publisher (judge number digest.now word.now) shelf.old
-        shelf.new result }
-{
-    if !has_slot(publisher, number) {
-        return 30;
-    }
-    let at = slot_place(publisher, number);
-    let file = file_at(shelf, at);
-    if file.len() == 0 {
-        return 31;
-    }
-    let read = key_reader::read_key(file);
-    let key_answer = read.answer;
-    if key_answer != 0 {
-        return key_answer;
-    }
-    let key = read.key;
-    judge_under(shelf, publisher, key, digest, word)
-}
-
-// Starts a new round on a shelf of at least `SHELF_BYTES` bytes.
-fn round_on(shelf: &mut [u8], publisher: usize) -> u8
-    requires { shelf_bytes ≤ length shelf.old }
-    ensures { Serves publisher round shelf.old shelf.new result }
-{
-    if !is_publisher(publisher) {
-        return 30;
-    }
-    shelf_charges::start_round(shelf);
-    0
-}
-
-// Loads a key under a publisher's number, in place of the key there: 30, then the key's questions.
-pub fn load(shelf: &mut [u8; SHELF_BYTES], publisher: usize, number: usize, key: &[u8]) -> u8
-    ensures { Serves publisher (load number key.now) shelf.old shelf.new result }
-{
-    load_into(shelf, publisher, number, key)
-}
-
-// Clears a publisher's number: 30. A number that holds no key may be cleared too.
-pub fn clear(shelf: &mut [u8; SHELF_BYTES], publisher: usize, number: usize) -> u8
-    ensures { Serves publisher (clear number) shelf.old shelf.new result }
-{
-    clear_in(shelf, publisher, number)
 }
 
 // Judges a slip by the key under a publisher's number: 30, 31, then the slip's questions, with 36 before the verdict.
@@ -175,12 +109,27 @@ pub fn judge(
     ensures { Serves publisher (judge number digest.now word.now) shelf.old
         shelf.new result }
 {
-    judge_by(shelf, publisher, number, digest, word)
+    let Some(at) = slot_place(publisher, number) else {
+        return 30;
+    };
+    let file = file_at(shelf, at);
+    if file.is_empty() {
+        return 31;
+    }
+    let read = key_reader::read_key(file);
+    if read.answer != 0 {
+        return read.answer;
+    }
+    judge_under(shelf, publisher, read.key, digest, word)
 }
 
 // Starts a new round, for both publishers: 30.
 pub fn round(shelf: &mut [u8; SHELF_BYTES], publisher: usize) -> u8
     ensures { Serves publisher round shelf.old shelf.new result }
 {
-    round_on(shelf, publisher)
+    if !is_publisher(publisher) {
+        return 30;
+    }
+    shelf_charges::start_round(shelf);
+    0
 }

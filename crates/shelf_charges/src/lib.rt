@@ -41,10 +41,7 @@ fn partner(publisher: usize) -> usize
 fn over_by(charge: usize) -> usize
     ensures { result ≡ over_by charge }
 {
-    if charge <= SURE {
-        return 0;
-    }
-    charge - SURE
+    charge.saturating_sub(SURE)
 }
 
 // Is a slip of this many letters admitted?
@@ -77,6 +74,5 @@ pub fn start_round(shelf: &mut [u8])
     requires { shelf_bytes ≤ length shelf.old }
     ensures { shelf.new ≡ new_round shelf.old }
 {
-    let zeros = [0u8; 4];
-    replace(shelf, SLOTS_BYTES, &zeros);
+    replace(shelf, SLOTS_BYTES, &[0; 4]);
 }

@@ -1,6 +1,6 @@
 -- Comparing two pairs by columns gives the same as comparing them by rows, through the plain change of layout. So does
 -- the test whether a pair comes back from a word. The identity matrix is the same list in both layouts.
-use Prim.Native.Nat.{ℕ, ◌/◌, ◌%◌}
+use Prim.Native.Nat.{ℕ}
 use mathlib.Core.Path.{◌≡◌, refl, sym, ap, ap₂, ◌∙◌}
 use mathlib.Core.Bool.{Bool, ◌&&◌}
 use mathlib.Core.List.{List, [], ◌∷◌}

@@ -30,20 +30,7 @@ impl Cloak {
 fn is_list(labels: &[u8]) -> bool
     ensures { result ≡ is_list labels.now }
 {
-    if labels.len() != Pair::STRANDS {
-        return false;
-    }
-    pair_operands::is_order(labels)
-}
-
-// Copies eight labels into an array.
-fn eight(labels: &[u8]) -> [u8; 8]
-    requires { length labels.now ≡ 8 }
-    ensures { result ≡ labels.now }
-{
-    [
-        labels[0], labels[1], labels[2], labels[3], labels[4], labels[5], labels[6], labels[7],
-    ]
+    labels.len() == Pair::STRANDS && pair_operands::is_order(labels)
 }
 
 // Does the identity matrix with the list, multiplied by an accepted word, come back unchanged, list included?
@@ -51,17 +38,11 @@ fn comes_back(t_values: &[u8; 8], labels: &[u8], word: &[u8], f: Field) -> bool
     requires { (length labels.now ≡ 8) × (word_answer word.now ≡ 0) }
     ensures { result ≡ does_come_back (operations f) t_values.now labels.now (codes word.now) }
 {
-    let start = Pair::start();
-    let identity = start.matrix;
-    let copied = eight(labels);
-    let before = Pair::with(identity, copied);
+    let mut list = [0; 8];
+    list.copy_from_slice(labels);
+    let before = Pair::with(Pair::start().matrix, list);
     let after = pair_file::carry_file(before, t_values, word, f);
-    let matrix = after.matrix;
-    let reached = after.labels;
-    if !base::equal(&matrix, &identity) {
-        return false;
-    }
-    base::equal(&reached, labels)
+    after.matrix == before.matrix && after.labels == before.labels
 }
 
 // Cloaking: the key's questions, then 25, then the word's questions.
@@ -69,23 +50,18 @@ pub fn cloaks(key: &[u8], labels: &[u8], word: &[u8]) -> Cloak
     ensures { Cloaks key.now labels.now word.now result.answer result.yes }
 {
     let read = key_reader::read_key(key);
-    let refusal = read.answer;
-    if refusal != 0 {
-        return Cloak::refused(refusal);
+    if read.answer != 0 {
+        return Cloak::refused(read.answer);
     }
     if !is_list(labels) {
         return Cloak::refused(25);
     }
-    let word_read = word::read_word(word);
-    let refused = word_read.answer;
-    if refused != 0 {
-        return Cloak::refused(refused);
+    let found = word::read_word(word);
+    if found.answer != 0 {
+        return Cloak::refused(found.answer);
     }
-    let held = read.key;
-    let f = held.field;
-    let t_values = held.t_values;
     Cloak {
         answer: 0,
-        yes: comes_back(&t_values, labels, word, f),
+        yes: comes_back(&read.key.t_values, labels, word, read.key.field),
     }
 }

@@ -18,23 +18,23 @@ use Rattle.slip_digest.specs.steps.Runs.{progression}
 abbrev pub over : ℕ → ℕ
 over h = 7 - selected h
 
+-- the rule of the low two bits
+low_two : (r : ℕ) → r < 4 → 7 - 2 * r ≡ get_or (7 ∷ 5 ∷ 3 ∷ 1 ∷ []) r 0
+low_two zero h = refl
+low_two (suc zero) h = refl
+low_two (suc (suc zero)) h = refl
+low_two (suc (suc (suc zero))) h = refl
+low_two (suc (suc (suc (suc r)))) h = absurd (omega arith)
+
+pub selected_is : (h : ℕ) → 7 - 2 * (h % 4) ≡ selected h
+selected_is h = low_two (h % 4) (omega arith)
+
 -- the number of letters b_l: 2 × p
 abbrev pub twice : ℕ → ℕ
 twice h = 2 * (h / 4 + 1)
 
--- the rule of the low two bits
-abbrev low_rule : ℕ → Bool
-low_rule h = eqb (2 * (h % 4)) (over h) && leb (over h) 6
-
-low_bits : every low_rule (values (λ h. h) 16) ≡ true
-unfolding values_from every
-low_bits = refl
-
-pub over_is : (h : ℕ) → h < 16 → 2 * (h % 4) ≡ over h
-over_is h p = eqb-true _ _ (and_left _ _ (every_values low_rule (λ k. k) 16 low_bits h p))
-
-pub over_six : (h : ℕ) → h < 16 → over h ≤ 6
-over_six h p = leb-true _ _ (and_right (eqb (2 * (h % 4)) (over h)) _ (every_values low_rule (λ k. k) 16 low_bits h p))
+pub over_six : (h : ℕ) → over h ≤ 6
+over_six h = omega (arith, selected_is h)
 
 -- the length of a half byte's braid, which is at most 20
 abbrev length_rule : ℕ → Bool

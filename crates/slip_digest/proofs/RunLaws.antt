@@ -1,12 +1,13 @@
 -- Codes in steps: one more code, the first k of n codes, and three runs of which each overwrites the end of the last.
 -- The three runs are the braid of a half byte.
-use Prim.Native.Nat.{ℕ, suc, ◌+◌, ◌-◌, ◌*◌, ◌%◌, ◌≤◌, ◌<◌}
+use Prim.Native.Nat.{ℕ, ◌+◌, ◌-◌, ◌*◌, ◌%◌, ◌≤◌, ◌<◌}
 use mathlib.Core.Path.{◌≡◌, sym, ap, ap₂, ◌∙◌}
 use mathlib.Core.List.{List, [], ◌∷◌, ◌++◌, append_assoc}
 use native.Mathlib.Nat.{mul-add, mul-one}
 use native.Mathlib.Numerals.{add-one}
 use native.Mathlib.Omega.{arith}
-use lib.ListN.{length, take, set}
+use lib.ListN.{length, take, drop, set}
+use Rattle.std.proofs.lemmas.Grind.{common_steps}
 use lib.Seq.{take-suc, take-suc-set, take-take, take_all, take-append-add, length-take-le, get_or-take}
 use Rattle.base.proofs.ListLaws.{length_values, get_d_values, values_of}
 use Rattle.slip_digest.specs.Digest.{half_byte_braid}
@@ -38,13 +39,9 @@ module _ (first step : ℕ) where
       ∙ ap₂ (λ (w : List ℕ) (x : ℕ). w ++ (x ∷ [])) (progression_take n (n + 1) (omega arith))
       (get_d_values code (n + 1) n (omega arith))
 
-  pub one_more : (codes before : List ℕ) (at i : ℕ) → at + i < length codes
-      → take (at + i) codes ≡ before ++ progression first step i
-      → take (at + (i + 1)) (set codes (at + i) (code i)) ≡ before ++ progression first step (i + 1)
-  one_more codes before at i h e =
-      let s : at + (i + 1) ≡ suc (at + i) = omega arith in
-      rw (s, take-suc-set codes (at + i) (code i) h, e, progression_more i)
-      (append_assoc before (progression first step i) (code i ∷ []))
+  pub one_more : (codes : List ℕ) (i : ℕ) → i < length codes → take i codes ≡ progression first step i
+      → take (i + 1) (set codes i (code i)) ≡ progression first step (i + 1)
+  one_more codes i h e = rw (progression_more i, add-one i, take-suc-set codes i (code i) h, e)
 
   -- if n codes were written, the first k of them were written
   shorter : (codes before : List ℕ) (at k n : ℕ) → k ≤ n → length before ≡ at
@@ -57,25 +54,53 @@ module _ (first step : ℕ) where
 
 -- ---- three runs, each of which overwrites the excess of the last
 
-pub appended : (h at above : ℕ) (codes first second third : List ℕ) → h < 16 → above ≡ over h → at + 20 ≤ length codes
-    → length first ≡ length codes
-    → length second ≡ length codes → take (at + 6) first ≡ take at codes ++ progression 6 15 6
-    → take (at + above + 8) second ≡ take (at + above) first ++ progression (6 - above) 0 8
-    → take (at + above + twice h + 6) third ≡ take (at + above + twice h) second ++ progression (15 - above) 1 6
-    → take (at + above + twice h + above) third ≡ take at codes ++ half_byte_braid h
-appended h at above codes first second third p o room l₁ l₂ down power up =
-    let six : above ≤ 6 = omega (arith, over_six h p) in
-    let d : take (at + above) first ≡ take at codes ++ progression 6 15 above =
-    shorter 6 15 first (take at codes) at above 6 six (length-take-le at codes (omega arith)) down in
-    let q : take (at + above + twice h) second ≡ take (at + above) first ++ progression (6 - above) 0 (twice h) =
-    shorter (6 - above) 0 second (take (at + above) first) (at + above) (twice h) 8 (omega arith)
-    (length-take-le (at + above) first (omega arith)) power in
-    let u : take (at + above + twice h + above) third
-    ≡ take (at + above + twice h) second ++ progression (15 - above) 1 above =
-    shorter (15 - above) 1 third (take (at + above + twice h) second) (at + above + twice h) above 6 six
-    (length-take-le (at + above + twice h) second (omega arith)) up in
-    u ∙ ap (λ (w : List ℕ). w ++ progression (15 - above) 1 above)
-    (q ∙ ap (λ (w : List ℕ). w ++ progression (6 - above) 0 (twice h)) d)
+-- n codes of a row replaced by a run, from place `at` on
+abbrev put : ℕ → ℕ → List ℕ → List ℕ → List ℕ
+put at n codes run = take at codes ++ (run ++ drop n (drop at codes))
+
+module _ (at n : ℕ) (codes run : List ℕ) (size : length run ≡ n) (room : at + n ≤ length codes) where
+  length_put : length (put at n codes run) ≡ length codes
+  length_put = grind (arith, common_steps)
+
+  take_put : take (at + n) (put at n codes run) ≡ take at codes ++ run
+  take_put =
+      let before : length (take at codes) ≡ at = length-take-le at codes (omega arith) in
+      ap (λ (m : ℕ). take (m + n) (put at n codes run)) (sym before)
+      ∙ take-append-add (take at codes) (run ++ drop n (drop at codes)) n
+      ∙ ap (λ (w : List ℕ). take at codes ++ w) whole
+    where
+      whole : take n (run ++ drop n (drop at codes)) ≡ run
+      whole = grind (arith, common_steps)
+
+-- the first k codes of a run stand after it is put in place
+first_put : (first step at n m k : ℕ) (codes run : List ℕ) → run ≡ progression first step m → m ≡ n → k ≤ n
+    → at + n ≤ length codes → take (at + k) (put at n codes run) ≡ take at codes ++ progression first step k
+first_put first step at n m k codes run e s h room =
+    let size : length run ≡ n = ap length e ∙ length_values (code first step) 0 m ∙ s in
+    shorter first step (put at n codes run) (take at codes) at k n h (length-take-le at codes (omega arith))
+    (take_put at n codes run size room
+    ∙ ap (λ (w : List ℕ). take at codes ++ w) (e ∙ ap (progression first step) s))
+
+pub appended : (h at above a b c a' b' c' : ℕ) (codes run power back : List ℕ) → h < 16 → above ≡ over h
+    → at + 20 ≤ length codes → (a ≡ 6) × (b ≡ 8) × (c ≡ 6) → (a' ≡ 6) × (b' ≡ 8) × (c' ≡ 6)
+    → run ≡ progression 6 15 a' → power ≡ progression (6 - above) 0 b' → back ≡ progression (15 - above) 1 c'
+    → take (at + above + twice h + above)
+    (put (at + above + twice h) c (put (at + above) b (put at a codes run) power) back)
+    ≡ take at codes ++ half_byte_braid h
+appended h at above a b c a' b' c' codes run power back p o room (a₁, b₁, c₁) (a₂, b₂, c₂) er ep eu =
+    let six : above ≤ 6 = omega (arith, over_six h) in
+    let first : List ℕ = put at a codes run in
+    let second : List ℕ = put (at + above) b first power in
+    let l₁ : length first ≡ length codes =
+    length_put at a codes run (ap length er ∙ length_values (code 6 15) 0 a' ∙ omega arith) (omega arith) in
+    let l₂ : length second ≡ length first =
+    length_put (at + above) b first power (ap length ep ∙ length_values (code (6 - above) 0) 0 b' ∙ omega arith)
+    (omega arith) in
+    first_put (15 - above) 1 (at + above + twice h) c c' above second back eu (omega arith) (omega arith) (omega arith)
+    ∙ ap (λ (w : List ℕ). w ++ progression (15 - above) 1 above)
+    (first_put (6 - above) 0 (at + above) b b' (twice h) first power ep (omega arith) (omega arith) (omega arith)
+    ∙ ap (λ (w : List ℕ). w ++ progression (6 - above) 0 (twice h))
+    (first_put 6 15 at a a' above codes run er (omega arith) (omega arith) (omega arith)))
     ∙ ap (λ (w : List ℕ). w ++ progression (15 - above) 1 above)
     (append_assoc (take at codes) (progression 6 15 above) (progression (6 - above) 0 (twice h)))
     ∙ append_assoc (take at codes) (progression 6 15 above ++ progression (6 - above) 0 (twice h))

@@ -1,32 +1,28 @@
 // A digest as a braid.
 #![tactic(auto)]
 
-ghost use Rattle.std.specs.Prelude.{◌≡◌, ◌++◌, ◌+◌, ◌-◌, ◌≤◌, ◌<◌, length, take};
+ghost use Rattle.std.specs.Prelude.{◌≡◌, ◌++◌, ◌+◌, ◌≤◌, ◌<◌, length, take};
 ghost use Rattle.slip_digest.specs.Digest.{selected, half_byte_braid, encoded, is_digest};
 ghost use Rattle.slip_digest.specs.steps.Runs.{progression};
 
 use field::Field;
 
-// The number of generators above b_l, up to b7. The low two bits 0, 1, 2, 3 select l = 7, 5, 3, 1.
-fn above_selected(h: u8) -> u8
-    requires { h < 16 }
-    ensures { (result ≡ 7 - selected h) × (result ≤ 6) }
+// The number l of the generator b_l that a half byte selects: its low two bits 0, 1, 2, 3 select 7, 5, 3, 1.
+pub fn selected(h: u8) -> u8
+    ensures { (result ≡ selected h) × (1 ≤ result) × (result ≤ 7) }
 {
-    2 * (h % 4)
+    7 - 2 * (h % 4)
 }
 
-// Writes n codes from place `at` on. The first code is `first`, and each later one is `step` more than the last, modulo
-// 16.
-fn fill(codes: &mut [u8], at: usize, n: usize, first: u8, step: u8)
-    requires { (at + n ≤ length codes.old) × (first < 16) × (step < 16) }
-    ensures { take (at + n) codes.new ≡ take at codes.old ++ progression first step n }
+// Fills a run of codes. The first code is `first`, and each later one is `step` more than the last, modulo 16.
+fn fill(run: &mut [u8], first: u8, step: u8)
+    requires { (first < 16) × (step < 16) }
+    ensures { run.new ≡ progression first step (length run.old) }
 {
-    let mut code = first;
-    let mut i = 0;
-    while i < n {
-        codes[at + i] = code;
-        code = (code + step) % 16;
-        i += 1;
+    let mut next = first;
+    for code in run {
+        *code = next;
+        next = (next + step) % 16;
     }
 }
 
@@ -38,14 +34,14 @@ fn append(codes: &mut [u8], at: usize, h: u8) -> usize
     ensures { (result ≡ at + length (half_byte_braid h)) × (result ≤ at + 20)
         × (take result codes.new ≡ take at codes.old ++ half_byte_braid h) }
 {
-    let above = above_selected(h);
+    let above = 7 - selected(h);
     let power = 2 * (h / 4 + 1);
-    fill(codes, at, 6, 6, 15);
-    let turn = at + above as usize;
-    fill(codes, turn, 8, 6 - above, 0);
-    let up = turn + power as usize;
-    fill(codes, up, 6, 15 - above, 1);
-    up + above as usize
+    fill(&mut codes[at..at + 6], 6, 15);
+    let turn = at + usize::from(above);
+    fill(&mut codes[turn..turn + 8], 6 - above, 0);
+    let up = turn + usize::from(power);
+    fill(&mut codes[up..up + 6], 15 - above, 1);
+    up + usize::from(above)
 }
 
 // Writes the braid of a digest to the front of `codes`, one code to a byte, and returns the number of its letters. The
@@ -55,10 +51,8 @@ pub fn encode_into(digest: &[u8], codes: &mut [u8]) -> usize
     ensures { (result ≤ 2560) × (take result codes.new ≡ encoded digest.now) }
 {
     let mut n = 0;
-    let mut k = 0;
-    while k < 2 * digest.len() {
+    for k in 0..2 * digest.len() {
         n = append(codes, n, word::half(digest, k));
-        k += 1;
     }
     n
 }

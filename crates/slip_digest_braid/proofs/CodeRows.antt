@@ -1,17 +1,16 @@
--- The row of codes that the code multiplies in is the way between two levels. The level that the code takes for a half
--- byte is its level. Each rule is one test that antt computes over all levels, or over the sixteen half bytes.
-use Prim.Native.Nat.{ℕ, ◌+◌, ◌*◌, ◌-◌, ◌/◌, ◌%◌, ◌≤◌, ◌<◌}
+-- The row of codes that the code multiplies in is the way between two levels: one test that antt computes over all
+-- levels.
+use Prim.Native.Nat.{ℕ, ◌-◌, ◌≤◌, ◌<◌}
 use mathlib.Core.Path.{◌≡◌, refl, sym, ap, ◌∙◌}
 use mathlib.Core.Bool.{Bool, true, cond, ◌&&◌}
 use mathlib.Core.List.{List, [], ◌∷◌}
 use native.Mathlib.Omega.{arith}
-use borrow.Author.Tests.{eqb-true, lt-ltb, le-ltb}
-use lib.Dec.{eqb, ltb}
+use borrow.Author.Tests.{lt-ltb, le-ltb}
+use lib.Dec.{ltb}
 use lib.ListN.{take, drop}
 use Rattle.base.specs.Lists.{every, equal, values_from, values}
 use Rattle.base.proofs.ListLaws.{and_left, and_right, every_values, equal_true}
 use Rattle.word.specs.Letters.{is_letter}
-use Rattle.slip_digest.specs.Digest.{selected}
 use Rattle.slip_digest_braid.specs.steps.Ways.{way}
 
 abbrev upwards : ℕ → ℕ → List ℕ
@@ -47,15 +46,3 @@ module _ (l m : ℕ) (hl : l ≤ 7) (hm : m ≤ 7) where
 
   pub row_down : m ≤ l → downwards l m ≡ way l m
   row_down h = ap (way_row l m) (sym (le-ltb l m h)) ∙ row_is
-
--- ---- half bytes
-
-abbrev level_rule : ℕ → Bool
-level_rule h = eqb (7 - 2 * (h % 4)) (selected h)
-
-levels : every level_rule (values (λ h. h) 16) ≡ true
-unfolding values_from every
-levels = refl
-
-pub level_is : (h : ℕ) → h < 16 → 7 - 2 * (h % 4) ≡ selected h
-level_is h b = eqb-true _ _ (every_values level_rule (λ h. h) 16 levels h b)

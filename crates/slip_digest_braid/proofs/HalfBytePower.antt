@@ -1,14 +1,14 @@
 -- A half byte on columns: the way to its level, and then its power at once. At that level its own label and label 7
 -- stand at the places of the power, so the constants of the power are those of the table.
-use Prim.Native.Nat.{ℕ, suc, ◌+◌, ◌*◌, ◌-◌, ◌/◌, ◌%◌, ◌≤◌, ◌<◌}
+use Prim.Native.Nat.{ℕ, ◌+◌, ◌*◌, ◌-◌, ◌/◌, ◌%◌, ◌≤◌, ◌<◌}
 use mathlib.Core.Path.{◌≡◌, refl, sym, ap, ap₂, subst, ◌∙◌}
 use mathlib.Core.Bool.{Bool, true, ◌&&◌}
-use mathlib.Core.List.{List, ◌++◌}
+use mathlib.Core.List.{List}
 use native.Mathlib.Numerals.{add-one}
 use native.Mathlib.Omega.{arith}
 use borrow.Author.Tests.{eqb-true}
 use lib.Dec.{eqb}
-use lib.ListN.{get_or, replicate}
+use lib.ListN.{get_or}
 use Rattle.base.specs.Lists.{every, values_from, values}
 use Rattle.base.proofs.ListLaws.{and_left, and_right, every_values}
 use Rattle.field.specs.Binary.{Operations}
@@ -18,7 +18,7 @@ use Rattle.word.specs.Strands.{swapped, list_after}
 use Rattle.pair.specs.declared.Pair.{Pair}
 use Rattle.pair.specs.Action.{t_value, rows_on, pair_of, word_on}
 use Rattle.pair.specs.Good.{GoodPair}
-use Rattle.pair.specs.steps.Columns.{held_pair, Held, Carried}
+use Rattle.pair.specs.steps.Columns.{held_pair, Carried}
 use Rattle.pair.proofs.WordLaws.{word_on_append, list_carried, codes_good}
 use Rattle.pair_powers.specs.declared.Gains.{Gains}
 use Rattle.pair_powers.specs.steps.Powers.{share_of_gains, power_gains, level_gains, RunOnColumns}
@@ -26,7 +26,7 @@ use Rattle.pair_powers.proofs.PowerLaws.{power_on}
 use Rattle.slip_digest.specs.Digest.{selected, power_of}
 use Rattle.slip_digest_braid.specs.steps.Ways.{way, power_run, level_list, Setting, HalfByteCarried}
 use Rattle.slip_digest_braid.proofs.ShortBraid.{way_list}
-use Rattle.slip_digest_braid.proofs.CodeRows.{level_is}
+use Rattle.slip_digest.proofs.HalfByte.{selected_is}
 
 -- at the level of a half byte, its own label and label 7 stand at the places of its power
 abbrev own_rule : ℕ → Bool
@@ -92,7 +92,7 @@ half_byte_carried {bits} {at} {g} {cs} {powers} {columns} {labels} {columns'} {l
         let F : Operations = polynomials bits p in
         let g' : ℕ = selected h - 1 in
         let there = s.powers_are.there ts s.constants_are (h % 4) (h / 4) (omega arith) (omega arith) in
-        let small : g' < 7 = omega (arith, level_is h b) in
+        let small : g' < 7 = omega (arith, selected_is h) in
         ap (λ (x : List ℕ). pair_of x labels')
         (r.matrix_is p s.degree (level_gains F ts (h % 4) (h / 4)) (rw ea there)
         ∙ ap₂ (λ (x : ℕ) (n : Gains). rows_on F (share_of_gains F n) x (columns_matrix columns')) eg

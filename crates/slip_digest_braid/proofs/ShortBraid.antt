@@ -1,12 +1,11 @@
 -- The digest's braid without what cancels between half bytes carries every good pair to the same pair. antt computes,
 -- for every two levels, that the letters up to b7 and down again reduce to the way between the levels.
-use Prim.Native.Nat.{ℕ, ◌+◌, ◌*◌, ◌-◌, ◌/◌, ◌%◌, ◌≤◌, ◌<◌}
+use Prim.Native.Nat.{ℕ, ◌+◌, ◌*◌, ◌≤◌, ◌<◌}
 use mathlib.Core.Path.{◌≡◌, refl, sym, ap, subst, ◌∙◌}
 use mathlib.Core.Bool.{Bool, true, ◌&&◌}
-use mathlib.Core.List.{List, [], ◌∷◌, ◌++◌, map, reverse, append_assoc, append-nil}
+use mathlib.Core.List.{List, [], ◌++◌, map, reverse, append_assoc, append-nil}
 use native.Mathlib.Omega.{arith}
-use lib.ListN.{length, take, drop, get_or, replicate}
-use lib.Dec.{ltb}
+use lib.ListN.{length, take, get_or}
 use lib.Seq.{take_all}
 use Rattle.base.specs.Lists.{every, equal, values_from, values, tally, each_once}
 use Rattle.base.specs.Digits.{halves}
@@ -27,7 +26,7 @@ use Rattle.pair.specs.Good.{GoodPair}
 use Rattle.pair.specs.steps.Columns.{held_pair, values_at, Held, Carried}
 use Rattle.pair.proofs.WordLaws.{word_on_append, list_carried, codes_good}
 use Rattle.pair_powers.specs.steps.Powers.{PowerTable}
-use Rattle.slip_digest.specs.Digest.{selected, power_of, above, half_byte_braid, braid_of, encoded}
+use Rattle.slip_digest.specs.Digest.{selected, above, half_byte_braid, braid_of, encoded}
 use Rattle.slip_digest.proofs.Encoded.{braid_of_more}
 use Rattle.slip_digest_braid.specs.steps.Ways.{way, power_run, level_list, Setting, CarriedFrom}
 use Rattle.slip_digest_braid.specs.steps.Ways.{SameCarried, HalfByteCarried, DigestCarried, ShortMatrix}

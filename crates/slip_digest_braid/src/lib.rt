@@ -6,14 +6,14 @@ ghost use Rattle.base.specs.Packing.{Below};
 ghost use Rattle.field.specs.Fields.{operations};
 ghost use Rattle.field.specs.Polynomial.{polynomials};
 ghost use Rattle.field.specs.steps.Reciprocals.{LentField};
-ghost use Rattle.pair_operands.specs.Operands.{elements};
 ghost use Rattle.pair.specs.Action.{word_on, start};
 ghost use Rattle.pair.specs.steps.Columns.{Held, Carried};
-ghost use Rattle.slip_digest.specs.Digest.{selected, encoded};
+ghost use Rattle.slip_digest.specs.Digest.{encoded};
 ghost use Rattle.slip_digest_braid.specs.steps.Ways.{way, HalfByteOn, DigestCarried, ShortMatrix};
 
-use field::{Field, LARGE_BITS, LARGE_MODULUS, SMALL_BITS, SMALL_MODULUS};
+use field::{Field, LARGE_BITS, LARGE_MODULUS, SMALL_BITS, SMALL_MODULUS, bits_of, reciprocals};
 use pair::Pair;
+use pair_operands::{all_fit, all_nonzero};
 
 // Multiplies in the way from level `from` to level `to`. At level l the letters b7 down to b_(l+1) are multiplied in.
 fn walk(
@@ -39,15 +39,6 @@ fn walk(
     }
 }
 
-// The level l of a half byte. The low two bits 0, 1, 2, 3 select l = 7, 5, 3, 1.
-fn level(h: u8) -> usize
-    requires { h < 16 }
-    ensures { (result ≡ selected h) × (1 ≤ result) × (result ≤ 7) }
-{
-    let above = 2 * (h % 4) as usize;
-    7 - above
-}
-
 // Multiplies in a half byte from level `from`: first the way to its own level, then its power at once. Returns its own
 // level.
 fn half_byte(
@@ -63,9 +54,9 @@ fn half_byte(
     ensures { HalfByteOn bits constants.now powers.now from h result columns.old
         labels.old columns.new labels.new }
 {
-    let to = level(h);
+    let to = usize::from(slip_digest::selected(h));
     walk(columns, labels, constants, bits, from, to);
-    let at = 96 * (h % 4) as usize + 24 * (h / 4) as usize;
+    let at = 96 * usize::from(h % 4) + 24 * usize::from(h / 4);
     pair_powers::raise(columns, powers, at, bits, to - 1);
     to
 }
@@ -85,18 +76,9 @@ fn half_bytes(
         labels.old columns.new }
 {
     let mut l = 7;
-    let mut k = 0;
-    while k < 2 * digest.len() {
-        l = half_byte(
-            columns,
-            labels,
-            constants,
-            powers,
-            bits,
-            l,
-            word::half(digest, k),
-        );
-        k += 1;
+    for k in 0..2 * digest.len() {
+        let h = word::half(digest, k);
+        l = half_byte(columns, labels, constants, powers, bits, l, h);
     }
     walk(columns, labels, constants, bits, l, 7);
 }
@@ -113,12 +95,16 @@ fn short_over(
     ensures { ShortMatrix (polynomials bits modulus) t_values.now digest.now result }
 {
     let begin = Pair::start();
-    let matrix = begin.matrix;
-    let labels = begin.labels;
-    let constants = pair_carrying::constants_by_place(t_values, &labels, table, bits, modulus);
+    let constants = pair_carrying::constants_by_place(
+        t_values,
+        &begin.labels,
+        table,
+        bits,
+        modulus,
+    );
     let powers = pair_powers::powers_of(&constants, bits, modulus);
-    let mut columns = matrix_columns::columns_of(&matrix);
-    let mut places = [0u8, 1, 2, 3, 4, 5, 6, 7];
+    let mut columns = matrix_columns::columns_of(&begin.matrix);
+    let mut places = [0, 1, 2, 3, 4, 5, 6, 7];
     half_bytes(&mut columns, &mut places, &constants, &powers, bits, digest);
     matrix_columns::matrix_of(&columns)
 }
@@ -127,15 +113,11 @@ fn short_over(
 fn short_matrix(t_values: &[u8; 8], digest: &[u8], f: Field) -> [u8; 64]
     ensures { ShortMatrix (operations f) t_values.now digest.now result }
 {
+    let table = reciprocals(f);
+    // Each arm passes constants, which the compiler can spread into the loop over a letter's bits.
     match f {
-        Field::Gf32 => {
-            let table = field::small_reciprocals();
-            short_over(t_values, digest, &table, SMALL_BITS, SMALL_MODULUS)
-        }
-        Field::Gf256 => {
-            let table = field::large_reciprocals();
-            short_over(t_values, digest, &table, LARGE_BITS, LARGE_MODULUS)
-        }
+        Field::Gf32 => short_over(t_values, digest, table, SMALL_BITS, SMALL_MODULUS),
+        Field::Gf256 => short_over(t_values, digest, table, LARGE_BITS, LARGE_MODULUS),
     }
 }
 
@@ -150,27 +132,15 @@ fn by_letters(t_values: &[u8; 8], digest: &[u8], f: Field) -> [u8; 64]
     reached.matrix
 }
 
-// Is every number an element of the field?
-fn are_elements(numbers: &[u8; 8], f: Field) -> bool
-    ensures { result ≡ elements f numbers.now }
-{
-    match f {
-        Field::Gf32 => pair_operands::all_fit(numbers, SMALL_BITS),
-        Field::Gf256 => pair_operands::all_fit(numbers, LARGE_BITS),
-    }
-}
-
 // The matrix reached from the identity by the braid of a digest. Letters cancel only for T-values that are elements of
 // the field other than zero. For other T-values all letters are multiplied.
 pub fn digest_matrix(t_values: &[u8; 8], digest: &[u8], f: Field) -> [u8; 64]
     requires { length digest.now ≤ 64 }
     ensures { result ≡ (word_on (operations f) t_values.now (encoded digest.now) start).matrix }
 {
-    if !are_elements(t_values, f) {
-        return by_letters(t_values, digest, f);
+    if all_fit(t_values, bits_of(f)) && all_nonzero(t_values) {
+        short_matrix(t_values, digest, f)
+    } else {
+        by_letters(t_values, digest, f)
     }
-    if !pair_operands::all_nonzero(t_values) {
-        return by_letters(t_values, digest, f);
-    }
-    short_matrix(t_values, digest, f)
 }

@@ -12,10 +12,7 @@ use word::Written;
 fn is_either(digest: &[u8]) -> bool
     ensures { result ≡ (is_digest Gf32 digest.now || is_digest Gf256 digest.now) }
 {
-    if slip_digest::is_digest(digest, Field::Gf32) {
-        return true;
-    }
-    slip_digest::is_digest(digest, Field::Gf256)
+    slip_digest::is_digest(digest, Field::Gf32) || slip_digest::is_digest(digest, Field::Gf256)
 }
 
 // The encoder alone: 15, 8. It writes the whole braid as a word file. Nothing is cancelled.

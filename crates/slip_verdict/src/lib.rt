@@ -34,14 +34,11 @@ impl Halved {
     fn refused(answer: u8) -> Halved
         ensures { (result.answer ≡ answer) × (result.half ≡ zero_half) }
     {
-        let t_values = [0u8; 8];
-        let pair = Pair::zeros();
-        let target = [0u8; 64];
         let half = Half {
             field: Field::Gf32,
-            t_values,
-            pair,
-            target,
+            t_values: [0; 8],
+            pair: Pair::zeros(),
+            target: [0; 64],
         };
         Halved { answer, half }
     }
@@ -52,17 +49,12 @@ fn half_of(held: Key, digest: &[u8]) -> Half
     requires { length digest.now ≤ 64 }
     ensures { result ≡ half_of held digest.now }
 {
-    let f = held.field;
-    let t_values = held.t_values;
-    let pair = held.pair;
-    let second = held.second;
-    let first = slip_digest_braid::digest_matrix(&t_values, digest, f);
-    let target = matrix_product::matrix_product(&first, &second, f);
+    let first = slip_digest_braid::digest_matrix(&held.t_values, digest, held.field);
     Half {
-        field: f,
-        t_values,
-        pair,
-        target,
+        field: held.field,
+        t_values: held.t_values,
+        pair: held.pair,
+        target: matrix_product::matrix_product(&first, &held.second, held.field),
     }
 }
 
@@ -72,13 +64,8 @@ fn copy_answer(half: Half, word: &[u8]) -> u8
     requires { word_answer word.now ≡ 0 }
     ensures { result ≡ first_no (matrix_questions (signed_by half (codes word.now)) half.target) }
 {
-    let f = half.field;
-    let t_values = half.t_values;
-    let pair = half.pair;
-    let target = half.target;
-    let reached = pair_file::carry_file(pair, &t_values, word, f);
-    let matrix = reached.matrix;
-    if !base::equal(&matrix, &target) {
+    let reached = pair_file::carry_file(half.pair, &half.t_values, word, half.field);
+    if reached.matrix != half.target {
         return 14;
     }
     0
@@ -89,17 +76,16 @@ pub fn first_half(key: &[u8], digest: &[u8]) -> Halved
     ensures { MakesHalf key.now digest.now result.answer result.half }
 {
     let read = key_reader::read_key(key);
-    let refusal = read.answer;
-    if refusal != 0 {
-        return Halved::refused(refusal);
+    if read.answer != 0 {
+        return Halved::refused(read.answer);
     }
-    let held = read.key;
-    let field = held.field;
-    if !slip_digest::is_digest(digest, field) {
+    if !slip_digest::is_digest(digest, read.key.field) {
         return Halved::refused(8);
     }
-    let half = half_of(held, digest);
-    Halved { answer: 0, half }
+    Halved {
+        answer: 0,
+        half: half_of(read.key, digest),
+    }
 }
 
 // The second half: 17, 4 and 6 of the half, 26 of both its matrices, the word's questions, and 14.
@@ -107,22 +93,17 @@ pub fn second_half(half: Half, word: &[u8]) -> u8
     ensures { result ≡ first_no (second_half_questions half word.now) }
 {
     let f = half.field;
-    let t_values = half.t_values;
-    let pair = half.pair;
-    let target = half.target;
     let bits = field::bits_of(f);
-    let refusal = pair::pair_answer(pair, &t_values, &target, bits, f);
+    let refusal = pair::pair_answer(half.pair, &half.t_values, &half.target, bits, f);
     if refusal != 0 {
         return refusal;
     }
-    let first = pair.matrix;
-    if !matrix_elimination::both_invertible(first, target, f) {
+    if !matrix_elimination::both_invertible(half.pair.matrix, half.target, f) {
         return 26;
     }
     let read = word::read_word(word);
-    let refused = read.answer;
-    if refused != 0 {
-        return refused;
+    if read.answer != 0 {
+        return read.answer;
     }
     copy_answer(half, word)
 }
@@ -132,17 +113,14 @@ pub fn second_half(half: Half, word: &[u8]) -> u8
 pub fn judge(held: Key, digest: &[u8], word: &[u8]) -> u8
     ensures { result ≡ first_no (slip_questions held digest.now word.now) }
 {
-    let f = held.field;
-    if !slip_digest::is_digest(digest, f) {
+    if !slip_digest::is_digest(digest, held.field) {
         return 8;
     }
     let read = word::read_word(word);
-    let refusal = read.answer;
-    if refusal != 0 {
-        return refusal;
+    if read.answer != 0 {
+        return read.answer;
     }
-    let half = half_of(held, digest);
-    copy_answer(half, word)
+    copy_answer(half_of(held, digest), word)
 }
 
 // The verdict: the first refusal of the key, or the verdict on the slip under it.
@@ -150,10 +128,8 @@ pub fn verify(key: &[u8], digest: &[u8], word: &[u8]) -> u8
     ensures { result ≡ verdict key.now digest.now word.now }
 {
     let read = key_reader::read_key(key);
-    let refusal = read.answer;
-    if refusal != 0 {
-        return refusal;
+    if read.answer != 0 {
+        return read.answer;
     }
-    let held = read.key;
-    judge(held, digest, word)
+    judge(read.key, digest, word)
 }

@@ -22,8 +22,7 @@ fn slip(rt: &(impl Files + Env + Print + Eprint), at: usize)
 
 // Judges the slips of so many arguments, the program's name included.
 fn slips(rt: &(impl Files + Env + Print + Eprint), arguments: usize) {
-    let n = arguments / 3;
-    for i in 0..n {
+    for i in 0..arguments / 3 {
         slip(rt, 3 * i + 1);
     }
 }
@@ -36,7 +35,7 @@ fn main(rt: HostRuntime) {
     } else {
         desk_io::misused(
             rt,
-            b"slips takes names of files: key, digest and signature of each slip\n",
+            b"slips takes names of files: key, digest and signature of each slip",
         );
     }
 }

@@ -224,71 +224,71 @@ module _ (n : ℕ) (codes before last : List ℕ) (k : ℕ) (s : Marked n codes 
           ap (far own) (sym (in_part i z)) ∙ f i y (omega (arith, size)) (ap is_letter (in_part i z) ∙ t))
           a
 
-  -- ---- the letter cancels with the letter before place p
+  -- ---- the letter cancels with the letter at place `at`
 
-  module _ (p : ℕ) (r : Partner codes last own p) where
-    partner_letter : is_letter (get_or codes (p - 1) 0) ≡ true
+  module _ (at : ℕ) (r : Partner codes last own at) where
+    partner_letter : is_letter (get_or codes at 0) ≡ true
     partner_letter = rw r.cancels (inverse_letter own own_letter)
 
-    partner_generator : generator (get_or codes (p - 1) 0) ≡ generator own
+    partner_generator : generator (get_or codes at 0) ≡ generator own
     partner_generator = rw r.cancels (inverse_generator own own_letter)
 
-    pub inside : (p ≤ k) × (p - 1 < k) × (p - 1 < length codes)
+    inside : (at < k) × (at < length codes)
     inside =
         let few = (s.latest (generator own) own_below).read in
         let o = r.own in
-        let z = r.some in
         let i = s.in_row in
-        (omega arith, omega arith, omega arith)
+        (omega arith, omega arith)
 
     abbrev marked : List ℕ
-    marked = set (set codes (p - 1) 15) k 15
+    marked = set (set codes at 15) k 15
 
     -- what `last` was before the partner was read
     abbrev v : ℕ
-    v = get_or before (p - 1) 0
+    v = get_or before at 0
 
-    -- a letter after place p that was read is not of the letter's generator or one beside it
-    not_of : (j f : ℕ) → p - 1 < j → j < k → HasLetter codes f j → get_or last (f + 1) 0 ≤ p → ⊥
+    -- a letter after place `at` that was read is not of the letter's generator or one beside it
+    not_of : (j f : ℕ) → at < j → j < k → HasLetter codes f j → get_or last (f + 1) 0 ≤ at + 1 → ⊥
     not_of j f x y t few =
         let below : f < 7 = subst (λ (i : ℕ). i < 7) t.1 (generator_below (get_or codes j 0) t.0) in
         (s.latest f below).none_later j (omega arith) y t
 
-    far_between : (j : ℕ) → p - 1 < j → j < k → is_letter (get_or codes j 0) ≡ true → far own (get_or codes j 0) ≡ true
+    far_between : (j : ℕ) → at < j → j < k → is_letter (get_or codes j 0) ≡ true → far own (get_or codes j 0) ≡ true
     far_between j x y t =
         far_from own (get_or codes j 0)
         (λ e. not_of j (generator own) x y (t, e) (omega (arith, r.own)))
         (λ e.
         not_of j (generator (get_or codes j 0)) x y (t, refl)
-        (subst (λ (i : ℕ). get_or last i 0 ≤ p) (sym e) (omega (arith, r.below))))
+        (subst (λ (i : ℕ). get_or last i 0 ≤ at + 1) (sym e) (omega (arith, r.below))))
         (λ e.
         let up : generator own + 2 ≡ generator own + 1 + 1 = omega arith in
-        not_of j (generator own + 1) x y (t, e) (subst (λ (i : ℕ). get_or last i 0 ≤ p) up (omega (arith, r.above))))
+        not_of j (generator own + 1) x y (t, e)
+        (subst (λ (i : ℕ). get_or last i 0 ≤ at + 1) up (omega (arith, r.above))))
 
     pub marks_read : OneRead codes marked k
     marks_read =
-        let (a, b, c) = inside in
+        let (b, c) = inside in
         let part = take k codes in (
           ap kept
               (ap (λ (m : ℕ). take m marked) (add-one k)
-              ∙ take-suc-set (set codes (p - 1) 15) k 15 (simp length-set in_codes)
-              ∙ ap (λ (v : List ℕ). v ++ (15 ∷ [])) (take-set-lt k codes (p - 1) 15 b))
-              ∙ kept_append (set part (p - 1) 15) (15 ∷ [])
-              ∙ ap (λ (v : List ℕ). kept (set part (p - 1) 15) ++ v) (kept_none 15 refl)
-              ∙ append-nil (kept (set part (p - 1) 15))
+              ∙ take-suc-set (set codes at 15) k 15 (simp length-set in_codes)
+              ∙ ap (λ (v : List ℕ). v ++ (15 ∷ [])) (take-set-lt k codes at 15 b))
+              ∙ kept_append (set part at 15) (15 ∷ [])
+              ∙ ap (λ (v : List ℕ). kept (set part at 15) ++ v) (kept_none 15 refl)
+              ∙ append-nil (kept (set part at 15))
               ∙ sym
-              (behind_goes own own_letter part (p - 1) (omega (arith, size)) (in_part (p - 1) b ∙ r.cancels)
+              (behind_goes own own_letter part at (omega (arith, size)) (in_part at b ∙ r.cancels)
               (λ j x y t.
               let z : j < k = omega (arith, size) in
               let e = in_part j z in
               ap (far own) e ∙ far_between j x z (ap is_letter (sym e) ∙ t))),
-          drop-set-lt (k + 1) (set codes (p - 1) 15) k 15 (omega arith)
-              ∙ drop-set-lt (k + 1) codes (p - 1) 15 (omega arith),
+          drop-set-lt (k + 1) (set codes at 15) k 15 (omega arith)
+              ∙ drop-set-lt (k + 1) codes at 15 (omega arith),
         )
 
     pub marks : Marked n marked before (set last (generator own + 1) v) (k + 1)
     marks =
-        let (a, b, c) = inside in
+        let (b, c) = inside in
         record {
           few = s.few;
           in_row = simp length-set s.in_row;
@@ -297,34 +297,34 @@ module _ (n : ℕ) (codes before last : List ℕ) (k : ℕ) (s : Marked n codes 
           lowest = (ends v).0;
           highest = (ends v).1;
           fresh = λ j x y.
-              ap is_letter (same_place codes (p - 1) k b in_codes j (λ q. omega arith) (λ q. omega arith))
+              ap is_letter (same_place codes at k b in_codes j (λ q. omega arith) (λ q. omega arith))
               ∙ s.fresh j (omega arith) y;
           latest = λ f x. latest f x (ℕ_discrete f (generator own));
           earlier = earlier;
         }
       where
-        was : Newest codes (generator own) v (p - 1)
+        was : Newest codes (generator own) v at
         was =
-            subst (λ (g : ℕ). Newest codes g v (p - 1)) partner_generator
-            (s.earlier (p - 1) inside.1 partner_letter)
+            subst (λ (g : ℕ). Newest codes g v at) partner_generator
+            (s.earlier at inside.0 partner_letter)
 
         latest : (f : ℕ) → f < 7 → Dec (f ≡ generator own)
             → Newest marked f (get_or (set last (generator own + 1) v) (f + 1) 0) (k + 1)
         latest f x (yes e) =
             let few = was.read in
-            let b = inside.1 in
+            let b = inside.0 in
             rw (e, new_entry v)
             record {
               read = omega arith;
-              none_later = λ j y z t. go j y z (held codes (p - 1) k inside.1 in_codes (generator own) j t)
-                  (dec_lt j (p - 1));
+              none_later = λ j y z t. go j y z (held codes at k inside.0 in_codes (generator own) j t)
+                  (dec_lt j at);
               is_there = λ z.
-                  still_holds codes (p - 1) k inside.1 in_codes (generator own) (v - 1) (λ q. omega arith)
+                  still_holds codes at k inside.0 in_codes (generator own) (v - 1) (λ q. omega arith)
                   (λ q. omega arith) (was.is_there z);
             }
           where
-            go : (j : ℕ) → v ≤ j → j < k + 1 → HasLetter codes (generator own) j × (j ≡ k → ⊥) × (j ≡ p - 1 → ⊥)
-                → Dec (j < p - 1)
+            go : (j : ℕ) → v ≤ j → j < k + 1 → HasLetter codes (generator own) j × (j ≡ k → ⊥) × (j ≡ at → ⊥)
+                → Dec (j < at)
                 → ⊥
             go j y z (t, nk, np) (yes l) = was.none_later j y l t
             go j y z (t, nk, np) (no l) =
@@ -336,18 +336,18 @@ module _ (n : ℕ) (codes before last : List ℕ) (k : ℕ) (s : Marked n codes 
             record {
               read = omega arith;
               none_later = λ j y z t.
-                  let (u, nk, np) = held codes (p - 1) k inside.1 in_codes f j t in
+                  let (u, nk, np) = held codes at k inside.0 in_codes f j t in
                   old.none_later j y (omega arith) u;
               is_there = λ z.
                   let u = old.is_there z in
-                  still_holds codes (p - 1) k inside.1 in_codes f (get_or last (f + 1) 0 - 1) (λ q. omega arith)
+                  still_holds codes at k inside.0 in_codes f (get_or last (f + 1) 0 - 1) (λ q. omega arith)
                   (λ q. d (sym u.1 ∙ ap (λ (i : ℕ). generator (get_or codes i 0)) q ∙ partner_generator)) u;
             }
 
         earlier : (q : ℕ) → q < k + 1 → is_letter (get_or marked q 0) ≡ true
             → Newest marked (generator (get_or marked q 0)) (get_or before q 0) q
         earlier q x t =
-            let (e, nk, np) = other_letter codes (p - 1) k inside.1 in_codes q t in
+            let (e, nk, np) = other_letter codes at k inside.0 in_codes q t in
             let letter = ap is_letter (sym e) ∙ t in
             let old = s.earlier q (omega arith) letter in
             let few = old.read in
@@ -355,10 +355,10 @@ module _ (n : ℕ) (codes before last : List ℕ) (k : ℕ) (s : Marked n codes 
             record {
               read = few;
               none_later = λ j y z u.
-                  old.none_later j y z (held codes (p - 1) k inside.1 in_codes (generator (get_or codes q 0)) j u).0;
+                  old.none_later j y z (held codes at k inside.0 in_codes (generator (get_or codes q 0)) j u).0;
               is_there = λ z.
                   let u = old.is_there z in
-                  still_holds codes (p - 1) k inside.1 in_codes (generator (get_or codes q 0)) (get_or before q 0 - 1)
+                  still_holds codes at k inside.0 in_codes (generator (get_or codes q 0)) (get_or before q 0 - 1)
                   (λ w. omega arith)
                   (λ w.
                   not_of q (generator own) (omega arith) (omega arith)

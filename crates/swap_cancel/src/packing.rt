@@ -22,11 +22,9 @@ pub(crate) fn pack_kept(codes: &mut [u8], n: usize) -> usize
     ensures { (result ≤ n) × (take result codes.new ≡ kept (take n codes.old)) }
 {
     let mut count = 0;
-    let mut k = 0;
-    while k < n {
+    for k in 0..n {
         let c = codes[k];
         count = settle(codes, count, c);
-        k += 1;
     }
     count
 }

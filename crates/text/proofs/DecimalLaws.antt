@@ -1,29 +1,30 @@
 -- Laws of decimal text, for every number. The text reads back as the number, has no zero in front, and is the only such
 -- text. Then: how long it is, and the digits one by one, as the code writes them.
-use Prim.Native.Nat.{ℕ, zero, suc, ◌+◌, ◌-◌, ◌*◌, ◌/◌, ◌%◌, ◌^◌, ◌≤◌, ◌<◌}
-use native.Mathlib.Nat.{zero-mul, mul-le-mul_right, pow-suc, pow-zero, pow-le-pow_right, div-eq_of_lt, div-add-mod'}
-use native.Mathlib.Nat.{mod-lt}
+use Prim.Native.Nat.{ℕ, zero, suc, ◌+◌, ◌-◌, ◌*◌, ◌^◌, ◌≤◌, ◌<◌}
+use native.Mathlib.Nat.{mul-le-mul_right, pow-suc, pow-zero, pow-le-pow_right}
 use native.Mathlib.Decide.{dec_le}
 use native.Mathlib.Omega.{arith}
 use mathlib.Core.Path.{◌≡◌, refl, sym, ap, ap₂, ◌∙◌}
-use mathlib.Core.Bool.{Bool, true, false, cond}
+use mathlib.Core.Bool.{true}
 use mathlib.Core.Logic.{◌⊎◌, inl, inr}
-use mathlib.Core.List.{List, [], ◌∷◌, map}
+use mathlib.Core.List.{List, [], ◌∷◌, ◌++◌, map}
 use borrow.Author.Tests.{ltb-true, ltb-false}
 use lib.Dec.{ltb}
 use lib.ListN.{length, take, drop, get_or, set, length-map}
-use lib.Seq.{length-take-le, set_split, drop_at}
+use lib.Seq.{length-take-le, get_or-drop}
+use Rattle.std.proofs.lemmas.List.{get_or-append_right, get_or-map}
 use Rattle.base.specs.Digits.{value, digits}
 use Rattle.base.specs.Packing.{Below}
-use Rattle.base.proofs.DigitLaws.{length_digits, value_below, value_digits_below, digits_value, positive_pow}
+use Rattle.base.proofs.DigitLaws.{length_digits, value_below, value_digits_below, digits_value}
 use Rattle.base.specs.Lists.{first_from}
+use Rattle.base.proofs.ListLaws.{overlay_step}
 use Rattle.base.proofs.SearchLaws.{first_from_lem, first_passes, first_least}
 use Rattle.text.specs.Decimal.{places, shown, decimal}
 
 -- ---- how many digits
 
 -- a number is below 10 to the power of itself
-below_power : (n : ℕ) → n < 10 ^ n
+pub below_power : (n : ℕ) → n < 10 ^ n
 below_power zero = omega (arith, pow-zero 10)
 below_power (suc n) = omega (arith, pow-suc 10 n, below_power n)
 
@@ -111,34 +112,24 @@ decimal_only ds below some front =
 
 -- ---- as the code counts and writes them
 
--- something is left of a number after its last k digits exactly if the number is at least 10 to the power k
-pub none_left : (n k : ℕ) → n / 10 ^ k ≡ 0 → n < 10 ^ k
-none_left n k e =
-    let none : n / 10 ^ k * 10 ^ k ≡ 0 = rw e (zero-mul (10 ^ k)) in
-    let whole = div-add-mod' n (10 ^ k) in
-    omega (arith, mod-lt n (positive_pow {b = 10} (omega arith) k))
+-- digits before place i are shown as bytes, and the others are unchanged: one more digit
+module _ (ds : List ℕ) (i : ℕ) (h : i < length ds) where
+  abbrev so_far : List ℕ
+  so_far = take i (shown ds) ++ drop i ds
 
-pub more_left : (n k : ℕ) → 0 < n / 10 ^ k → 10 ^ k ≤ n
-more_left n k h = go (dec_le (10 ^ k) n)
-  where
-    go : Dec (10 ^ k ≤ n) → 10 ^ k ≤ n
-    go (yes l) = l
-    go (no l) = absurd (omega (arith, div-eq_of_lt {n = n} {m = 10 ^ k} (omega arith)))
+  size : length (shown ds) ≡ length ds
+  size = length-map ds (λ d. 48 + d)
 
--- a number n has at most n + 1 digits
-pub needed_few : (n k : ℕ) → (1 < k → 10 ^ (k - 1) ≤ n) → k ≤ n + 1
-needed_few n k needed = go (dec_le k 1)
-  where
-    go : Dec (k ≤ 1) → k ≤ n + 1
-    go (yes h) = omega arith
-    go (no h) = omega (arith, needed (omega arith), below_power (k - 1))
+  pub digit_next : get_or so_far i 0 ≡ get_or ds i 0
+  digit_next =
+      let here : i + (i - i) ≡ i = omega arith in
+      get_or-append_right (take i (shown ds)) (drop i ds) i i 0 (length-take-le i (shown ds) (omega (arith, size)))
+      (omega arith)
+      ∙ get_or-drop i ds (i - i) 0
+      ∙ ap (λ (k : ℕ). get_or ds k 0) here
 
--- one turn of the loop, which writes the digits from the last on
-pub spelled_more : (number v n i : ℕ) (xs : List ℕ) → i < length xs → drop (suc i) xs ≡ shown (digits 10 n number)
-    → v ≡ number / 10 ^ n
-    → drop i (set xs i (48 + v % 10)) ≡ shown (digits 10 (suc n) number)
-unfolding digits
-spelled_more number v n i xs h e ev =
-    ap (drop i) (set_split xs i (48 + v % 10) h)
-    ∙ drop_at (take i xs) ((48 + v % 10) ∷ drop (suc i) xs) i (length-take-le i xs (omega arith))
-    ∙ ap₂ (λ (x : ℕ) (l : List ℕ). (48 + x % 10) ∷ l) ev e
+  pub digit_shown : set so_far i (get_or so_far i 0 + 48) ≡ take (i + 1) (shown ds) ++ drop (i + 1) ds
+  digit_shown =
+      let byte : get_or so_far i 0 + 48 ≡ get_or (shown ds) i 0 =
+      omega (arith, digit_next, get_or-map (λ (d : ℕ). 48 + d) ds i 0 0 h) in
+      ap (set so_far i) byte ∙ overlay_step (shown ds) ds i (omega (arith, size)) h

@@ -1,5 +1,4 @@
 pub mod DecimalLaws
 pub mod IntegerLaws
 pub mod TextLaws
-pub mod CutLaws
 pub mod EnoughLaws

@@ -1,5 +1,5 @@
 // Writes numbers in decimal behind a text.
-ghost use Rattle.std.specs.Prelude.{◌+◌, ◌≤◌, ◌≡◌, [], ◌∷◌, ◌++◌, nat_abs, length};
+ghost use Rattle.std.specs.Prelude.{◌+◌, ◌≤◌, ◌≡◌, [], ◌∷◌, ◌++◌, length};
 ghost use Rattle.base.specs.steps.Laying.{Laid};
 ghost use Rattle.base.specs.Digits.{digits};
 ghost use Rattle.text.specs.Decimal.{places, shown, decimal, signed_text};
@@ -8,25 +8,16 @@ ghost use Rattle.text.specs.Decimal.{places, shown, decimal, signed_text};
 fn places(n: u32) -> usize
     ensures { result ≡ places n }
 {
-    let mut rest = n / 10;
-    let mut k: usize = 1;
-    while 0 < rest {
-        rest = rest / 10;
-        k += 1;
-    }
-    k
+    n.max(1).ilog10() as usize + 1
 }
 
 // Writes the last digits of a number, as many as `part` has places, as the bytes that show them.
 fn spell(part: &mut [u8], n: u32)
     ensures { part.new ≡ shown (digits 10 (length part.old) n) }
 {
-    let mut rest = n;
-    let mut i = part.len();
-    while 0 < i {
-        i -= 1;
-        part[i] = (48 + rest % 10) as u8;
-        rest = rest / 10;
+    base::spell(part, 10, u64::from(n));
+    for digit in part {
+        *digit += b'0';
     }
 }
 
@@ -41,22 +32,12 @@ pub fn decimal(text: &mut [u8], at: usize, n: u32, then: u8) -> usize
     end + 1
 }
 
-// How far an integer is from 0.
-fn size(n: i32) -> u32
-    ensures { result ≡ nat_abs n }
-{
-    if n < 0 {
-        return (0 - (n as i64)) as u32;
-    }
-    n as u32
-}
-
 // Writes an integer in decimal and the byte `then`, like `decimal`. An integer below zero has a minus sign in front.
 pub fn signed(text: &mut [u8], at: usize, n: i32, then: u8) -> usize
     requires { at + (length (signed_text n) + 1) ≤ length text.old }
     ensures { Laid at (signed_text n ++ (then ∷ [])) text.old text.new result }
 {
-    let size = size(n);
+    let size = n.unsigned_abs();
     if 0 <= n {
         return decimal(text, at, size, then);
     }

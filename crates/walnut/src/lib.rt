@@ -81,8 +81,7 @@ pub extern "C" fn walnut_product(large: bool, a: u8, b: u8) -> Element
     ensures { Gives (product_questions (field_of large) a b) ((operations (field_of large)).mul a b) result.answer
         result.value }
 {
-    let f = field::field_of(large);
-    field::product(a, b, f)
+    field::product(a, b, field::field_of(large))
 }
 
 #[unsafe(no_mangle)]
@@ -90,8 +89,7 @@ pub extern "C" fn walnut_reciprocal(large: bool, a: u8) -> Element
     ensures { Gives (reciprocal_questions (field_of large) a) ((operations (field_of large)).inv a) result.answer
         result.value }
 {
-    let f = field::field_of(large);
-    field::reciprocal(a, f)
+    field::reciprocal(a, field::field_of(large))
 }
 
 #[unsafe(no_mangle)]
@@ -121,18 +119,14 @@ pub extern "C" fn walnut_read_key(file: &[u8]) -> KeyForC
     ensures { ReadsKey file.now result.answer (key_from result.large result.t_values result.pair result.second) }
 {
     let read = key_reader::read_key(file);
-    let held = read.key;
-    let answer = read.answer;
-    let f = held.field;
-    let large = field::is_large(f);
-    let t_values = held.t_values;
-    let pair = held.pair;
-    let second = held.second;
+    // The proof does not close without these two: Rattle covers no array field of a C struct made of a field straight.
+    let t_values = read.key.t_values;
+    let second = read.key.second;
     KeyForC {
-        answer,
-        large,
+        answer: read.answer,
+        large: field::is_large(read.key.field),
         t_values,
-        pair,
+        pair: read.key.pair,
         second,
     }
 }
@@ -157,8 +151,7 @@ pub extern "C" fn walnut_write_key(
     ensures { WroteKey (field_of large) t_values.now labels.now first.now
         second.now out.old out.new result }
 {
-    let f = field::field_of(large);
-    key_writer::write_key(t_values, labels, first, second, out, f)
+    key_writer::write_key(t_values, labels, first, second, out, field::field_of(large))
 }
 
 #[unsafe(no_mangle)]
@@ -268,20 +261,19 @@ pub extern "C" fn walnut_first_half(key: &[u8], digest: &[u8]) -> HalvedForC
         (half_from result.half.large result.half.t_values result.half.pair result.half.target) }
 {
     let made = slip_verdict::first_half(key, digest);
-    let held = made.half;
-    let answer = made.answer;
-    let f = held.field;
-    let larger = field::is_large(f);
-    let t_values = held.t_values;
-    let pair = held.pair;
-    let target = held.target;
+    // The proof does not close without these two: Rattle covers no array field of a C struct made of a field straight.
+    let t_values = made.half.t_values;
+    let target = made.half.target;
     let half = HalfForC {
-        large: larger,
+        large: field::is_large(made.half.field),
         t_values,
-        pair,
+        pair: made.half.pair,
         target,
     };
-    HalvedForC { answer, half }
+    HalvedForC {
+        answer: made.answer,
+        half,
+    }
 }
 
 // The verdict's second half. The caller may have made the half by itself.
@@ -292,15 +284,13 @@ pub extern "C" fn walnut_second_half(half: HalfForC, word: &[u8]) -> u8
         (second_half_questions (half_from half.large half.t_values half.pair half.target)
         word.now) }
 {
-    let large = half.large;
-    let f = field::field_of(large);
+    // The proof does not close without these two: Rattle covers no field made of an array field of a C struct straight.
     let t_values = half.t_values;
-    let pair = half.pair;
     let target = half.target;
     let held = Half {
-        field: f,
+        field: field::field_of(half.large),
         t_values,
-        pair,
+        pair: half.pair,
         target,
     };
     slip_verdict::second_half(held, word)

@@ -1,13 +1,15 @@
 -- Laws of the writers of words: what a writer returns and leaves in the output, on a refusal and on success; which
 -- codes pass the questions of the writer from codes; and how that writer builds the file.
 use Prim.Native.Nat.{ℕ, ◌+◌, ◌-◌, ◌*◌, ◌/◌, ◌%◌, ◌≤◌}
-use mathlib.Core.Path.{◌≡◌, refl, sym, ap, ap₂, ◌∙◌}
+use mathlib.Core.Path.{◌≡◌, sym, ap, ap₂, ◌∙◌}
 use mathlib.Core.Bool.{true}
 use mathlib.Core.List.{List, [], ◌∷◌, ◌++◌, append_assoc, append-nil}
 use native.Mathlib.Omega.{arith}
 use borrow.Author.Tests.{le-leb}
-use lib.ListN.{length, take, drop, get_or, set, length-drop, length-set, drop_of_length-le, get_or-eq_default}
+use lib.ListN.{length, take, drop, get_or, set, length-append, length-drop, drop_of_length-le, get_or-eq_default}
 use lib.Seq.{length-take-le, length_front, take_all, take_at, drop_at, drop-drop}
+use mir.Syntax.{w16}
+use Rattle.std.specs.Int.{to_be_bytes}
 use Rattle.base.specs.Questions.{Question, first_no, granted}
 use Rattle.base.specs.Lists.{every, overlaid}
 use Rattle.base.proofs.QuestionLaws.{passed_answers, granted_zero, granted_refused}
@@ -73,22 +75,20 @@ lent_back f i xs =
     (drop_of_length-le (drop i xs) e)
     ∙ ap (λ (p : List ℕ). take i xs ++ p) (append-nil (f (drop i xs)))
 
-module _ (cs out : List ℕ) where
+-- `two` is the number of letters in two bytes
+module _ (cs out two : List ℕ) (is : two ≡ to_be_bytes w16 (length cs)) where
   -- the output with the number of letters in its first two bytes
   abbrev pub numbered : List ℕ
-  numbered = set (set out 0 (length cs / 256)) 1 (length cs % 256)
+  numbered = two ++ drop 2 out
 
-  pub length_numbered : length numbered ≡ length out
-  length_numbered = simp length-set
+  pub length_numbered : 2 ≤ length out → length numbered ≡ length out
+  length_numbered room = simp (length-append, length-drop) (omega (arith, ap length is))
 
-  numbered_is : length cs ≤ 10000 → 2 ≤ length out → numbered ≡ take 2 (word_file cs) ++ drop 2 out
-  numbered_is few room = start out room ∙ ap (λ (p : List ℕ). p ++ drop 2 out) (sym (word_file_number cs few))
-    where
-      start : (xs : List ℕ) → 2 ≤ length xs
-          → set (set xs 0 (length cs / 256)) 1 (length cs % 256) ≡ (length cs / 256 ∷ length cs % 256 ∷ []) ++ drop 2 xs
-      start [] l = absurd (omega arith)
-      start (x ∷ []) l = absurd (omega arith)
-      start (x ∷ y ∷ xs) l = refl
+  numbered_is : length cs ≤ 10000 → numbered ≡ take 2 (word_file cs) ++ drop 2 out
+  numbered_is few =
+      let high : length cs / 256 % 256 ≡ length cs / 256 = omega arith in
+      ap (λ (p : List ℕ). p ++ drop 2 out)
+      (is ∙ ap (λ (x : ℕ). x ∷ length cs % 256 ∷ []) high ∙ sym (word_file_number cs few))
 
   -- the numbered output with ys in place of all bytes after the first two
   abbrev paired : List ℕ → List ℕ
@@ -107,7 +107,7 @@ module _ (cs out : List ℕ) where
         ap paired e
         ∙ lent_back (overlaid (take pairs (packed cs))) 2 numbered
         ∙ ap (λ (xs : List ℕ). take 2 xs ++ overlaid (take pairs (packed cs)) (drop 2 xs))
-        (numbered_is few (omega arith))
+        (numbered_is few)
         ∙ ap₂ (λ (p q : List ℕ). p ++ overlaid (take pairs (packed cs)) q)
         (take_at (take 2 (word_file cs)) (drop 2 out) 2 two) (drop_at (take 2 (word_file cs)) (drop 2 out) 2 two)
         ∙ ap (λ (p : List ℕ). take 2 (word_file cs) ++ p)

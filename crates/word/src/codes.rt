@@ -44,15 +44,12 @@ fn whole_words(bytes: &[u8], codes: &mut [u8]) -> usize
     requires { 2 * length bytes.now ≤ length codes.old }
     ensures { WholeWords result bytes.now codes.old codes.new }
 {
-    let mut k = 0;
-    while k + 8 <= bytes.len() {
-        let row = sixteen_at(bytes, k);
-        let at = 2 * k;
-        let end = at + 16;
-        base::put(&mut codes[at..end], &row);
-        k += 8;
+    let words = bytes.len() / 8;
+    for k in 0..words {
+        let at = 16 * k;
+        codes[at..at + 16].copy_from_slice(&sixteen_at(bytes, 8 * k));
     }
-    k
+    8 * words
 }
 
 // Unpacks bytes one by one to the front of the row of codes.
@@ -60,11 +57,9 @@ fn singly(bytes: &[u8], codes: &mut [u8])
     requires { 2 * length bytes.now ≤ length codes.old }
     ensures { codes.new ≡ overlaid (halves bytes.now) codes.old }
 {
-    let mut k = 0;
-    while k < bytes.len() {
-        codes[2 * k] = bytes[k] / 16;
-        codes[2 * k + 1] = bytes[k] % 16;
-        k += 1;
+    for (k, byte) in bytes.iter().enumerate() {
+        codes[2 * k] = byte / 16;
+        codes[2 * k + 1] = byte % 16;
     }
 }
 

@@ -51,17 +51,13 @@ fn both_letters(b: u8) -> bool
     (b / 16 % 8 != 7) & (b % 8 != 7)
 }
 
-// Is every half byte of the first m bytes a letter? The loop never ends early, so the compiled code tests many bytes at
-// once.
-fn whole_letters(part: &[u8], m: usize) -> bool
-    requires { m ≤ length part.now }
-    ensures { result ≡ every is_letter (take (2 * m) (halves part.now)) }
+// Is every half byte of the bytes a letter? The loop never ends early, so the compiled code tests many bytes at once.
+fn whole_letters(bytes: &[u8]) -> bool
+    ensures { result ≡ every is_letter (halves bytes.now) }
 {
     let mut lettered = true;
-    let mut k = 0;
-    while k < m {
-        lettered = lettered & both_letters(part[k]);
-        k += 1;
+    for b in bytes {
+        lettered &= both_letters(*b);
     }
     lettered
 }
@@ -71,12 +67,7 @@ fn whole_letters(part: &[u8], m: usize) -> bool
 fn all_letters(part: &[u8], n: usize) -> bool
     ensures { result ≡ every is_letter (take n (halves part.now)) }
 {
-    let bytes = if n / 2 < part.len() {
-        n / 2
-    } else {
-        part.len()
-    };
-    let whole = whole_letters(part, bytes);
+    let whole = whole_letters(&part[..(n / 2).min(part.len())]);
     if n % 2 == 0 {
         return whole;
     }

@@ -3,17 +3,21 @@
 use Prim.Native.Nat.{ℕ, ◌+◌, ◌-◌, ◌≤◌, ◌<◌}
 use mathlib.Core.Path.{◌≡◌, refl, sym, ap, ap₂, ◌∙◌}
 use mathlib.Core.Bool.{Bool, true, cond, ◌&&◌}
-use mathlib.Core.List.{List, [], ◌∷◌, ◌++◌}
-use native.Mathlib.Decide.{ℕ_discrete}
+use mathlib.Core.List.{List, [], ◌∷◌}
+use native.Mathlib.Decide.{ℕ_discrete, dec_le}
 use native.Mathlib.Numerals.{add-one}
 use native.Mathlib.Omega.{arith}
-use borrow.Author.Tests.{eq-eqb, ne_eqb}
+use borrow.Author.Tests.{eq-eqb, ne_eqb, eqb-true, lt-ltb}
 use lib.Dec.{eqb}
 use lib.IntN.{ℤ, pos, ◌-ℤ◌}
 use lib.ListN.{length, get_or, take, drop, replicate, take-append-drop, length-drop}
 use lib.Seq.{length-take-le, get_or-take, get_or-drop, drop-cons, drop-length}
+use Rattle.std.specs.List.{position, position_or_len}
+use Rattle.std.specs.Prelude.{Some}
+use Rattle.std.proofs.lemmas.List.Sums.{passes_at_first, fails_before_first}
 use Rattle.base.specs.Lists.{every, tally, values_from, each_once}
 use Rattle.base.proofs.ListLaws.{tally_append, every_append, every_take, every_get_d, and_left, and_right, get_d_values}
+use Rattle.base.proofs.ListLaws.{true_false}
 use Rattle.word.specs.Letters.{is_letter, is_positive, is_inverse, generator}
 use Rattle.word.specs.Exponent.{exponent_sum}
 use Rattle.word.specs.Strands.{strands_in_order, is_order, inverse_list, swapped, list_after}
@@ -52,22 +56,33 @@ module _ (names : List ℕ) (size : length names ≡ 8) (order : is_order names 
       let same = ap (λ (a : ℕ). get_or (inverse_list names) a 0) e in
       omega (arith, same, there i b, there j d)
 
-  -- a label that stands at none of the first seven places stands at the last
-  pub at_last : (a : ℕ) → a < 8 → ((k : ℕ) → k < 7 → get_or names k 0 ≡ a → ⊥) → get_or names 7 0 ≡ a
-  at_last a h none = go (ℕ_discrete place 7)
+  -- each label is found, at its place
+  pub place_found : (a : ℕ) → a < 8
+      → (m : ℕ) × (position (λ x. eqb x a) names ≡ Some m) × (m < 8) × (get_or names m 0 ≡ a)
+  place_found a h = (m, found, omega (arith, within, size), eqb-true _ _ (passes_at_first test names 0 within))
     where
+      test : ℕ → Bool
+      test x = eqb x a
+
+      m : ℕ
+      m = position_or_len test names
+
       place : ℕ
       place = get_or (inverse_list names) a 0 - 1
 
-      there : get_or names place 0 ≡ a
-      there = label_there names (inverse_list names) size (order_inverse names order) a h
+      there : test (get_or names place 0) ≡ true
+      there = eq-eqb _ _ (label_there names (inverse_list names) size (order_inverse names order) a h)
 
-      go : Dec (place ≡ 7) → get_or names 7 0 ≡ a
-      go (yes d) = ap (λ (k : ℕ). get_or names k 0) (sym d) ∙ there
-      go (no n) =
-          absurd
-          (none place
-          (omega (arith, (position_within names (inverse_list names) size (order_inverse names order) a h).1)) there)
+      go : Dec (m ≤ place) → m < length names
+      go (yes l) =
+          omega (arith, (position_within names (inverse_list names) size (order_inverse names order) a h).1)
+      go (no n) = absurd (true_false _ there (fails_before_first test names place 0 (omega arith)))
+
+      within : m < length names
+      within = go (dec_le m place)
+
+      found : position test names ≡ Some m
+      found = rw (lt-ltb m (length names) within)
 
   same_test : (i j : ℕ) → i < 8 → j < 8 → eqb (get_or names i 0) (get_or names j 0) ≡ eqb i j
   same_test i j b d = go (ℕ_discrete i j)

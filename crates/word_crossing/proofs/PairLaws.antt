@@ -1,5 +1,5 @@
 -- The 28 pairs one by one: their labels, and their numbers in a row.
-use Prim.Native.Nat.{ℕ, zero, suc, ◌+◌, ◌%◌, ◌≤◌, ◌<◌}
+use Prim.Native.Nat.{ℕ, zero, suc, ◌+◌, ◌≤◌, ◌<◌}
 use mathlib.Core.Path.{◌≡◌, refl, sym, ◌∙◌}
 use mathlib.Core.Bool.{Bool, true, ◌&&◌}
 use mathlib.Core.List.{List, [], ◌∷◌, map}
@@ -45,10 +45,9 @@ row_at f d [] k h = absurd (omega arith)
 row_at f d (p ∷ ps) zero h = refl
 row_at f d (p ∷ ps) (suc k) h = row_at f d ps k (omega arith)
 
--- a label of pair k is the low half of the byte that shows it: '0' is 48
-pub label_at : (f : Two → ℕ) (k : ℕ) → k < 28 → f (pair_at k) < 8
-    → get_or (map (λ p. 48 + f p) all_pairs) k 0 % 16 ≡ f (pair_at k)
-label_at f k h b = omega (arith, row_at (λ p. 48 + f p) 0 all_pairs k (rw twenty_eight h))
+-- a label of pair k
+pub label_at : (f : Two → ℕ) (k : ℕ) → k < 28 → get_or (map f all_pairs) k 0 ≡ f (pair_at k)
+label_at f k h = row_at f 0 all_pairs k (rw twenty_eight h)
 
 -- past the last pair both labels are 0
 pub past_last : (k : ℕ) → 28 ≤ k → pair_at k ≡ record { smaller = 0; larger = 0 }

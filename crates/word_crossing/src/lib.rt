@@ -53,22 +53,25 @@ pub struct Two {
     pub larger: u8,
 }
 
-// The labels of pair k, counted from 0, in increasing order of the pairs; past the last pair, zeros. The low half of
-// the byte that shows a digit is that digit.
+// The labels of pair k, counted from 0, in increasing order of the pairs; past the last pair, zeros.
 pub fn pair_at(k: usize) -> Two
     ensures { result ≡ pair_at k }
 {
+    static SMALLER: [u8; 28] = [
+        0, 0, 0, 0, 0, 0, 0, 1, 1, 1, 1, 1, 1, 2, 2, 2, 2, 2, 3, 3, 3, 3, 4, 4, 4, 5, 5, 6,
+    ];
+    static LARGER: [u8; 28] = [
+        1, 2, 3, 4, 5, 6, 7, 2, 3, 4, 5, 6, 7, 3, 4, 5, 6, 7, 4, 5, 6, 7, 5, 6, 7, 6, 7, 7,
+    ];
     if 28 <= k {
         return Two {
             smaller: 0,
             larger: 0,
         };
     }
-    let smaller = b"0000000111111222223333444556";
-    let larger = b"1234567234567345674567567677";
     Two {
-        smaller: smaller[k] % 16,
-        larger: larger[k] % 16,
+        smaller: SMALLER[k],
+        larger: LARGER[k],
     }
 }
 

@@ -1,6 +1,6 @@
 // Counts all pairs of labels in one walk over a word. A table has a counter for each sign and each two labels in
 // order. Each letter increments exactly one counter, with no branch.
-ghost use Rattle.std.specs.Prelude.{◌+◌, ◌≤◌, ◌<◌, ◌≡◌, true, pos, ◌-ℤ◌, length, get_or};
+ghost use Rattle.std.specs.Prelude.{◌+◌, ◌≤◌, ◌<◌, ◌≡◌, true, pos, ◌-ℤ◌, length, get_or, ◌==◌, position};
 ghost use Rattle.base.specs.Lists.{every};
 ghost use Rattle.word.specs.Letters.{is_letter};
 ghost use Rattle.word.specs.Strands.{is_order};
@@ -16,7 +16,7 @@ fn slot(sign: u8, p: u8, q: u8) -> usize
     requires { (sign < 2) × (p < 8) × (q < 8) }
     ensures { result ≡ slot sign p q }
 {
-    (sign as usize) * 64 + (p as usize) * 8 + (q as usize)
+    usize::from(sign) * 64 + usize::from(p) * 8 + usize::from(q)
 }
 
 // Counts one letter by its sign and the two labels that it finds. The two labels then change places.
@@ -28,7 +28,7 @@ fn letter(labels: &mut [u8; 8], counts: &mut [u32; 128], code: u8)
     let own = labels[at];
     let after = labels[at + 1];
     let k = slot(code / 8, own, after);
-    counts[k] = counts[k] + 1;
+    counts[k] += 1;
     labels[at] = after;
     labels[at + 1] = own;
 }
@@ -53,17 +53,12 @@ fn walk(codes: &[u8]) -> Walked
     let mut labels: [u8; 8] = [0, 1, 2, 3, 4, 5, 6, 7];
     let mut first = [0u32; 128];
     let mut second = [0u32; 128];
-    let mut i = 0;
-    while i < half {
-        let code = codes[i];
-        let other = codes[half + i];
-        letter(&mut middle, &mut first, code);
-        letter(&mut labels, &mut second, other);
-        i += 1;
+    for i in 0..half {
+        letter(&mut middle, &mut first, codes[i]);
+        letter(&mut labels, &mut second, codes[half + i]);
     }
     if half + half < codes.len() {
-        let code = codes[half + half];
-        letter(&mut labels, &mut second, code);
+        letter(&mut labels, &mut second, codes[half + half]);
     }
     Walked {
         first,
@@ -93,19 +88,19 @@ fn less(a: u32, b: u32) -> i32
     x - y
 }
 
+// The first place of a label, if the list has it.
+fn found(labels: &[u8], a: u8) -> Option<usize>
+    ensures { result ≡ position (λ x. x == a) labels.now }
+{
+    labels.iter().position(|x| *x == a)
+}
+
 // The place of a label in a list of 0 to 7, each once.
 fn place_of(labels: &[u8; 8], a: u8) -> u8
     requires { (length labels.now ≡ 8) × (is_order labels.now ≡ true) × (a < 8) }
     ensures { (get_or labels.now result 0 ≡ a) × (result < 8) }
 {
-    let mut i: u8 = 0;
-    while i < 7 {
-        if labels[i as usize] == a {
-            return i;
-        }
-        i += 1;
-    }
-    i
+    found(labels, a).unwrap() as u8
 }
 
 // The letters of a sign that find two labels, either way round.
@@ -138,11 +133,9 @@ pub(crate) fn numbers(word: &[u8]) -> [i32; 28]
 {
     let walked = counted(word);
     let mut numbers = [0i32; 28];
-    let mut k = 0;
-    while k < 28 {
+    for k in 0..28 {
         let two = pair_at(k);
         numbers[k] = number(walked, two.smaller, two.larger);
-        k += 1;
     }
     numbers
 }

@@ -1,7 +1,7 @@
 -- Laws of the code of a conversion: the letters that the table's runs give, 34, and the questions in order.
-use Prim.Native.Nat.{ℕ, ◌+◌, ◌≤◌, ◌<◌}
-use mathlib.Core.Path.{◌≡◌, refl, sym, ap, ap₂, ◌∙◌, subst}
-use mathlib.Core.Bool.{Bool, true, false}
+use Prim.Native.Nat.{ℕ, ◌≤◌, ◌<◌}
+use mathlib.Core.Path.{◌≡◌, sym, ap, ◌∙◌}
+use mathlib.Core.Bool.{Bool, true}
 use mathlib.Core.List.{List, [], ◌∷◌, ◌++◌}
 use native.Mathlib.Omega.{arith}
 use borrow.Author.Tests.{le-leb, lt-leb, leb-true}
@@ -11,13 +11,12 @@ use Rattle.base.specs.Packing.{Below}
 use Rattle.base.proofs.QuestionLaws.{passes, fails, all_passed, both_passed, passed_answers, answers_passed}
 use Rattle.word.specs.Words.{max_letters, codes, word_file, word_questions, word_answer}
 use Rattle.word.specs.Words.{room_question, writer_questions, Wrote}
-use Rattle.word.proofs.LetterLaws.{Lettered}
 use Rattle.word.proofs.WordLaws.{letters_below}
 use Rattle.word.proofs.WriteLaws.{wrote_refused, wrote_same, writable}
 use Rattle.word_dialect.specs.Dialect.{are_parts, converted, long_question, dialect_questions}
-use Rattle.word_dialect.specs.steps.Table.{HoldsRuns, IsTable, laid, Convertible}
+use Rattle.word_dialect.specs.steps.Table.{HoldsRuns, laid, Convertible}
 use Rattle.word_dialect.proofs.ConversionLaws.{converted_lettered}
-use Rattle.word_dialect.proofs.TableLaws.{holds_table, laid_converted}
+use Rattle.word_dialect.proofs.TableLaws.{laid_converted}
 
 -- ---- the writer of a converted word
 

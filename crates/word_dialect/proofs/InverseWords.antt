@@ -2,7 +2,6 @@
 -- followed by its inverse vanishes.
 use Prim.Native.Nat.{ℕ}
 use mathlib.Core.Path.{◌≡◌, refl, sym, ap, ap₂, ◌∙◌}
-use mathlib.Core.Bool.{true}
 use mathlib.Core.List.{List, [], ◌∷◌, ◌++◌, append_assoc, append-nil}
 use Rattle.base.specs.Lists.{every}
 use Rattle.base.proofs.ListLaws.{and_both, every_append}

@@ -1,8 +1,8 @@
 -- Laws of parts: the sum grows part by part, more than seven parts are no parts of 7, and how many generators come
 -- after a generator in its part.
-use Prim.Native.Nat.{ℕ, suc, ◌+◌, ◌-◌, ◌*◌, ◌≤◌, ◌<◌}
+use Prim.Native.Nat.{ℕ, suc, ◌+◌, ◌-◌, ◌≤◌, ◌<◌}
 use mathlib.Core.Path.{◌≡◌, refl, sym, ap, ◌∙◌}
-use mathlib.Core.Bool.{Bool, true, false, cond, ◌&&◌, false≢true}
+use mathlib.Core.Bool.{Bool, true, false, cond, ◌&&◌}
 use mathlib.Core.List.{List, [], ◌∷◌, ◌++◌}
 use native.Mathlib.Omega.{arith}
 use native.Mathlib.Numerals.{add-one}
@@ -12,7 +12,7 @@ use lib.Dec.{ltb, eqb}
 use lib.ListN.{length, take, drop, get_or}
 use lib.Seq.{take-suc, drop-cons}
 use Rattle.base.specs.Lists.{every}
-use Rattle.base.proofs.ListLaws.{and_left, and_right, and_both, not_true_false}
+use Rattle.base.proofs.ListLaws.{and_left, and_right, not_true_false}
 use Rattle.word_dialect.specs.Dialect.{part_sum, are_parts, following}
 
 abbrev positive : List ℕ → Bool

@@ -3,10 +3,9 @@
 -- leaves the same bytes as free reduction of the word. This holds for Artin words turned to Y and back, and for Y words
 -- turned to Artin and back.
 use Prim.Native.Nat.{ℕ, ◌≤◌}
-use mathlib.Core.Path.{◌≡◌, refl, sym, ap, ◌∙◌}
+use mathlib.Core.Path.{◌≡◌, sym, ap, ◌∙◌}
 use mathlib.Core.Bool.{Bool, true, not}
 use mathlib.Core.List.{List}
-use native.Mathlib.Omega.{arith}
 use borrow.Author.Tests.{le-leb}
 use lib.ListN.{length, take}
 use Rattle.base.specs.Questions.{first_no}

@@ -1,25 +1,24 @@
 -- Laws of the table of runs: each shape of a run that the code makes is the run of the definition, by tests that antt
 -- computes over all codes; the run that eight entries hold; and the letters that the runs of a word's codes give.
-use Prim.Native.Nat.{ℕ, suc, ◌+◌, ◌*◌, ◌-◌, ◌%◌, ◌≤◌, ◌<◌}
+use Prim.Native.Nat.{ℕ, ◌+◌, ◌*◌, ◌-◌, ◌%◌, ◌≤◌, ◌<◌}
 use mathlib.Core.Path.{◌≡◌, refl, sym, ap, ap₂, ◌∙◌}
-use mathlib.Core.Bool.{Bool, true, false, cond, not, ◌&&◌}
-use mathlib.Core.List.{List, [], ◌∷◌, ◌++◌}
+use mathlib.Core.Bool.{Bool, true, false, cond, ◌&&◌}
+use mathlib.Core.List.{List, ◌++◌}
 use native.Mathlib.Omega.{arith}
 use native.Mathlib.Numerals.{add-one}
 use borrow.Author.Count.{below_more}
 use borrow.Author.Tests.{ltb-true, leb-true, lt-ltb}
 use lib.Dec.{leb, ltb, eqb}
-use lib.ListN.{length, take, drop, get_or, set, length-append, length-drop}
+use lib.ListN.{length, take, drop, get_or, length-append, length-drop}
 use lib.Seq.{length-take-le, take-append-add, take-append-le, take-take}
-use lib.Seq.{get_or-take, get_or-drop, get_or-set_same, get_or-set_other, ext_get_or}
-use Rattle.base.specs.Lists.{every, equal, values_from, values, overlaid}
+use lib.Seq.{get_or-take, get_or-drop, ext_get_or}
+use Rattle.base.specs.Lists.{every, equal, values_from, values}
 use Rattle.base.specs.Digits.{part}
 use Rattle.base.specs.Packing.{Below}
 use Rattle.base.proofs.ListLaws.{and_left, and_right, every_values, equal_true, length_values, get_d_values}
-use Rattle.base.proofs.ListLaws.{overlaid_all, overlaid_whole}
 use Rattle.word.specs.Letters.{is_letter, is_inverse, generator}
 use Rattle.word.proofs.LetterLaws.{Lettered, letter_below}
-use Rattle.word_dialect.specs.Dialect.{each_by, inverted, run_of, signed_run, run, converted}
+use Rattle.word_dialect.specs.Dialect.{inverted, run_of, signed_run, run, converted}
 use Rattle.word_dialect.specs.steps.Table.{code_at, Steps, Row, Before, table_run, HoldsRuns, IsTable, laid}
 use Rattle.word_dialect.proofs.EachLaws.{each_more, each_alike}
 
@@ -206,25 +205,18 @@ module _ (table w : List ℕ) (t : IsTable table) (below : Below 16 w) (k : ℕ)
 
 -- eight entries are written from place `at` on: the run stands after what was there
 pub run_written : (table row put : List ℕ) (c at : ℕ) → IsTable table → c < 16 → at + 8 ≤ length row
-    → put ≡ overlaid (take (length (take (at + 8 - at) (drop at row))) (take (8 * c + 8 - 8 * c) (drop (8 * c) table)))
-    (take (at + 8 - at) (drop at row))
+    → put ≡ take (8 * c + 8 - 8 * c) (drop (8 * c) table)
     → take (at + get_or table (8 * c + 7) 0) (take at row ++ (put ++ drop (at + 8 - at) (drop at row)))
     ≡ take at row ++ table_run table c
 unfolding table_run
 run_written table row put c at t b room e =
     let n = get_or table (8 * c + 7) 0 in
-    let eight : at + 8 - at ≡ 8 = omega arith in
-    let eight' : 8 * c + 8 - 8 * c ≡ 8 = omega arith in
+    let eight : 8 * c + 8 - 8 * c ≡ 8 = omega arith in
     let entries = take 8 (drop (8 * c) table) in
-    let places = take 8 (drop at row) in
-    let l : length places ≡ 8 = length-take-le 8 (drop at row) (omega (arith, length-drop at row)) in
     let l' : length entries ≡ 8 =
     length-take-le 8 (drop (8 * c) table) (omega (arith, length-drop (8 * c) table, t.size)) in
     let put_is : put ≡ entries =
-    e ∙ ap₂ (λ (j k : ℕ). overlaid (take (length (take j (drop at row))) (take k (drop (8 * c) table)))
-    (take j (drop at row)))
-    eight eight'
-    ∙ overlaid_all entries places (l' ∙ sym l) ∙ overlaid_whole entries places (l' ∙ sym l) in
+    e ∙ ap (λ (k : ℕ). take k (drop (8 * c) table)) eight in
     let few = t.few c b in
     let front = length-take-le at row (omega arith) in
     ap (λ (m : ℕ). take (m + n) (take at row ++ (put ++ drop (at + 8 - at) (drop at row)))) (sym front)

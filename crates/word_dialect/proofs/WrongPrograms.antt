@@ -1,7 +1,7 @@
 -- The contract of the two conversions shuts out wrong programs, each by an input on which it differs: y_(k+1) without
 -- its inverse, a run past the part's end, an inverse run that is not turned round, free reduction in the writer,
 -- parts that sum to 8 or wrap at 256 or hold a zero, another order of the questions, and 34 at 10,000 letters.
-use Prim.Native.Nat.{ℕ, zero, suc, ◌+◌, ◌*◌, ◌≤◌, ◌<◌}
+use Prim.Native.Nat.{ℕ, zero, suc, ◌*◌, ◌≤◌, ◌<◌}
 use mathlib.Core.Path.{◌≡◌, refl, sym, ap, ◌∙◌}
 use mathlib.Core.Bool.{Bool, true, false}
 use mathlib.Core.List.{List, [], ◌∷◌, ◌++◌}

@@ -9,11 +9,8 @@ pub(crate) fn letters_of(codes: &[u8], table: &[u8]) -> usize
     ensures { result ≡ length (laid table.now codes.now) }
 {
     let mut letters = 0;
-    let mut k = 0;
-    while k < codes.len() {
-        let c = codes[k] as usize;
-        letters += table[8 * c + 7] as usize;
-        k += 1;
+    for c in codes {
+        letters += usize::from(table[8 * usize::from(*c) + 7]);
     }
     letters
 }
@@ -26,10 +23,8 @@ fn lay(row: &mut [u8], at: usize, table: &[u8], c: usize) -> usize
         × (take result row.new ≡ take at row.old ++ table_run table.now c) }
 {
     let from = 8 * c;
-    let to = from + 8;
-    let end = at + 8;
-    base::put(&mut row[at..end], &table[from..to]);
-    at + table[from + 7] as usize
+    row[at..at + 8].copy_from_slice(&table[from..from + 8]);
+    at + usize::from(table[from + 7])
 }
 
 // Writes the runs of all codes to the front of the row. The contract leaves open what the row holds after them.
@@ -39,9 +34,7 @@ pub(crate) fn lay_all(row: &mut [u8], codes: &[u8], table: &[u8])
         ≡ laid table.now codes.now }
 {
     let mut at = 0;
-    let mut k = 0;
-    while k < codes.len() {
-        at = lay(row, at, table, codes[k] as usize);
-        k += 1;
+    for c in codes {
+        at = lay(row, at, table, usize::from(*c));
     }
 }

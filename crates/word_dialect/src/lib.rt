@@ -19,14 +19,11 @@ fn are_parts(parts: &[u8]) -> bool
     if 7 < parts.len() {
         return false;
     }
-    let mut sum: usize = 0;
+    let mut sum = 0;
     let mut positive = true;
-    let mut i = 0;
-    while i < parts.len() {
-        let p = parts[i];
-        sum += p as usize;
-        positive = positive & (0 < p);
-        i += 1;
+    for p in parts {
+        sum += usize::from(*p);
+        positive &= 0 < *p;
     }
     positive & (sum == 7)
 }
@@ -36,14 +33,11 @@ fn following(parts: &[u8], g: u8) -> u8
     ensures { result ≡ following parts.now g }
 {
     let mut left = g;
-    let mut i = 0;
-    while i < parts.len() {
-        let p = parts[i];
-        if left < p {
+    for p in parts {
+        if left < *p {
             return p - 1 - left;
         }
         left -= p;
-        i += 1;
     }
     0
 }
@@ -66,6 +60,7 @@ fn write_converted(way: bool, codes: &[u8], parts: &[u8], out: &mut [u8]) -> Wri
 }
 
 // Either conversion: 15, the word, 33, 34. It writes the new word without free reduction.
+// `way` is a bool, since the definitions `to_y`, `from_y`, `converted` and `WroteConverted` take one.
 pub fn convert(way: bool, word: &[u8], parts: &[u8], out: &mut [u8]) -> Written
     ensures { WroteConverted way word.now parts.now out.old out.new
         result.answer result.bytes }

@@ -78,7 +78,7 @@ fn artin_run(c: u8, n: u8) -> Run
     }
 }
 
-// The run of code c in either dialect.
+// The run of code c in either dialect. The two rules share no value, so one function of both would be no plainer.
 fn run_of(way: bool, c: u8, n: u8) -> Run
     requires { (c < 16) × (generator c + n < 8) × (n < 7) }
     ensures { Steps (signed_run way c n) result.first result.step result.number }
@@ -90,18 +90,16 @@ fn run_of(way: bool, c: u8, n: u8) -> Run
 }
 
 // Writes the entries of code c. The entries before them stay.
-fn lay_run(table: &mut [u8], c: usize, first: u8, step: u8, number: u8)
-    requires { (8 * c + 8 ≤ length table.old) × (first < 16) × (step < 16) }
-    ensures { Before (8 * c) table.old table.new × Row table.new c first step number }
+fn lay_run(table: &mut [u8], c: usize, run: Run)
+    requires { (8 * c + 8 ≤ length table.old) × (run.first < 16) × (run.step < 16) }
+    ensures { Before (8 * c) table.old table.new × Row table.new c run.first run.step run.number }
 {
-    let mut code = first;
-    let mut i = 0;
-    while i < 7 {
+    let mut code = run.first;
+    for i in 0..7 {
         table[8 * c + i] = code;
-        code = (code + step) % 16;
-        i += 1;
+        code = (code + run.step) % 16;
     }
-    table[8 * c + 7] = number;
+    table[8 * c + 7] = run.number;
 }
 
 // Lays the run of code c, after the runs of the codes below it.
@@ -112,7 +110,7 @@ fn lay_code(table: &mut [u8], way: bool, parts: &[u8], c: u8)
 {
     let n = following(parts, c % 8);
     let r = run_of(way, c, n);
-    lay_run(table, c as usize, r.first, r.step, r.number);
+    lay_run(table, c as usize, r);
 }
 
 // Lays the runs of the sixteen codes.
@@ -120,9 +118,7 @@ pub(crate) fn lay_table(table: &mut [u8], way: bool, parts: &[u8])
     requires { (length table.old ≡ 128) × (are_parts parts.now ≡ true) }
     ensures { HoldsRuns way parts.now 16 table.new }
 {
-    let mut c = 0;
-    while c < 16 {
+    for c in 0..16 {
         lay_code(table, way, parts, c);
-        c += 1;
     }
 }

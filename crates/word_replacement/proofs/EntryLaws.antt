@@ -41,14 +41,6 @@ module _ (c d : ℕ) (l : List ℕ) (k : ℕ) where
       ∙ ap (λ (b : Bool). cond b 0 (suc (before c d (get_or l (k + 1) 0 ∷ drop (suc (k + 1)) l)))) e
       ∙ ap (λ (m : List ℕ). suc (before c d m)) (sym (drop-cons l (k + 1) 0 h))
 
-  -- one entry is left
-  pub none_found : k + 1 ≡ length l → before c d (drop k l) ≡ 0
-  unfolding before
-  none_found h =
-      ap (before c d)
-      (drop-cons l k 0 (omega arith)
-      ∙ ap (λ (m : List ℕ). get_or l k 0 ∷ m) (drop_of_length-le l {i = suc k} (omega arith)))
-
 module _ (l : List ℕ) (k : ℕ) (h : k < length l) where
   pub filler_here : get_or l k 0 ≡ 15 → filled (drop k l) ≡ 0
   unfolding filled

@@ -18,7 +18,7 @@ use Rattle.word_replacement.specs.steps.Rows.{flat, before, filled, around_entry
 abbrev pub entries : List ℕ
 entries = flat relations
 
-length_entries : length entries ≡ 790
+pub length_entries : length entries ≡ 790
 unfolding flat relations
 length_entries = refl
 

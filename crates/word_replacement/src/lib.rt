@@ -7,13 +7,13 @@ ghost use Rattle.word.specs.Letters.{is_letter};
 ghost use Rattle.word_dialect.specs.Dialect.{inverted};
 ghost use Rattle.braid_relations.specs.Relations.{relations, replacement};
 ghost use Rattle.word_replacement.specs.Replacement.{ReplacedPair};
-ghost use Rattle.word_replacement.specs.steps.Rows.{flat, before, filled, Replaceable, WroteReplaced};
+ghost use Rattle.word_replacement.specs.steps.Rows.{flat, PairFound, filled, Replaceable, WroteReplaced};
 
 use word::{MAX_BYTES, MAX_LETTERS, Written, inverse, read_word, unpack};
 use word_writer::write_word;
 
 // The relations of Appendix A in its order, a line for each: the codes of the row's letters, then 15 up to ten.
-const RELATIONS: [u8; 790] = [
+static RELATIONS: [u8; 790] = [
     3, 6, 11, 14, 15, 15, 15, 15, 15, 15, 14, 3, 6, 11, 15, 15, 15, 15, 15, 15, 6, 3, 14, 11, 15,
     15, 15, 15, 15, 15, 1, 0, 3, 8, 8, 15, 15, 15, 15, 15, 2, 1, 3, 9, 9, 15, 15, 15, 15, 15, 5, 4,
     6, 12, 12, 15, 15, 15, 15, 15, 6, 5, 6, 13, 13, 15, 15, 15, 15, 15, 8, 1, 0, 3, 8, 15, 15, 15,
@@ -48,26 +48,22 @@ const RELATIONS: [u8; 790] = [
 ];
 
 // The rows, for reading.
-fn rows() -> [u8; 790]
-    ensures { result ≡ flat relations }
+fn rows() -> &'static [u8; 790]
+    ensures { result.now ≡ flat relations }
 {
-    RELATIONS
+    &RELATIONS
 }
 
-// The number of entries before the first place that holds c and d. If no place holds them, it is the number of all
-// entries less one.
-fn find(rows: &[u8], c: u8, d: u8) -> usize
-    requires { 0 < length rows.now }
-    ensures { (result ≡ before c d rows.now) × (result < length rows.now) }
+// The first place that holds c and d one after the other, if there is one.
+fn find(rows: &[u8], c: u8, d: u8) -> Option<usize>
+    ensures { PairFound c d rows.now result }
 {
-    let mut k = 0;
-    while k + 1 < rows.len() {
-        if (rows[k] == c) & (rows[k + 1] == d) {
-            return k;
+    for k in 1..rows.len() {
+        if rows[k - 1] == c && rows[k] == d {
+            return Some(k - 1);
         }
-        k += 1;
     }
-    k
+    None
 }
 
 // The number of entries from place `from` on before the first 15.
@@ -75,14 +71,12 @@ fn letters_from(rows: &[u8], from: usize) -> usize
     requires { from ≤ length rows.now }
     ensures { result ≡ filled (drop from rows.now) }
 {
-    let mut k = from;
-    while k < rows.len() {
+    for k in from..rows.len() {
         if rows[k] == 15 {
             return k - from;
         }
-        k += 1;
     }
-    k - from
+    rows.len() - from
 }
 
 // Writes the inverse of n entries of the rows, from place `from` on, to a row of codes, from place `at` on: the inverse
@@ -92,10 +86,8 @@ fn put_inverses(codes: &mut [u8], at: usize, rows: &[u8], from: usize, n: usize)
     ensures { take (at + n) codes.new
         ≡ take at codes.old ++ inverted (part from n rows.now) }
 {
-    let mut i = 0;
-    while i < n {
+    for i in 0..n {
         codes[at + i] = inverse(rows[from + (n - 1 - i)]);
-        i += 1;
     }
 }
 
@@ -106,17 +98,16 @@ fn put_replacement(codes: &mut [u8], at: usize, c: u8, d: u8) -> usize
         × (take result codes.new ≡ take at codes.old ++ replacement relations c d) }
 {
     let rows = rows();
-    let k = find(&rows, c, d);
-    if 790 <= k + 1 {
+    let Some(k) = find(rows, c, d) else {
         codes[at] = c;
         codes[at + 1] = d;
         return at + 2;
-    }
+    };
     let before = k % 10;
-    let after = letters_from(&rows, k + 2);
+    let after = letters_from(rows, k + 2);
     let middle = at + before;
-    put_inverses(codes, at, &rows, k - before, before);
-    put_inverses(codes, middle, &rows, k + 2, after);
+    put_inverses(codes, at, rows, k - before, before);
+    put_inverses(codes, middle, rows, k + 2, after);
     middle + after
 }
 

@@ -13,7 +13,7 @@ use Rattle.base.specs.Lists.{every, overlaid}
 use Rattle.base.specs.Digits.{value, digits, part}
 use Rattle.base.specs.Packing.{Below, row_bytes, filler_bits, unpacked_row, row_filler}
 use Rattle.base.proofs.QuestionLaws.{Passed, answers_passed, all_passed}
-use Rattle.base.proofs.ListLaws.{overlaid_more, overlaid_all}
+use Rattle.base.proofs.ListLaws.{laid_more}
 use Rattle.base.proofs.DigitLaws.{length_digits, take_below, drop_below, value_below, value_append, digits_join}
 use Rattle.base.proofs.PackLaws.{below_part, length_part, value_more}
 use Rattle.word_stored.specs.Stored.{letter_of, sign_part, generator_part, stored_signs, stored_generators}
@@ -102,21 +102,14 @@ module _ (signs generators : List ℕ) (small : Below 256 signs) (small' : Below
         (length_digits 2 (8 * k) _ ∙ sym (length_digits 8 (8 * k) _))
 
     -- eight more codes are put in their place of the row, as the borrow of a part leaves it
-    pub group_put : (row codes eight new : List ℕ) (n : ℕ) → n ≡ 8 → 8 * k + 8 ≤ length row
-        → length codes ≡ length row
+    pub group_put : (row codes eight : List ℕ) (n : ℕ) → n ≡ 8
         → codes ≡ overlaid (group_codes signs generators k) row → eight ≡ group k
-        → new ≡ overlaid (take (length (take n (drop (8 * k) codes))) eight) (take n (drop (8 * k) codes))
-        → take (8 * k) codes ++ (new ++ drop n (drop (8 * k) codes))
+        → take (8 * k) codes ++ (eight ++ drop n (drop (8 * k) codes))
         ≡ overlaid (group_codes signs generators (k + 1)) row
-    group_put row codes eight new n e room size o s w =
-        let mid : List ℕ = take n (drop (8 * k) codes) in
-        let full : length (group k) ≡ length mid =
-        length_group k
-        ∙ sym (length-take-le n (drop (8 * k) codes) (omega (arith, length-drop (8 * k) codes)) ∙ e) in
-        ap (λ (l : List ℕ). take (8 * k) codes ++ (l ++ drop n (drop (8 * k) codes)))
-        (w ∙ ap (λ (l : List ℕ). overlaid (take (length mid) l) mid) s ∙ overlaid_all (group k) mid full)
-        ∙ overlaid_more (group_codes signs generators k) (group k) row codes (8 * k) n (sym (length_groups k))
-        (omega (arith, length_group k)) (omega (arith, length_group k)) o
+    group_put row codes eight n e o s =
+        ap (λ (l : List ℕ). take (8 * k) codes ++ (l ++ drop n (drop (8 * k) codes))) s
+        ∙ laid_more (group_codes signs generators k) (group k) row codes (8 * k) n o (length_groups k)
+        (length_group k ∙ sym e)
         ∙ ap (λ (l : List ℕ). overlaid l row) (sym groups_more)
 
 -- ---- the parts of a file, as the code cuts them

@@ -78,16 +78,11 @@ fn code_groups(signs: &[u8], generators: &[u8], groups: usize, codes: &mut [u8])
     ensures { codes.new
         ≡ overlaid (group_codes signs.now generators.now groups) codes.old }
 {
-    let mut k = 0;
-    while k < groups {
+    for k in 0..groups {
         let from = 3 * k;
-        let to = from + 3;
-        let three = base::number(&generators[from..to], 256);
-        let row = eight_codes(signs[k], three);
+        let three = base::number(&generators[from..from + 3], 256);
         let at = 8 * k;
-        let end = at + 8;
-        base::put(&mut codes[at..end], &row);
-        k += 1;
+        codes[at..at + 8].copy_from_slice(&eight_codes(signs[k], three));
     }
 }
 

@@ -1,24 +1,21 @@
 -- Laws of the two ways to a shorter word: what each step leaves is the same braid, and how many letters it has.
 use Prim.Native.Nat.{ℕ, ◌≤◌}
-use mathlib.Core.Path.{◌≡◌, sym, ap, subst, ◌∙◌}
+use mathlib.Core.Path.{◌≡◌, sym, ap, subst}
 use mathlib.Core.List.{List}
-use mathlib.Core.Logic.{inr, ⊎_elim}
 use native.Mathlib.Omega.{arith}
 use lib.ListN.{length, take, length-take}
-use lib.Seq.{length-take-le, take_all}
-use Rattle.base.specs.Lists.{overlaid}
-use Rattle.base.proofs.ListLaws.{take_overlaid}
+use Rattle.base.specs.Questions.{first_no}
 use Rattle.word.proofs.LetterLaws.{Lettered}
 use Rattle.braid_same.specs.SameBraid.{SameBraid}
 use Rattle.braid_same.proofs.Laws.{same_then, same_lettered}
 use Rattle.braid_arcs.proofs.RelayingKeeps.{relays_same}
-use Rattle.braid_handles.specs.Handles.{after_steps}
+use Rattle.braid_handles.specs.Handles.{after_steps, step_questions}
 use Rattle.braid_handles.proofs.StepKeeps.{steps_same}
 use Rattle.arc_search.specs.Search.{Searched}
 use Rattle.swap_cancel.specs.SwapCancel.{swap_cancelled, Cancelled}
 use Rattle.swap_cancel.proofs.SwapCancelLaws.{cancelled_same, cancelled_irreducible, cancelled_fewer}
 use Rattle.word_shortener.specs.Shortener.{most_steps}
-use Rattle.word_shortener.specs.steps.Routes.{ShortWord, SecondWay, BothWays}
+use Rattle.word_shortener.specs.steps.Routes.{ShortWord, BothWays}
 
 pub arcs_lettered : {n m : ℕ} {row mid : List ℕ} → Searched n row mid m → Lettered (take n row) → Lettered (take m mid)
 arcs_lettered s e = same_lettered (relays_same s.relays) e
@@ -67,34 +64,33 @@ module _ {n m : ℕ} {row mid : List ℕ} (c : Cancelled n row mid m) (e : Lette
             };
       }
 
--- effort over 0: the new word is not longer than either way's
-pub with_effort : {effort few r s : ℕ} {old after there : List ℕ} → (effort ≡ 0 → ⊥)
+-- Effort over 0: the new word is not longer than what swapping and cancelling leaves. If handle reduction is not
+-- refused, the new word is not longer than what swapping and cancelling leaves after it either.
+pub with_effort : {effort r : ℕ} {old after : List ℕ} → (effort ≡ 0 → ⊥)
     → ShortWord (length (swap_cancelled old)) old after r
-    → SecondWay few old there s → r ≤ s
+    → (first_no (step_questions most_steps old) ≡ 0 → r ≤ length (swap_cancelled (after_steps most_steps old)))
     → BothWays effort old after r
-with_effort {r = r} {after = after} h l second k =
+with_effort {r = r} {after = after} h l handles =
     record {
       laid = l;
       saves =
           record {
             without_effort = λ z. absurd (h z);
             not_longer = omega (arith, length-take r after, l.not_longer);
-            after_handles = λ y z.
-                ⊎_elim (λ q. absurd (q.0 z)) (λ q. omega (arith, length-take r after, q.not_longer)) second;
+            after_handles = λ y z. omega (arith, length-take r after, handles z);
           };
     }
 
 -- handles out, swap and cancel, and then arcs
-pub second_way : {few letters m r : ℕ} {out mid after : List ℕ} (old : List ℕ) → Lettered old
+pub second_way : {letters m r : ℕ} {out mid after : List ℕ} (old : List ℕ) → Lettered old
     → take letters out ≡ after_steps most_steps old
     → Cancelled letters out mid m
     → ShortWord m (take m mid) after r
-    → SecondWay few old after r
+    → ShortWord (length (swap_cancelled (after_steps most_steps old))) old after r
 second_way {letters = letters} {out = out} old e is c l =
     let same : SameBraid old (take letters out) =
     subst (λ (v : List ℕ). SameBraid old v) (sym is) (steps_same most_steps old e) in
     let on = laid_on c (same_lettered same e) l in
-    inr
     record {
       not_longer = rw (← is) on.not_longer;
       same = same_then same on.same;
@@ -105,14 +101,3 @@ second_way {letters = letters} {out = out} old e is c l =
 pub taken_over : {m s r : ℕ} {old there after : List ℕ} → ShortWord s old there r → r ≤ m → take r after ≡ take r there
     → ShortWord m old after r
 taken_over l h e = record { not_longer = h; same = rw e l.same; irreducible = rw e l.irreducible }
-
--- the first m codes of a row after they are put there
-pub put_there : (copy row now : List ℕ) (m : ℕ) → m ≤ length copy → m ≤ length row
-    → now ≡ overlaid (take (length row) (take m copy)) row
-    → take m now ≡ take m copy
-put_there copy row now m h k e =
-    let long = length-take-le m copy h in
-    let whole = take_all (length row) (take m copy) (omega arith) in
-    ap (take m) (e ∙ ap (λ (l : List ℕ). overlaid l row) whole)
-    ∙ ap (λ (j : ℕ). take j (overlaid (take m copy) row)) (sym long)
-    ∙ take_overlaid (take m copy) row

@@ -1,7 +1,7 @@
 -- The contract shuts out wrong programs, each by a word on which it differs from every function that meets the
 -- contract: one that only reduces freely, and one that swaps and cancels alone with an effort over 0.
 use Prim.Native.Nat.{ℕ, suc, ◌≤◌}
-use mathlib.Core.Path.{◌≡◌, refl, sym, ap, subst, ◌∙◌}
+use mathlib.Core.Path.{◌≡◌, refl, ap, subst, ◌∙◌}
 use mathlib.Core.Bool.{false}
 use mathlib.Core.List.{List, [], ◌∷◌}
 use native.Mathlib.Omega.{arith}

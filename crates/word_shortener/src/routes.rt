@@ -5,7 +5,6 @@ ghost use Rattle.word.specs.Letters.{is_letter};
 ghost use Rattle.word_shortener.specs.steps.Routes.{ShortWord, SecondWay, BothWays};
 
 use arc_search::search;
-use base::put;
 use handle_steps::reduce;
 use swap_cancel::swap_cancel;
 
@@ -21,17 +20,17 @@ fn by_arcs(codes: &mut [u8], n: usize, effort: u16) -> usize
     swap_cancel(codes, m)
 }
 
-// Takes handles out, swaps and cancels, and lays arcs anew. Returns `few` if handle reduction is refused.
-fn by_handles(codes: &mut [u8], n: usize, few: usize, effort: u16) -> usize
+// Takes handles out, swaps and cancels, and lays arcs anew. None if handle reduction is refused.
+fn by_handles(codes: &mut [u8], n: usize, effort: u16) -> Option<usize>
     requires { (n ≤ 10000) × (10000 ≤ length codes.old) × (every is_letter (take n codes.old) ≡ true) }
-    ensures { SecondWay few (take n codes.old) codes.new result }
+    ensures { SecondWay (take n codes.old) codes.new result }
 {
     let h = reduce(codes, n, STEPS);
     if h.answer != 0 {
-        return few;
+        return None;
     }
     let m = swap_cancel(codes, h.letters);
-    by_arcs(codes, m, effort)
+    Some(by_arcs(codes, m, effort))
 }
 
 // Shortens the word of a row: the shorter of both ways, and the first on a tie. `copy` has the same word, and is
@@ -46,9 +45,11 @@ pub(crate) fn shorten_codes(codes: &mut [u8], copy: &mut [u8], n: usize, effort:
         return few;
     }
     let first = by_arcs(codes, few, effort);
-    let second = by_handles(copy, n, first, effort);
+    let Some(second) = by_handles(copy, n, effort) else {
+        return first;
+    };
     if second < first {
-        put(codes, &copy[..second]);
+        codes[..second].copy_from_slice(&copy[..second]);
         return second;
     }
     first

@@ -1,5 +1,5 @@
 -- Laws of the counting: the word without letters, a letter more, and how large the numbers are.
-use Prim.Native.Nat.{ℕ, zero, suc, ◌+◌, ◌*◌, ◌%◌, ◌^◌, ◌≤◌, ◌<◌}
+use Prim.Native.Nat.{ℕ, zero, suc, ◌+◌, ◌*◌, ◌^◌, ◌≤◌, ◌<◌}
 use mathlib.Core.Path.{◌≡◌, refl, sym, ap, ◌∙◌}
 use mathlib.Core.Bool.{Bool, true, cond}
 use mathlib.Core.List.{List, [], ◌∷◌, map}
@@ -11,10 +11,10 @@ use lib.Dec.{eqb}
 use lib.ListN.{length, get_or, set, replicate, length-map, get_or-eq_default}
 use lib.Seq.{ext_get_or}
 use Rattle.base.specs.Lists.{every, values, values_from, equal}
-use Rattle.base.proofs.ListLaws.{length_values, get_d_values, every_values}
+use Rattle.base.proofs.ListLaws.{get_d_values, every_values}
 use Rattle.word.specs.Strands.{swapped}
 use Rattle.word_spread.specs.Spread.{ending, four_labels, all_lists, all_endings, list_at}
-use Rattle.word_spread.specs.steps.Counting.{SwapPlace, SwapPlaces, Rows, Counted, MoreAt, Few}
+use Rattle.word_spread.specs.steps.Counting.{SwapPlace, Counted, MoreAt, Few}
 use Rattle.word_spread.proofs.SpreadLaws.{ending_is, no_letters, recurrence, ending_le}
 use Rattle.word_spread.proofs.ListsOfFour.{listed, at_listed, twenty_four, rank, list_four, four_long}
 use Rattle.word_spread.proofs.ListsOfFour.{neighbour_below, neighbour_at}
@@ -25,50 +25,35 @@ use Rattle.word_spread.proofs.ListsOfFour.{neighbour_below, neighbour_at}
 abbrev neighbour : ℕ → ℕ → ℕ
 neighbour g k = rank (swapped g (get_or listed k []))
 
--- for each of the 24 lists this place, as the code has it: a byte from '@' on, which is 64
+-- for each of the 24 lists this place
 unfoldable pub neighbour_row : ℕ → List ℕ
-neighbour_row g = values (λ k. 64 + neighbour g k) 24
+neighbour_row g = values (neighbour g) 24
 
-row_names : (g k : ℕ) → g < 3 → k < 24 → SwapPlace g k (get_or (neighbour_row g) k 0 % 32)
+row_names : (g k : ℕ) → g < 3 → k < 24 → SwapPlace g k (get_or (neighbour_row g) k 0)
 unfolding neighbour_row
 row_names g k i h =
-    let at : get_or (neighbour_row g) k 0 ≡ 64 + rank (swapped g (list_at k)) =
-    get_d_values (λ k. 64 + neighbour g k) 24 k h
-    ∙ ap (λ (l : List ℕ). 64 + rank (swapped g l)) (sym (at_listed k)) in
+    let place : get_or (neighbour_row g) k 0 ≡ rank (swapped g (list_at k)) =
+    get_d_values (neighbour g) 24 k h ∙ ap (λ (l : List ℕ). rank (swapped g l)) (sym (at_listed k)) in
     let below = neighbour_below g k i h in
-    let place : get_or (neighbour_row g) k 0 % 32 ≡ rank (swapped g (list_at k)) = omega arith in
     record { within = omega arith; stands = ap list_at place ∙ neighbour_at g k i h }
-
-pub row_is : (g : ℕ) → g < 3 → SwapPlaces g (neighbour_row g)
-unfolding neighbour_row
-row_is g i =
-    record {
-      places =
-          record {
-            size = length_values (λ k. 64 + neighbour g k) 0 24;
-            within = λ k h. (row_names g k i h).within;
-          };
-      swaps = λ k h. row_names g k i h;
-    }
 
 -- the number at the place of the list after an exchange is how many words end in that list
 swap_counts : {g k place n : ℕ} {counts : List ℕ} → SwapPlace g k place → Counted n counts
     → get_or counts place 0 ≡ ending n (swapped g (list_at k))
 swap_counts {place = place} {n = n} t c = c.each place t.within ∙ ap (ending n) t.stands
 
-pub more_is : (counts : List ℕ) {b1 b2 b3 : List ℕ} → Rows b1 b2 b3 → (k : ℕ) → k < 24 → {p q r : ℕ}
-    → p ≡ get_or counts (get_or b1 k 0 % 32) 0 → q ≡ get_or counts (get_or b2 k 0 % 32) 0
-    → r ≡ get_or counts (get_or b3 k 0 % 32) 0
-    → MoreAt counts k (2 * (p + q + r))
-more_is counts rows k h a b c n all =
+-- the number of words that end in the list that an exchange makes of list k
+abbrev pub number_of : List ℕ → ℕ → ℕ → ℕ
+number_of counts g k = get_or counts (get_or (neighbour_row g) k 0) 0
+
+pub more_is : (counts : List ℕ) (k : ℕ) → k < 24
+    → MoreAt counts k (2 * (number_of counts 0 k + number_of counts 1 k + number_of counts 2 k))
+more_is counts k h n all =
     omega (
       arith,
-      a,
-      b,
-      c,
-      swap_counts (rows.first.swaps k h) all,
-      swap_counts (rows.second.swaps k h) all,
-      swap_counts (rows.third.swaps k h) all,
+      swap_counts (row_names 0 k (omega arith) h) all,
+      swap_counts (row_names 1 k (omega arith) h) all,
+      swap_counts (row_names 2 k (omega arith) h) all,
       recurrence n (list_at k) (four_long (list_at k) (list_four k h)),
     )
 

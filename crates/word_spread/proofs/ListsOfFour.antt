@@ -1,6 +1,6 @@
 -- The 24 lists of four labels: listed, each once, increasing, and no others; the place of a list among them; and the
 -- places of its three neighbours.
-use Prim.Native.Nat.{ℕ, suc, ◌+◌, ◌%◌, ◌<◌}
+use Prim.Native.Nat.{ℕ, suc, ◌<◌}
 use mathlib.Core.Path.{◌≡◌, refl, sym, ap, subst, ◌∙◌}
 use mathlib.Core.Bool.{Bool, true, false, not, ◌&&◌, ◌||◌, beq, false≢true}
 use mathlib.Core.List.{List, [], ◌∷◌}
@@ -11,7 +11,7 @@ use lib.ListN.{length, get_or}
 use Rattle.base.specs.Digits.{value}
 use Rattle.base.specs.Lists.{every, tally, values, values_from, equal, each_once}
 use Rattle.base.proofs.ListLaws.{and_left, and_right, and_both, every_get_d, every_values, equal_true, beq_true}
-use Rattle.base.proofs.ListLaws.{not_true_false, true_false, get_d_values}
+use Rattle.base.proofs.ListLaws.{not_true_false, true_false}
 use Rattle.word.specs.Strands.{swapped}
 use Rattle.word_spread.specs.Spread.{each_in_front, rows_of, those, is_four, all_lists, list_at}
 use Rattle.word_spread.specs.steps.Counting.{all_small, all_differ, smaller, place_of}
@@ -219,10 +219,6 @@ module _ (g k : ℕ) (i : g < 3) (h : k < 24) where
 
 -- ---- the labels of a list, one by one
 
--- label j of the 24 lists, as the bytes that show them: '0' is 48
-unfoldable pub label_row : ℕ → List ℕ
-label_row j = values (λ k. 48 + get_or (get_or listed k []) j 0) 24
-
 module _ (k : ℕ) (h : k < 24) where
   long : length (list_at k) ≡ 4
   long = four_long (list_at k) (list_four k h)
@@ -232,18 +228,3 @@ module _ (k : ℕ) (h : k < 24) where
   label_below j i =
       ltb-true _ _
       (every_get_d (λ x. ltb x 4) (list_at k) (and_left _ _ (once (list_at k) (list_four k h))) j (omega (arith, long)))
-
-  label_at : (j : ℕ) → j < 4 → get_or (label_row j) k 0 % 16 ≡ get_or (list_at k) j 0
-  unfolding label_row
-  label_at j i =
-      let row = get_d_values (λ k. 48 + get_or (get_or listed k []) j 0) 24 k h in
-      let same = ap (λ (l : List ℕ). get_or l j 0) (at_listed k) in
-      omega (arith, label_below j i)
-
-  -- all four labels of list k
-  pub labels_at : get_or (label_row 0) k 0 % 16 ∷ get_or (label_row 1) k 0 % 16 ∷ get_or (label_row 2) k 0 % 16
-      ∷ get_or (label_row 3) k 0 % 16 ∷ [] ≡ list_at k
-  labels_at =
-      (λ i. label_at 0 (omega arith) i ∷ label_at 1 (omega arith) i ∷ label_at 2 (omega arith) i
-      ∷ label_at 3 (omega arith) i ∷ [])
-      ∙ sym (labels_are (list_at k) long)

@@ -85,7 +85,7 @@ fn is_four(labels: &[u8]) -> bool
 fn smaller(a: u8, b: u8) -> usize
     ensures { result ≡ smaller a b }
 {
-    if a < b { 1 } else { 0 }
+    usize::from(a < b)
 }
 
 // The place of a list among the 24, increasing: six lists begin with each label, two of these go on with each other
@@ -98,16 +98,38 @@ fn place(a: u8, b: u8, c: u8, d: u8) -> usize
     6 * first + 2 * (second - smaller(a, b)) + smaller(d, c)
 }
 
-// List k of the 24, increasing. The low half of the byte that shows a digit is that digit.
+// List k of the 24, increasing.
 pub fn list_at(k: usize) -> [u8; 4]
     requires { k < 24 }
     ensures { result ≡ list_at k }
 {
-    let first = b"000000111111222222333333";
-    let second = b"112233002233001133001122";
-    let third = b"231312230302130301120201";
-    let last = b"323121323020313010212010";
-    [first[k] % 16, second[k] % 16, third[k] % 16, last[k] % 16]
+    static LISTS: [[u8; 4]; 24] = [
+        [0, 1, 2, 3],
+        [0, 1, 3, 2],
+        [0, 2, 1, 3],
+        [0, 2, 3, 1],
+        [0, 3, 1, 2],
+        [0, 3, 2, 1],
+        [1, 0, 2, 3],
+        [1, 0, 3, 2],
+        [1, 2, 0, 3],
+        [1, 2, 3, 0],
+        [1, 3, 0, 2],
+        [1, 3, 2, 0],
+        [2, 0, 1, 3],
+        [2, 0, 3, 1],
+        [2, 1, 0, 3],
+        [2, 1, 3, 0],
+        [2, 3, 0, 1],
+        [2, 3, 1, 0],
+        [3, 0, 1, 2],
+        [3, 0, 2, 1],
+        [3, 1, 0, 2],
+        [3, 1, 2, 0],
+        [3, 2, 0, 1],
+        [3, 2, 1, 0],
+    ];
+    LISTS[k]
 }
 
 // How many words of a length end in each of the 24 lists: one word without letters, which ends in the first list, and
@@ -116,15 +138,10 @@ fn counted(length: usize) -> [u32; 24]
     requires { length ≤ max_length }
     ensures { Counted length result }
 {
-    let b1 = step::by_b1();
-    let b2 = step::by_b2();
-    let b3 = step::by_b3();
     let mut counts = [0u32; 24];
     counts[0] = 1;
-    let mut n = 0;
-    while n < length {
-        counts = step::step(&counts, &b1, &b2, &b3);
-        n += 1;
+    for _n in 0..length {
+        counts = step::step(&counts);
     }
     counts
 }

@@ -4,10 +4,13 @@ use Prim.Native.Nat.{ℕ, zero, suc, ◌+◌, ◌-◌, ◌*◌, ◌/◌, ◌%◌
 use mathlib.Core.Path.{◌≡◌, refl, sym, ap, ap₂, ◌∙◌, subst}
 use mathlib.Core.Bool.{true}
 use mathlib.Core.List.{List, [], ◌∷◌, ◌++◌, map, map-append, append_assoc, append-nil}
+use native.Mathlib.Nat.{div-one}
 use native.Mathlib.Omega.{arith}
+use mir.Syntax.{w16}
+use Rattle.std.specs.Int.{to_be_bytes}
 use borrow.Author.Tests.{eqb-true}
 use lib.Dec.{eqb}
-use lib.ListN.{length, take, drop, get_or, set, replicate, length-drop, length-map, length-replicate, take-append-drop}
+use lib.ListN.{length, take, drop, get_or, replicate, length-drop, length-map, length-replicate, take-append-drop}
 use lib.Seq.{length-take-le, take-append-le, drop-append-le, take-append-add, take_all}
 use Rattle.base.specs.Lists.{every, overlaid}
 use Rattle.base.specs.Digits.{value, digits, halves}
@@ -146,26 +149,16 @@ parts_joined cs =
     ap (λ (l : List ℕ). sizes n ++ packed_row 1 (signs cs) ++ l) (sym (append-nil (packed_row 3 (generators cs))))
     ∙ append_assoc (sizes n) (packed_row 1 (signs cs)) (packed_row 3 (generators cs) ++ [])
 
--- six stores at the front of an output
-pub sizes_written : (a b c : ℕ) (out : List ℕ) → a < 65536 → b < 65536 → c < 65536 → 6 ≤ length out
-    → set (set (set (set (set (set out 0 (a / 256)) 1 (a % 256)) 2 (b / 256)) 3 (b % 256)) 4 (c / 256)) 5 (c % 256)
+-- three sizes at the front of an output, each as two bytes
+pub sizes_written : (a b c : ℕ) (x y z out : List ℕ) → x ≡ to_be_bytes w16 a → y ≡ to_be_bytes w16 b
+    → z ≡ to_be_bytes w16 c
+    → (get_or x 0 0 ∷ get_or x 1 0 ∷ get_or y 0 0 ∷ get_or y 1 0 ∷ get_or z 0 0 ∷ get_or z 1 0 ∷ []) ++ drop 6 out
     ≡ overlaid (digits 256 2 a ++ (digits 256 2 b ++ digits 256 2 c)) out
 unfolding overlaid digits
-sizes_written a b c (p ∷ q ∷ r ∷ s ∷ t ∷ u ∷ out) ha hb hc h =
-    ap₂ (λ (x y : List ℕ). x ++ (y ++ (c / 256 ∷ c % 256 ∷ out))) (two a ha) (two b hb)
-    ∙ ap (λ (z : List ℕ). (a / 256 % 256 ∷ a / 1 % 256 ∷ b / 256 % 256 ∷ b / 1 % 256 ∷ []) ++ (z ++ out)) (two c hc)
-  where
-    two : (n : ℕ) → n < 65536 → n / 256 ∷ n % 256 ∷ [] ≡ n / 256 % 256 ∷ n / 1 % 256 ∷ []
-    two n l =
-        let x : n / 256 ≡ n / 256 % 256 = omega arith in
-        let y : n % 256 ≡ n / 1 % 256 = omega arith in
-        ap₂ (λ (i j : ℕ). i ∷ j ∷ []) x y
-sizes_written a b c [] ha hb hc h = absurd (omega arith)
-sizes_written a b c (p ∷ []) ha hb hc h = absurd (omega arith)
-sizes_written a b c (p ∷ q ∷ []) ha hb hc h = absurd (omega arith)
-sizes_written a b c (p ∷ q ∷ r ∷ []) ha hb hc h = absurd (omega arith)
-sizes_written a b c (p ∷ q ∷ r ∷ s ∷ []) ha hb hc h = absurd (omega arith)
-sizes_written a b c (p ∷ q ∷ r ∷ s ∷ t ∷ []) ha hb hc h = absurd (omega arith)
+sizes_written a b c x y z out ex ey ez =
+    (λ i. (get_or (ex i) 0 0 ∷ get_or (ex i) 1 0 ∷ get_or (ey i) 0 0 ∷ get_or (ey i) 1 0 ∷ get_or (ez i) 0 0
+    ∷ get_or (ez i) 1 0 ∷ []) ++ drop 6 out)
+    ∙ rw (div-one a, div-one b, div-one c)
 
 -- the bytes ys are laid after the bytes xs at the front of an output, in a part that reaches to its end
 laid_after : (xs ys out now got : List ℕ) (at : ℕ) → at ≡ length xs → length xs + length ys ≤ length out

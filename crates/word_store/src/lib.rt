@@ -1,7 +1,7 @@
 // Stores a word file: writes its stored form, with signs and generators apart.
 #![tactic(auto)]
 
-ghost use Rattle.std.specs.Prelude.{◌+◌, ◌*◌, ◌/◌, ◌%◌, ◌≤◌, ◌<◌, ◌≡◌, ◌++◌, map, length, take};
+ghost use Rattle.std.specs.Prelude.{ℕ, ◌+◌, ◌*◌, ◌/◌, ◌%◌, ◌^◌, ◌≤◌, ◌<◌, ◌≡◌, refl, ◌++◌, map, length, take};
 ghost use Rattle.base.specs.Lists.{overlaid};
 ghost use Rattle.base.specs.Digits.{value, digits, part, halves};
 ghost use Rattle.word_stored.specs.Stored.{WroteStored};
@@ -38,7 +38,8 @@ fn eight_signs(bytes: &[u8], at: usize) -> u64
     ((a * 4 + b) * 4 + c) * 4 + d
 }
 
-// The generator numbers less one of the eight codes in four bytes, three bits each, the first code's the highest.
+// The generator numbers less one of the eight codes in four bytes, three bits each, the first code's the highest. One
+// function of both would be no plainer: it needs the factor as a constant and a proof for any factor.
 fn eight_generators(bytes: &[u8], at: usize) -> u64
     requires { at + 4 ≤ length bytes.now }
     ensures { (result ≡ value 8 (map (λ c. c % 8) (halves (part at 4 bytes.now)))) × (result < 16777216) }
@@ -50,37 +51,73 @@ fn eight_generators(bytes: &[u8], at: usize) -> u64
     ((a * 64 + b) * 64 + c) * 64 + d
 }
 
-// Writes the signs of groups of eight codes, a byte for each group.
-fn sign_groups(bytes: &[u8], groups: usize, out: &mut [u8])
-    requires { (4 * groups ≤ length bytes.now) × (groups ≤ length out.old) }
-    ensures { out.new
-        ≡ overlaid (digits 256 groups (value 2 (map (λ c. c / 8) (halves (take (4 * groups) bytes.now)))))
-        out.old }
-{
-    let mut k = 0;
-    while k < groups {
-        let end = k + 1;
-        let signs = eight_signs(bytes, 4 * k);
-        base::spell(&mut out[k..end], 256, signs);
-        k = end;
-    }
+// A part of each code that the stored form keeps together: the signs or the generators. The parts of eight codes fill
+// whole bytes, and they are digits to a base.
+trait Kept {
+    ghost of: { ℕ → ℕ };
+
+    ghost base: { ℕ };
+
+    ghost BYTES: { ℕ };
+
+    const BYTES: usize;
+
+    // The number that the parts of the eight codes in four bytes write, the first code's part first.
+    fn eight(bytes: &[u8], at: usize) -> u64
+        requires { at + 4 ≤ length bytes.now }
+        ensures { (result ≡ value base (map of (halves (part at 4 bytes.now)))) × (result < 256 ^ BYTES) };
+
+    ghost full: { base ^ 8 ≡ 256 ^ BYTES };
 }
 
-// Writes the generators of groups of eight codes, three bytes for each group.
-fn generator_groups(bytes: &[u8], groups: usize, out: &mut [u8])
-    requires { (4 * groups ≤ length bytes.now) × (3 * groups ≤ length out.old) }
+// A code's sign is its high bit.
+struct Signs;
+
+impl Kept for Signs {
+    ghost of = { λ c. c / 8 };
+
+    ghost base = { 2 };
+
+    ghost BYTES = { 1 };
+
+    const BYTES: usize = 1;
+
+    fn eight(bytes: &[u8], at: usize) -> u64 {
+        eight_signs(bytes, at)
+    }
+
+    ghost full = { refl };
+}
+
+// A code's generator number less one is its low three bits.
+struct Generators;
+
+impl Kept for Generators {
+    ghost of = { λ c. c % 8 };
+
+    ghost base = { 8 };
+
+    ghost BYTES = { 3 };
+
+    const BYTES: usize = 3;
+
+    fn eight(bytes: &[u8], at: usize) -> u64 {
+        eight_generators(bytes, at)
+    }
+
+    ghost full = { refl };
+}
+
+// Writes the parts of groups of eight codes, `BYTES` bytes for each group.
+fn write_groups<K: Kept>(bytes: &[u8], groups: usize, out: &mut [u8])
+    requires { (4 * groups ≤ length bytes.now) × (K.BYTES * groups ≤ length out.old) }
     ensures { out.new
-        ≡ overlaid
-        (digits 256 (3 * groups) (value 8 (map (λ c. c % 8) (halves (take (4 * groups) bytes.now)))))
+        ≡ overlaid (digits 256 (K.BYTES * groups) (value K.base (map K.of (halves (take (4 * groups) bytes.now)))))
         out.old }
 {
-    let mut k = 0;
-    while k < groups {
-        let at = 3 * k;
-        let end = at + 3;
-        let generators = eight_generators(bytes, 4 * k);
-        base::spell(&mut out[at..end], 256, generators);
-        k += 1;
+    for k in 0..groups {
+        let at = K::BYTES * k;
+        base::spell(&mut out[at..at + K::BYTES], 256, K::eight(bytes, 4 * k));
     }
 }
 
@@ -90,12 +127,10 @@ fn write_sizes(out: &mut [u8], letters: usize, signs: usize, generators: usize)
     ensures { out.new
         ≡ overlaid (digits 256 2 letters ++ (digits 256 2 signs ++ digits 256 2 generators)) out.old }
 {
-    out[0] = (letters / 256) as u8;
-    out[1] = (letters % 256) as u8;
-    out[2] = (signs / 256) as u8;
-    out[3] = (signs % 256) as u8;
-    out[4] = (generators / 256) as u8;
-    out[5] = (generators % 256) as u8;
+    let [a, b] = (letters as u16).to_be_bytes();
+    let [c, d] = (signs as u16).to_be_bytes();
+    let [e, f] = (generators as u16).to_be_bytes();
+    out[..6].copy_from_slice(&[a, b, c, d, e, f]);
 }
 
 // Writes the stored form of the n codes of an accepted word to the front of the output. `part` is the part of the
@@ -110,9 +145,9 @@ fn write_stored(part: &[u8], n: usize, out: &mut [u8]) -> usize
     write_sizes(out, n, groups, generators);
     let mut whole = [0u8; 5000];
     base::put(&mut whole, part);
-    sign_groups(&whole, groups, &mut out[6..]);
+    write_groups::<Signs>(&whole, groups, &mut out[6..]);
     let mut row = [0u8; 3750];
-    generator_groups(&whole, groups, &mut row);
+    write_groups::<Generators>(&whole, groups, &mut row);
     let at = 6 + groups;
     base::put(&mut out[at..], &row[..generators]);
     at + generators

@@ -14,10 +14,8 @@ fn all_codes(codes: &[u8]) -> bool
     ensures { result ≡ every is_letter codes.now }
 {
     let mut lettered = true;
-    let mut k = 0;
-    while k < codes.len() {
-        lettered = lettered & is_letter(codes[k]);
-        k += 1;
+    for c in codes {
+        lettered &= is_letter(*c);
     }
     lettered
 }
@@ -29,7 +27,7 @@ fn two_codes(codes: &[u8], at: usize) -> u8
     requires { (at + 2 ≤ length codes.now) × (get_or codes.now at 0 < 16) × (get_or codes.now (at + 1) 0 < 16) }
     ensures { result ≡ get_or codes.now at 0 * 16 + get_or codes.now (at + 1) 0 }
 {
-    let two = codes[at] as usize + codes[at + 1] as usize * 256;
+    let two = usize::from(codes[at]) + usize::from(codes[at + 1]) * 256;
     (two * 4097 / 256 % 256) as u8
 }
 
@@ -40,11 +38,8 @@ fn pack(codes: &[u8], out: &mut [u8])
     ensures { out.new
         ≡ overlaid (take (length codes.now / 2) (packed codes.now)) out.old }
 {
-    let n = codes.len() / 2;
-    let mut k = 0;
-    while k < n {
+    for k in 0..codes.len() / 2 {
         out[k] = two_codes(codes, 2 * k);
-        k += 1;
     }
 }
 
@@ -56,8 +51,7 @@ fn write_file(codes: &[u8], out: &mut [u8]) -> usize
         × (out.new ≡ overlaid (word_file codes.now) out.old) }
 {
     let n = codes.len();
-    out[0] = (n / 256) as u8;
-    out[1] = (n % 256) as u8;
+    out[..2].copy_from_slice(&(n as u16).to_be_bytes());
     pack(codes, &mut out[2..]);
     if n % 2 == 1 {
         out[2 + n / 2] = codes[n - 1] * 16;

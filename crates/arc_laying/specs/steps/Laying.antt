@@ -1,5 +1,5 @@
 -- How far a new part is laid. Only private contracts cite these definitions.
-use Rattle.std.specs.Prelude.{ℕ, ◌+◌, ◌≤◌, ◌<◌, ◌≡◌, Bool, true, false, List, ◌⊎◌, length, take}
+use Rattle.std.specs.Prelude.{ℕ, ◌+◌, ◌≤◌, ◌<◌, ◌≡◌, Bool, true, false, List, length, take}
 use Rattle.arc_laying.specs.declared.Laying.{Laying}
 use Rattle.braid_arcs.specs.Arcs.{Arc}
 use Rattle.arc_laying.specs.Plans.{PlacedAt}
@@ -15,27 +15,24 @@ pub record BeforeTurn (under : Bool) (p : ℕ) (part out : List ℕ) (s : Laying
   pub reads : s.read ≤ length part
   pub writes : s.written ≤ length part
   pub room : length part ≤ length out
-  pub few : length part < 65536
   pub laid : LaidSoFar under p part out s.read s.written s.old s.new
 
--- A turn leads from s to r, and more letters are read or written. After a refused turn `written` is one more than the
--- length of the part.
+-- A turn that is not refused leads from s to r, and more letters are read or written.
 pub record AfterTurn (under : Bool) (p : ℕ) (part out : List ℕ) (s r : Laying) : Type 0 where
   pub reads : r.read ≤ length part
+  pub writes : r.written ≤ length part
   pub further : s.read + s.written < r.read + r.written
-  pub laid : (r.written ≡ length part + 1)
-      ⊎ ((r.written ≤ length part) × LaidSoFar under p part out r.read r.written r.old r.new)
+  pub laid : LaidSoFar under p part out r.read r.written r.old r.new
 
--- If a turn is not refused, the plan has right places for the letters that the turn reads.
+-- the plan has right places for the letters that a turn reads
 abbrev pub Follows : Bool → ℕ → List ℕ → List ℕ → Laying → Laying → Type 0
-Follows under p part plan s r =
-    r.written ≤ length part → (k : ℕ) → s.read ≤ k → k < r.read → PlacedAt under p part plan k
+Follows under p part plan s r = (k : ℕ) → s.read ≤ k → k < r.read → PlacedAt under p part plan k
 
 -- something is left to do: a letter to read, or a step of the strand to its end
 abbrev pub Unfinished : ℕ → Laying → Type 0
 Unfinished n s = s.read ≡ n → s.new ≡ s.old → ⊥
 
--- is there a turn to make? Not after a refusal, and not if nothing is left to do
+-- is there a turn to make? Not if nothing is left to do
 pub record GoesOn (n : ℕ) (s : Laying) (r : Bool) : Type 0 where
-  pub yes : r ≡ true → (s.written ≤ n) × Unfinished n s
-  pub stop : r ≡ false → (n < s.written) ⊎ ((s.read ≡ n) × (s.new ≡ s.old))
+  pub yes : r ≡ true → Unfinished n s
+  pub stop : r ≡ false → (s.read ≡ n) × (s.new ≡ s.old)

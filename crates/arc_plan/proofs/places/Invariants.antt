@@ -1,13 +1,9 @@
--- `arc_plan::places` meets its contract. The loop's invariant: no code after the first n changed.
-use Prim.Native.Nat.{◌-◌, ◌≤◌}
-use mathlib.Core.Path.{◌≡◌}
-use lib.ListN.{length}
-use Rattle.arc_plan.specs.steps.Planning.{Planned}
+-- `arc_plan::places` keeps the strand at a place of 0 to 7, and ends.
+use Prim.Native.Nat.{◌≤◌}
 use Rattle.arc_plan.proofs.places.Given as goal
 
-abbrev pub invariant-loop-j : goal.invariant-loop-j
-invariant-loop-j l = (l.j ≤ l.n) × (l.x ≤ 7) × (length l.plan ≡ length l.initial.plan)
-    × Planned l.n l.initial.plan l.plan
-
-abbrev pub decreases-loop-j : goal.decreases-loop-j
-decreases-loop-j l = l.n - l.j
+abbrev pub invariant-loop-place : goal.invariant-loop-place
+invariant-loop-place g l =
+    (goal.iterator-loop-place g).can_next l.place-iterator
+    × (goal.iterator-loop-place g).is_finite l.place-iterator
+    × (l.x ≤ 7)

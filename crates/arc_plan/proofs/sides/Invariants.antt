@@ -1,13 +1,11 @@
--- `arc_plan::sides` meets its contract. The loop's invariant: no code after those of the part changed.
-use Prim.Native.Nat.{◌-◌, ◌≤◌}
+-- `arc_plan::sides` keeps the strand at a place of 0 to 7, and stays inside the plan.
+use Prim.Native.Nat.{◌≤◌}
 use mathlib.Core.Path.{◌≡◌}
 use lib.ListN.{length}
-use Rattle.arc_plan.specs.steps.Planning.{Planned}
 use Rattle.arc_plan.proofs.sides.Given as goal
 
-abbrev pub invariant-loop-j : goal.invariant-loop-j
-invariant-loop-j l = (l.j ≤ length l.part) × (l.x ≤ 7) × (length l.plan ≡ length l.initial.plan)
-    × Planned (length l.part) l.initial.plan l.plan
+abbrev pub invariant-loop-i : goal.invariant-loop-i
+invariant-loop-i l = (length l.plan ≡ length l.initial.plan) × (length l.steps ≡ 9) × (l.x ≤ 7)
 
-abbrev pub decreases-loop-j : goal.decreases-loop-j
-decreases-loop-j l = length l.part - l.j
+abbrev pub invariant-loop-i-else-last_first : goal.invariant-loop-i-else-last_first
+invariant-loop-i-else-last_first l = (length l.plan ≡ length l.initial.plan) × (length l.steps ≡ 9) × (l.x ≤ 7)

@@ -5,9 +5,9 @@ use lib.ListN.{length, take}
 use Rattle.braid_arcs.specs.Arcs.{Relays}
 use Rattle.arc_search.proofs.search.Given as goal
 
-abbrev pub invariant-loop-steps : goal.invariant-loop-steps
-invariant-loop-steps l = (l.count ≤ l.n) × (l.drawn < 2147483647) × (length l.codes ≡ length l.initial.codes)
+abbrev pub invariant-loop : goal.invariant-loop
+invariant-loop l =
+    (l.count ≤ l.n)
+    × (l.drawn < 2147483647)
+    × (length l.codes ≡ length l.initial.codes)
     × Relays (take l.n l.initial.codes) (take l.count l.codes)
-
-abbrev pub decreases-loop-steps : goal.decreases-loop-steps
-decreases-loop-steps l = l.steps

@@ -1,12 +1,7 @@
--- One letter and the strand. Only contracts of functions that are no operation of the papers cite these definitions.
-use Rattle.std.specs.Prelude.{ℕ, ◌≤◌, ◌<◌, ◌≡◌, Bool, true, [], ◌∷◌, ◌⊎◌}
+-- One letter and the strand. Only contracts of functions that are no operation of the papers cite this definition.
+use Rattle.std.specs.Prelude.{ℕ, ◌<◌, ◌≡◌, true}
 use Rattle.word.specs.Letters.{is_letter, generator}
-use Rattle.braid_arcs.specs.Arcs.{beside, Arc}
-
--- the strand stays at x, or the letter c takes it from x to r
-pub record Passed (under : Bool) (x c r : ℕ) : Type 0 where
-  pub place : r ≤ 7
-  pub arc : (r ≡ x) ⊎ Arc under x (c ∷ []) r []
+use Rattle.braid_arcs.specs.Arcs.{beside}
 
 -- With the strand at place x, c is a letter of two other strands. With the strand at place 0 it would be the letter d.
 pub record IsOther (x c d : ℕ) : Type 0 where

@@ -13,23 +13,23 @@ returns-then-not-got c = record {
   enough_of_word = enough_of_word _ (omega arith);
 }
 
-pub returns-then-answer-ne0 : goal.returns-then-answer-ne0
-returns-then-answer-ne0 c = record {
+pub returns-then-all-ne0 : goal.returns-then-all-ne0
+returns-then-all-ne0 c = record {
   tells_in =
-      text_refused c.args.got c.args.input.now (not-false _ c.if-not-got.false) c.part-word.ensures
+      text_refused c.args.got c.args.input.now (not-false _ c.if-not-got.false) c.part.ensures
       c.all_crossings-all.ensures
-      c.if-answer-ne0.true c.answer_text.ensures;
+      c.if-all-ne0.true c.answer_text.ensures;
   enough_of_word = enough_of_word _ (omega arith);
 }
 
 pub lines-requires : goal.lines-requires
-lines-requires c = accepted_numbers c.all_crossings-all.ensures c.if-answer-ne0.false
+lines-requires c = accepted_numbers c.all_crossings-all.ensures c.if-all-ne0.false
 
 pub returns : goal.returns
 returns c = record {
   tells_in =
-      text_accepted c.args.got c.args.input.now (not-false _ c.if-not-got.false) c.part-word.ensures
+      text_accepted c.args.got c.args.input.now (not-false _ c.if-not-got.false) c.part.ensures
       c.all_crossings-all.ensures
-      c.if-answer-ne0.false c.lines.ensures;
+      c.if-all-ne0.false c.lines.ensures;
   enough_of_word = enough_of_word _ (omega arith);
 }

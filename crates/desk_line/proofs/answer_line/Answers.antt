@@ -5,7 +5,7 @@ use Rattle.desk_line.proofs.answer_line.Goals as goal
 
 pub decimal-bytes-requires : goal.decimal-bytes-requires
 decimal-bytes-requires c =
-    line_fits c.wide.result (omega (arith, c.wide.ensures, c.ranges.answer.fits))
+    line_fits c.from.result (omega (arith, c.from.ensures, c.ranges.answer.fits))
 
 pub returns : goal.returns
-returns c = answer_told c.wide.ensures c.decimal-bytes.ensures
+returns c = answer_told c.from.ensures c.decimal-bytes.ensures

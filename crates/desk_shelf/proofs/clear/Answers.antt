@@ -3,10 +3,11 @@ use Prim.Native.Nat.{ℕ}
 use mathlib.Core.Path.{ap, ◌∙◌}
 use native.Mathlib.Omega.{arith}
 use borrow.Author.Tests.{not-true, not-false}
+use borrow.Author.Rules.{rules}
 use lib.ListN.{length, take}
 use Rattle.shelf.specs.Calls.{clear}
 use Rattle.desk_shelf.specs.Serving.{is_shelf, digit_of}
-use Rattle.desk_shelf.proofs.ServingLaws.{bare_of, unread, serves_as}
+use Rattle.desk_shelf.proofs.ServingLaws.{bare_of, unread, served_by, serves_as}
 use Rattle.desk_shelf.proofs.EnoughShelf.{enough_of_shelf}
 use Rattle.desk_shelf.proofs.clear.Goals as goal
 
@@ -16,7 +17,7 @@ returns-then-not-s c =
     record {
       clears_file =
           unread (take a.s.bytes a.old.now) (digit_of a.publisher.now) (clear (digit_of a.number.now))
-          (not-true _ c.if-not-s.true) (c.is_shelf-whole.ensures ∙ ap is_shelf c.part-file.ensures)
+          (not-true _ c.if-not-s.true) (c.is_shelf.ensures ∙ ap is_shelf c.part-file.ensures)
           (bare_of c.none.ensures);
       enough_of_shelf = enough_of_shelf (length a.old.now) (omega arith);
     }
@@ -25,6 +26,7 @@ pub returns : goal.returns
 returns c = record {
   clears_file =
       serves_as (not-false _ c.if-not-s.false) c.part-file.ensures c.digit_of-p.ensures
-      (ap (λ (n : ℕ). clear n) c.digit_of-n.ensures) c.cleared.ensures;
+      (ap (λ (n : ℕ). clear n) c.digit_of-n.ensures)
+      (served_by _ _ (clear c.digit_of-n.result) c.worked.ensures (λ old answer new m. search rules));
   enough_of_shelf = enough_of_shelf (length c.args.old.now) (omega arith);
 }

@@ -19,7 +19,7 @@ returns c =
     let a = c.args in
     record {
       tells =
-          copy_read a.made a.w a.word.now (not-false _ c.if-not-w.false) c.part-w_read.ensures c.copy_answer.ensures
+          copy_read a.made a.w a.word.now (not-false _ c.if-not-w.false) c.part.ensures c.copy_answer.ensures
           c.answer_line.ensures;
       gives_verdicts = gives_verdicts a.made;
       enough_of_files = enough_of_files 129 65 _ (omega arith) (omega arith) (omega arith);

@@ -20,7 +20,7 @@ returns c =
     record {
       tells =
           files_read a.k a.d a.w a.key.now a.digest.now a.word.now c.all_read.ensures
-          c.if-not-all_read.false c.part-k_read.ensures c.part-d_read.ensures c.part-w_read.ensures
+          c.if-not-all_read.false c.part-key.ensures c.part-digest.ensures c.part-word.ensures
           c.verify.ensures c.answer_line.ensures;
       enough_of_files = enough_of_files _ _ _ (omega arith) (omega arith) (omega arith);
     }

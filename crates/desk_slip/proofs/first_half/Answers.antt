@@ -1,7 +1,7 @@
 -- `desk_slip::first_half` meets its contract: the first half of what was read, and both buffers are large enough.
 use Prim.Native.Nat.{ℕ}
 use native.Mathlib.Omega.{arith}
-use mathlib.Core.Path.{◌≡◌, subst}
+use mathlib.Core.Path.{◌≡◌, refl, subst}
 use mathlib.Core.List.{List}
 use Rattle.slip_verdict.specs.declared.Half.{Half}
 use Rattle.slip_verdict.specs.Halves.{MakesHalf}
@@ -18,8 +18,8 @@ half_of_parts {digest = digest} {k = k} {answer = answer} {half = half} e f m =
 pub returns : goal.returns
 returns c = record {
   first_half_of = record {
-    both_read = c.both-read.ensures;
-    half_is = half_of_parts c.part-k_read.ensures c.part-d_read.ensures c.first_half-made.ensures;
+    both_read = refl;
+    half_is = half_of_parts c.part-key.ensures c.part-digest.ensures c.first_half.ensures;
   };
   enough_of_files = enough_of_files _ _ 5003 (omega arith) (omega arith) (omega arith);
 }

@@ -15,7 +15,7 @@ returns-then-not-got c = record {
 pub returns : goal.returns
 returns c = record {
   tells =
-      input_read c.args.got c.args.input.now (not-false _ c.if-not-got.false) c.part-slip.ensures c.judged.ensures
+      input_read c.args.got c.args.input.now (not-false _ c.if-not-got.false) c.part.ensures c.judged.ensures
       c.answer_line.ensures;
   enough_of_input = enough_of_input _ (omega arith);
 }

@@ -8,20 +8,20 @@ use Rattle.desk_spread.proofs.length_of.Goals as goal
 
 pub loop-n-init : goal.loop-n-init
 unfolding length_of
-loop-n-init c = (omega arith, refl)
+loop-n-init c = refl
 
 pub returns-then-writes : goal.returns-then-writes
 returns-then-writes c =
     let l = c.loop-n in
-    sym (l.invariant.1 ∙ first_found _ l.n (omega arith) (sym c.writes.ensures ∙ c.if-writes.true))
+    c.from.ensures ∙ sym (l.invariant ∙ first_found _ l.n (omega arith) (sym c.writes.ensures ∙ c.if-writes.true))
 
 pub loop-n-preserved : goal.loop-n-preserved
 loop-n-preserved c =
     let l = c.loop-n in
-    (omega arith, l.invariant.1 ∙ first_next _ l.n (omega arith) (sym c.writes.ensures ∙ c.if-writes.false))
+    l.invariant ∙ first_next _ l.n (omega arith) (sym c.writes.ensures ∙ c.if-writes.false)
 
 pub returns : goal.returns
 returns c =
     let l = c.loop-n in
-    let all : l.n ≡ 13 = omega (arith, l.invariant.0) in
-    sym (l.invariant.1 ∙ first_none _ l.n all)
+    let all : l.n ≡ 13 = omega arith in
+    sym (l.invariant ∙ first_none _ l.n all)

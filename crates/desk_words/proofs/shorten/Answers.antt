@@ -22,8 +22,8 @@ returns c =
     let a = c.args in
     record {
       shortens =
-          shortens_as (sym c.all_read.ensures ∙ c.if-not-all_read.false) c.part-k_read.ensures c.part-d_read.ensures
-          c.part-w_read.ensures c.shortened.ensures;
+          shortens_as (sym c.all_read.ensures ∙ c.if-not-all_read.false) c.part-key.ensures c.part-digest.ensures
+          c.part-word.ensures c.shortened.ensures;
       enough_to_shorten =
           enough_to_shorten (length a.key.now) (length a.digest.now) (length a.word.now)
           (enough_of_files _ _ _ (omega arith) (omega arith) (omega arith)) (omega arith);

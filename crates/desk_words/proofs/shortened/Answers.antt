@@ -4,6 +4,7 @@ use Prim.Native.Nat.{ℕ}
 use mathlib.Core.Path.{◌≡◌, sym, ◌∙◌}
 use mathlib.Core.Bool.{true}
 use mathlib.Core.List.{List}
+use native.Mathlib.Omega.{arith}
 use lib.ListN.{replicate}
 use lib.Seq.{length-take-le}
 use Rattle.slip_verdict.specs.Verdict.{verdict}
@@ -30,9 +31,12 @@ returns-then-answer-ne0 c =
     let e = c.verify-answer.ensures in
     shortens_refused (λ z. c.if-answer-ne0.true (e ∙ z)) (rw (sym e) (bare_of c.bare.ensures))
 
-pub slice_bounds-file-end : goal.slice_bounds-file-end
-slice_bounds-file-end c =
-    bytes_within (shortens _ _ c.short-made.ensures c.verify-answer.ensures c.if-answer-ne0.false).makes
+pub shared_ref_as_front-verify : goal.shared_ref_as_front-verify
+shared_ref_as_front-verify c =
+    omega (
+      arith,
+      bytes_within (shortens _ _ c.short-made.ensures c.verify-answer.ensures c.if-answer-ne0.false).makes,
+    )
 
 pub slice_bounds-verify-end : goal.slice_bounds-verify-end
 slice_bounds-verify-end c =

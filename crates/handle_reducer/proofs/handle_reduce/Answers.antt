@@ -75,7 +75,7 @@ returns-then-last-ne0 c =
     let r = c.read_word-w.ensures in
     took_refused w a.limit a.out.now _ c.refused-then-last-ne0.ensures
     (row_answer w a.limit a.out.now c.if-out-lt-MAX_BYTES.false (word_ok r c.if-w-ne0.false)
-    (codes_are w _ r c.if-w-ne0.false c.unpack.ensures) c.reduce-last.ensures)
+    (codes_are w _ r c.if-w-ne0.false c.unpack.ensures) (rw c.from.ensures at c.reduce-last.ensures))
     c.if-last-ne0.true
 
 pub slice_bounds-write_word-end : goal.slice_bounds-write_word-end
@@ -92,4 +92,5 @@ returns c =
     let fits : h.result.letters ≤ length h.new.codes =
     omega (arith, h.ensures.few, h.auto.codes, c.unpack.auto.codes) in
     took w a.limit a.out.now c.if-out-lt-MAX_BYTES.false (word_ok r c.if-w-ne0.false)
-    (codes_are w _ r c.if-w-ne0.false c.unpack.ensures) h.ensures c.if-last-ne0.false fits c.write_word-written.ensures
+    (codes_are w _ r c.if-w-ne0.false c.unpack.ensures)
+    (rw c.from.ensures at h.ensures) c.if-last-ne0.false fits c.write_word-written.ensures

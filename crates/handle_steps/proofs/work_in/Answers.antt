@@ -16,33 +16,34 @@ lay-requires c =
     omega (arith, size, c.requires.0.few, c.requires.1.room)
 
 -- the row has the word at its end
-pub run-r-requires : goal.run-r-requires
-run-r-requires c = (begun _ _ _ _ _ _ c.requires.0 c.requires.1 c.lay.auto.row c.lay.ensures).0
+pub run-requires : goal.run-requires
+run-requires c = (begun _ _ _ _ _ _ c.requires.0 c.requires.1 c.lay.auto.row c.lay.ensures).0
 
-pub returns-then-stop-eq32 : goal.returns-then-stop-eq32
-returns-then-stop-eq32 c =
+pub returns-in_default : goal.returns-in_default
+returns-in_default c =
     let a = c.args in
     let word = (begun _ _ _ _ _ _ c.requires.0 c.requires.1 c.lay.auto.row c.lay.ensures).1 in
-    refused_steps a.limit a.n a.codes.now _ word c.requires.0.few (c.run-r.ensures.refused c.if-stop-eq32.true)
+    refused_steps a.limit a.n a.codes.now _ word c.requires.0.few c.in_default.ensures
 
 pub gather-requires : goal.gather-requires
 gather-requires c =
     let a = c.args in
-    let r = c.run-r in
-    gathers a.limit _ r.new.row a.codes.now a.n r.result.left r.result.right r.result.stop
-    (r.auto.row ∙ c.lay.auto.row ∙ c.requires.1.room) c.requires.0 (r.ensures.ended c.if-stop-eq32.false)
+    let r = c.run in
+    let last = c.in-Ok.last in
+    gathers a.limit _ r.new.row a.codes.now a.n last.left last.right last.handle
+    (r.auto.row ∙ c.lay.auto.row ∙ c.requires.1.room) c.requires.0 c.in-Ok.ensures
 
 pub overflow_sub-result : goal.overflow_sub-result
-overflow_sub-result c = (c.run-r.ensures.ended c.if-stop-eq32.false).within
+overflow_sub-result c = c.in-Ok.ensures.within
 
 pub overflow_add-result : goal.overflow_add-result
-overflow_add-result c =
-    let d = c.run-r.ensures.ended c.if-stop-eq32.false in omega (arith, d.gap, d.within)
+overflow_add-result c = let d = c.in-Ok.ensures in omega (arith, d.gap, d.within)
 
 pub returns : goal.returns
 returns c =
     let a = c.args in
-    let r = c.run-r in
+    let r = c.run in
+    let last = c.in-Ok.last in
     let word = (begun _ _ _ _ _ _ c.requires.0 c.requires.1 c.lay.auto.row c.lay.ensures).1 in
-    ended_steps a.limit a.n a.codes.now _ word r.new.row c.gather.new.codes r.result.left r.result.right r.result.stop
-    (r.auto.row ∙ c.lay.auto.row ∙ c.requires.1.room) (r.ensures.ended c.if-stop-eq32.false) c.gather.ensures
+    ended_steps a.limit a.n a.codes.now _ word r.new.row c.gather.new.codes last.left last.right last.handle
+    (r.auto.row ∙ c.lay.auto.row ∙ c.requires.1.room) c.in-Ok.ensures c.gather.ensures

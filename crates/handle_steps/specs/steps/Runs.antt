@@ -1,10 +1,14 @@
 -- What the steps on a row of codes leave. Contracts of functions that are no operation of the papers cite it.
-use Rattle.std.specs.Prelude.{ℕ, ◌+◌, ◌-◌, ◌*◌, ◌≤◌, ◌<◌, ◌≡◌, Bool, true, false, ◌⊎◌, List, eqb, length, take, get_or}
+use Rattle.std.specs.Prelude.{ℕ, ◌+◌, ◌-◌, ◌*◌, ◌≤◌, ◌<◌, ◌≡◌, Bool, true, false, List, length, take, get_or}
+use Rattle.std.specs.Prelude.{Option, Some, None, Result, Ok, Err}
 use Rattle.base.specs.Questions.{first_no, granted}
 use Rattle.base.specs.Lists.{every}
 use Rattle.word.specs.Letters.{is_letter}
 use Rattle.braid_handles.specs.Handles.{has_handle, after_steps, step_questions}
 use Rattle.handle_row.specs.steps.Gaps.{gapped, beginning, Tables}
+use Rattle.handle_steps.specs.declared.turns.State.{State}
+use Rattle.handle_steps.specs.declared.turns.Last.{Last}
+use Rattle.handle_steps.specs.declared.turns.TooLong.{TooLong}
 
 -- a row that holds a word of n letters, with room for any word
 pub record HoldsWord (n : ℕ) (row : List ℕ) : Type 0 where
@@ -47,25 +51,39 @@ pub record SameRun (m : ℕ) (v : List ℕ) (n : ℕ) (w : List ℕ) : Type 0 wh
 abbrev pub work : ℕ → ℕ → ℕ
 work steps right = steps * 10002 + (10001 - right)
 
--- n steps on the word w have ended, and the codes around the gap are the word after them. `stop` is 1 if a handle is
--- left, and otherwise 0.
-pub record Ended (n : ℕ) (w row : List ℕ) (left right stop : ℕ) : Type 0 where
+-- n steps on the word w have ended, and the codes around the gap are the word after them. `handle` says whether a
+-- handle is left.
+pub record Ended (n : ℕ) (w row : List ℕ) (left right : ℕ) (handle : Bool) : Type 0 where
   pub gap : left < right
   pub within : right ≤ 10001
   pub answer_is : first_no (step_questions n w) ≡ 0
   pub word_is : gapped row left right ≡ after_steps n w
-  pub left_is : eqb stop 1 ≡ has_handle (after_steps n w)
+  pub left_is : handle ≡ has_handle (after_steps n w)
 
--- One turn on the word around a gap, with n steps left before the turn and `steps` left after it. `stop` is 0 if the
--- turns go on, 1 if the limit is reached and a handle is left, 32 if the step is refused.
-pub record Turned (row : List ℕ) (left right n : ℕ) (row' latest before : List ℕ) (left' right' steps stop : ℕ) : Type 0
-  where
-    pub goes : stop ≡ 0 → Gap row' latest before left' right'
-    pub same : stop ≡ 0 → SameRun steps (gapped row' left' right') n (gapped row left right)
-    pub less : stop ≡ 0 → work steps right' < work n right
-    pub ended : stop ≡ 1 → Ended n (gapped row left right) row' left' right' 1
-    pub refused : stop ≡ 32 → first_no (step_questions n (gapped row left right)) ≡ 32
-    pub stops : (stop ≡ 0) ⊎ ((stop ≡ 1) ⊎ (stop ≡ 32))
+-- The turns go on. The word around the gap is after one turn the word with `steps` steps left, where it had n steps
+-- left before the turn.
+pub record Goes (row : List ℕ) (left right n : ℕ) (row' latest before : List ℕ) (left' right' steps : ℕ) : Type 0 where
+  pub gap : Gap row' latest before left' right'
+  pub same : SameRun steps (gapped row' left' right') n (gapped row left right)
+  pub less : work steps right' < work n right
+
+-- the first of n steps on a word is refused
+abbrev pub Refused : ℕ → List ℕ → Type 0
+Refused n w = first_no (step_questions n w) ≡ 32
+
+-- a step that is made or refused
+abbrev pub StepMade : List ℕ → State → List ℕ → List ℕ → List ℕ → Result State TooLong → Type 0
+StepMade row s row' latest before (Ok t) =
+    Goes row s.left s.right s.steps row' latest before t.left t.right t.steps
+StepMade row s row' latest before (Err e) = Refused s.steps (gapped row s.left s.right)
+
+-- One turn on the word around a gap: the turns go on, or the limit is reached and a handle is left, or the step is
+-- refused.
+abbrev pub Turned : List ℕ → State → List ℕ → List ℕ → List ℕ → Result (Option State) TooLong → Type 0
+Turned row s row' latest before (Ok (Some t)) =
+    Goes row s.left s.right s.steps row' latest before t.left t.right t.steps
+Turned row s row' latest before (Ok None) = Ended s.steps (gapped row s.left s.right) row' s.left s.right true
+Turned row s row' latest before (Err e) = Refused s.steps (gapped row s.left s.right)
 
 -- the handle that ends with the first code after the gap begins right before place `own`, and a step is left
 pub record Found (row : List ℕ) (own left right steps : ℕ) : Type 0 where
@@ -74,7 +92,7 @@ pub record Found (row : List ℕ) (own left right steps : ℕ) : Type 0 where
   pub unread : right < 10001
   pub some : 0 < steps
 
--- a run: `stop` is 32 if a step is refused
-pub record Ran (n : ℕ) (w row : List ℕ) (left right stop : ℕ) : Type 0 where
-  pub ended : (stop ≡ 32 → ⊥) → Ended n w row left right stop
-  pub refused : stop ≡ 32 → first_no (step_questions n w) ≡ 32
+-- a run: the steps have ended, or one is refused
+abbrev pub Ran : ℕ → List ℕ → List ℕ → Result Last TooLong → Type 0
+Ran n w row (Ok e) = Ended n w row e.left e.right e.handle
+Ran n w row (Err e) = Refused n w

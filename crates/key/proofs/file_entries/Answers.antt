@@ -1,5 +1,5 @@
 -- `key::file_entries` meets its contract. The loop's invariant: the places before k hold the file's entries.
-use Prim.Native.Nat.{◌-◌, ◌/◌, ◌%◌}
+use Prim.Native.Nat.{◌/◌, ◌%◌}
 use mathlib.Core.Path.{◌≡◌, refl, ap₂, ◌∙◌}
 use native.Mathlib.Omega.{arith}
 use lib.ListN.{length-set}
@@ -10,7 +10,7 @@ use Rattle.key.proofs.EntryLaws.{entries_put}
 use Rattle.key.proofs.file_entries.Goals as goal
 
 pub loop-k-init : goal.loop-k-init
-loop-k-init c = (omega arith, refl, λ j h. absurd (omega arith))
+loop-k-init c = (refl, λ j h. absurd (omega arith))
 
 pub loop-k-preserved : goal.loop-k-preserved
 loop-k-preserved c =
@@ -18,15 +18,12 @@ loop-k-preserved c =
     let m = c.args.matrix.now in
     let row : l.k / 8 % 8 ≡ l.k / 8 = omega arith in
     let column : l.k % 8 % 8 ≡ l.k % 8 = omega arith in (
-      omega arith,
-      length-set l.entries l.k _ ∙ l.invariant.1,
-      one_more (file_entry m) l.entries l.k _ (omega arith) l.invariant.2
+      length-set l.entries l.k _ ∙ l.invariant.0,
+      one_more (file_entry m) l.entries l.k _ (omega arith) l.invariant.1
           (c.entry.ensures ∙ ap₂ (entry m) row column),
     )
 
 pub returns : goal.returns
 returns c =
     let l = c.loop-k in
-    let m = c.args.matrix.now in
-    let e : l.k ≡ 56 = omega arith in
-    entries_put m l.entries _ l.invariant.1 (λ j h. l.invariant.2 j (omega arith)) c.entry-2.ensures
+    entries_put c.args.matrix.now l.entries _ l.invariant.0 (λ j h. l.invariant.1 j (omega arith)) c.entry-2.ensures

@@ -14,14 +14,10 @@ use Rattle.key.proofs.KeyFacts.{reads_refused}
 use Rattle.key_reader.proofs.read_key.Goals as goal
 
 pub read_over-requires : goal.read_over-requires
-read_over-requires c =
-    let file = c.args.file.now in
-    (sym (field_of_length Gf32 file c.if-file-eq-SMALL_BYTES.true), c.if-file-eq-SMALL_BYTES.true)
+read_over-requires c = (sym (field_of_length Gf32 c.args.file.now c.in-83.is), c.in-83.is)
 
-pub read_over-requires-then-file-eq-LARGE_BYTES : goal.read_over-requires-then-file-eq-LARGE_BYTES
-read_over-requires-then-file-eq-LARGE_BYTES c =
-    let file = c.args.file.now in
-    (sym (field_of_length Gf256 file c.if-file-eq-LARGE_BYTES.true), c.if-file-eq-LARGE_BYTES.true)
+pub read_over-requires-in-128 : goal.read_over-requires-in-128
+read_over-requires-in-128 c = (sym (field_of_length Gf256 c.args.file.now c.in-128.is), c.in-128.is)
 
 -- a file of neither length is refused with 1
 refused : (file : List ℕ) → (length file ≡ 83 → ⊥) → (length file ≡ 128 → ⊥) → key_answer file ≡ 1
@@ -30,8 +26,7 @@ refused file p q =
     fails 1 (drop 1 (key_questions file))
     (ap₂ (λ (s t : Bool). s || t) (ne_eqb (length file) 83 p) (ne_eqb (length file) 128 q))
 
-pub returns : goal.returns
-returns c =
+pub returns-in_default : goal.returns-in_default
+returns-in_default c =
     let file = c.args.file.now in
-    reads_refused file 1 (refused file c.if-file-eq-SMALL_BYTES.false c.if-file-eq-LARGE_BYTES.false) (λ z. omega arith)
-    c.refused.ensures
+    reads_refused file 1 (refused file (λ e. omega arith) (λ e. omega arith)) (λ z. omega arith) c.refused.ensures

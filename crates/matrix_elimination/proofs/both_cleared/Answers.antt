@@ -15,38 +15,37 @@ use Rattle.matrix_elimination.proofs.both_cleared.Invariants.{has_inverse}
 less : (f : Field) (n : ℕ) (a : List ℕ) → 0 < n → has_inverse f n a ≡ has_inverse f (n - 1 + 1) a
 less f n a pos = let size : n ≡ n - 1 + 1 = omega arith in ap (λ (k : ℕ). has_inverse f k a) size
 
-pub clear-found-requires : goal.clear-found-requires
-clear-found-requires c = (c.loop-n.invariant.1, c.requires.0, c.requires.1, omega arith)
+pub clear-requires : goal.clear-requires
+clear-requires c = (c.loop-n.invariant.0, c.requires.0, c.requires.1, omega arith)
 
-pub returns-then-not-found : goal.returns-then-not-found
-returns-then-not-found c =
+pub returns-then-not-clear : goal.returns-then-not-clear
+returns-then-not-clear c =
     let a = c.args in
     let l = c.loop-n in
     sym
     (ap (λ (x : Bool). x && has_inverse a.f 7 a.second)
-    (l.invariant.3 ∙ less a.f l.n l.a (omega arith) ∙ (rw c.if-not-found.true at c.clear-found.ensures.1)))
+    (l.invariant.2 ∙ less a.f l.n l.a (omega arith) ∙ (rw c.if-not-clear.true at c.clear.ensures.1)))
 
-pub clear-also-requires : goal.clear-also-requires
-clear-also-requires c = (c.loop-n.invariant.2, c.requires.0, c.requires.1, omega arith)
+pub clear-requires-in-loop-n : goal.clear-requires-in-loop-n
+clear-requires-in-loop-n c = (c.loop-n.invariant.1, c.requires.0, c.requires.1, omega arith)
 
-pub returns-then-not-also : goal.returns-then-not-also
-returns-then-not-also c =
+pub returns-then-not-clear-2 : goal.returns-then-not-clear-2
+returns-then-not-clear-2 c =
     let a = c.args in
     let l = c.loop-n in
     sym
     (ap (λ (x : Bool). has_inverse a.f 7 a.first && x)
-    (l.invariant.4 ∙ less a.f l.n l.b (omega arith) ∙ (rw c.if-not-also.true at c.clear-also.ensures.1))
+    (l.invariant.3 ∙ less a.f l.n l.b (omega arith) ∙ (rw c.if-not-clear-2.true at c.clear-in-loop-n.ensures.1))
     ∙ and_false (has_inverse a.f 7 a.first))
 
 pub loop-n-preserved : goal.loop-n-preserved
 loop-n-preserved c =
     let f = c.args.f in
     let l = c.loop-n in (
-      omega arith,
-      c.clear-found.ensures.0,
-      c.clear-also.ensures.0,
-      l.invariant.3 ∙ less f l.n l.a (omega arith) ∙ (rw c.if-not-found.false at c.clear-found.ensures.1),
-      l.invariant.4 ∙ less f l.n l.b (omega arith) ∙ (rw c.if-not-also.false at c.clear-also.ensures.1),
+      c.clear.ensures.0,
+      c.clear-in-loop-n.ensures.0,
+      l.invariant.2 ∙ less f l.n l.a (omega arith) ∙ (rw c.if-not-clear.false at c.clear.ensures.1),
+      l.invariant.3 ∙ less f l.n l.b (omega arith) ∙ (rw c.if-not-clear-2.false at c.clear-in-loop-n.ensures.1),
     )
 
 pub returns : goal.returns
@@ -56,5 +55,5 @@ returns c =
     let l = c.loop-n in
     let z : l.n ≡ 0 = omega arith in
     sym
-    (ap₂ (λ (x y : Bool). x && y) (l.invariant.3 ∙ ap (λ (k : ℕ). has_inverse f k l.a) z)
-    (l.invariant.4 ∙ ap (λ (k : ℕ). has_inverse f k l.b) z))
+    (ap₂ (λ (x y : Bool). x && y) (l.invariant.2 ∙ ap (λ (k : ℕ). has_inverse f k l.a) z)
+    (l.invariant.3 ∙ ap (λ (k : ℕ). has_inverse f k l.b) z))

@@ -1,14 +1,33 @@
--- `matrix_elimination::both_invertible` meets its contract: if the first matrix has no pivot, not both have an inverse.
-use mathlib.Core.Path.{sym, ap}
+-- `matrix_elimination::both_invertible` meets its contract: each matrix is invertible exactly if its last column has a
+-- pivot and the 7 by 7 matrix that is left of it is invertible.
+use mathlib.Core.Path.{sym, ap, ap₂, ◌∙◌}
 use mathlib.Core.Bool.{Bool, ◌&&◌}
+use Rattle.base.proofs.ListLaws.{and_false}
 use Rattle.field.specs.Fields.{operations}
 use Rattle.matrix.specs.Layout.{entry}
 use Rattle.matrix.specs.Elimination.{invertible}
 use Rattle.matrix_elimination.proofs.both_invertible.Goals as goal
 
-pub returns-then-not-has_pivot : goal.returns-then-not-has_pivot
-returns-then-not-has_pivot c =
+pub returns-then-not-clear_last : goal.returns-then-not-clear_last
+returns-then-not-clear_last c =
     let a = c.args in
     sym
-    (ap (λ (b : Bool). b && invertible (operations a.f) 8 (entry a.second))
-    (c.has_pivot.ensures c.if-not-has_pivot.true))
+    (ap (λ (x : Bool). x && invertible (operations a.f) 8 (entry a.second))
+    (rw c.if-not-clear_last.true at c.clear_last.ensures.1))
+
+pub returns-then-not-clear_last-2 : goal.returns-then-not-clear_last-2
+returns-then-not-clear_last-2 c =
+    let a = c.args in
+    let first = invertible (operations a.f) 8 (entry a.first) in
+    sym
+    (ap (λ (x : Bool). first && x)
+    (rw c.if-not-clear_last-2.true at c.clear_last-2.ensures.1)
+    ∙ and_false first)
+
+pub returns : goal.returns
+returns c =
+    c.both_cleared.ensures
+    ∙ sym
+    (ap₂ (λ (x y : Bool). x && y)
+    (rw c.if-not-clear_last.false at c.clear_last.ensures.1)
+    (rw c.if-not-clear_last-2.false at c.clear_last-2.ensures.1))

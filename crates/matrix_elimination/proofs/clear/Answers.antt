@@ -1,7 +1,7 @@
 -- `matrix_elimination::clear` meets its contract. Without a pivot the matrix is not invertible. With a pivot it is
 -- invertible exactly if the cleared matrix is.
 use Prim.Native.Nat.{ℕ, ◌+◌}
-use mathlib.Core.Path.{sym, ap, ◌∙◌}
+use mathlib.Core.Path.{refl, sym, ap, ◌∙◌}
 use mathlib.Core.List.{List}
 use native.Mathlib.Omega.{arith}
 use lib.ListN.{get_or}
@@ -11,10 +11,9 @@ use Rattle.field.proofs.TableLaws.{inverse_at, reciprocals_short}
 use Rattle.field_logarithms.specs.steps.Logarithms.{LogarithmsOf}
 use Rattle.field_logarithms.proofs.PowerLaws.{same_number}
 use Rattle.matrix.specs.Layout.{entry}
-use Rattle.matrix.specs.Elimination.{invertible}
+use Rattle.matrix.specs.Elimination.{pivot, invertible}
 use Rattle.matrix.specs.steps.Sweeping.{Raised}
 use Rattle.matrix.proofs.SweepLaws.{clear_none, clear_some}
-use borrow.Author.Rules.{rules}
 use Rattle.matrix_elimination.proofs.clear.Goals as goal
 
 -- the logarithms of row p before the exchange are the logarithms of row n after it
@@ -23,32 +22,19 @@ raised_logarithms : (n p : ℕ) (m a table logs : List ℕ) → Raised n p (n + 
     → LogarithmsOf table (entry a n) n logs
 raised_logarithms n p m a table logs w l j h = same_number (sym (w.last j (omega arith))) (l j (omega arith))
 
-pub pivot_row-p-requires : goal.pivot_row-p-requires
-pivot_row-p-requires c = search rules
-
-pub place-requires : goal.place-requires
-place-requires c = search rules
-
-pub bounds-m-place : goal.bounds-m-place
-bounds-m-place c = search rules
-
-pub returns-then-x-eq0 : goal.returns-then-x-eq0
+pub returns-in_default : goal.returns-in_default
 unfolding entry
-returns-then-x-eq0 c =
+returns-in_default c =
     let m = c.args.m.now in
     let n = c.args.n in (
       c.requires.0,
-      clear_none (binary c.args.f) n m c.pivot_row-p.result c.pivot_row-p.ensures.0
-          (invertible (operations c.args.f) n (entry m))
-          (sym (ap (λ (k : ℕ). get_or m k 0) c.place.ensures.0) ∙ c.if-x-eq0.true),
+      clear_none (binary c.args.f) n m (pivot (λ i. entry m i n) n) refl (invertible (operations c.args.f) n (entry m))
+          c.in_default.ensures.none,
     )
 
 pub inverse-q-requires : goal.inverse-q-requires
 inverse-q-requires c =
     reciprocals_short c.args.f c.args.inverses.now c.requires.2
-
-pub raise-row-requires : goal.raise-row-requires
-raise-row-requires c = search rules
 
 pub sweep-requires : goal.sweep-requires
 sweep-requires c = (
@@ -62,14 +48,13 @@ sweep-requires c = (
 pub returns : goal.returns
 unfolding entry
 returns c =
-    let m = c.args.m.now in
-    let there = ap (λ (k : ℕ). get_or m k 0) c.place.ensures.0 in (
+    let a = c.args in
+    let m = a.m.now in
+    let found = c.in-Some.ensures.some in (
       c.sweep.ensures.size,
-      clear_some (binary c.args.f) c.args.n m c.pivot_row-p.result
-          c.pivot_row-p.ensures.0 c.inverse-q.result _ _
-          (λ z. c.if-x-eq0.false (there ∙ z))
-          (c.inverse-q.ensures ∙ inverse_at (degree c.args.f) c.args.inverses.now c.requires.2 _
-          ∙ ap (operations c.args.f).inv there)
+      clear_some (binary a.f) a.n m c.in-Some.p found.0 c.inverse-q.result _ _ found.2
+          (c.inverse-q.ensures ∙ inverse_at (degree a.f) a.inverses.now c.requires.2 _
+          ∙ ap (λ (k : ℕ). (operations a.f).inv (get_or m k 0)) c.place.ensures.0)
           c.raise-row.ensures.0
           c.sweep.ensures (omega arith),
     )

@@ -1,53 +1,45 @@
--- `matrix_elimination::pivot_row` meets its contract. The loop's invariant: the pivot of the rows 0 to n is the pivot
--- of the rows 0 to p.
-use Prim.Native.Nat.{ℕ}
-use mathlib.Core.Path.{◌≡◌, refl, sym, ap, ◌∙◌}
+-- `matrix_elimination::pivot_row` meets its contract. The loop's invariant: column n is zero in the rows p to n.
+use Prim.Native.Nat.{ℕ, ◌-◌, ◌<◌, ◌≤◌}
+use mathlib.Core.Path.{◌≡◌, sym, ap, ◌∙◌}
 use native.Mathlib.Omega.{arith}
+use native.Mathlib.Decide.{ℕ_discrete}
 use lib.ListN.{get_or}
 use Rattle.matrix.specs.Layout.{entry}
-use Rattle.matrix.specs.Elimination.{pivot}
-use Rattle.matrix.proofs.SweepLaws.{pivot_here, pivot_back}
+use Rattle.matrix.proofs.SweepLaws.{pivot_found, pivot_zero}
 use Rattle.matrix_elimination.proofs.pivot_row.Goals as goal
 
-pub loop-p-init : goal.loop-p-init
-loop-p-init c = (omega arith, refl)
-
-pub place-requires : goal.place-requires
-place-requires c = (omega arith, omega arith)
-
-pub bounds-m-place : goal.bounds-m-place
-bounds-m-place c = omega arith
-
-pub returns-then-x-ne0 : goal.returns-then-x-ne0
+pub returns-then-m-place-ne0-clause-some : goal.returns-then-m-place-ne0-clause-some
 unfolding entry
-returns-then-x-ne0 c =
-    let l = c.loop-p in
+returns-then-m-place-ne0-clause-some c =
     let a = c.args in
-    let there = ap (λ (k : ℕ). get_or a.m.now k 0) c.place.ensures.0 in (
-      sym (l.invariant.1 ∙ pivot_here (λ i. entry a.m.now i a.n) l.p (λ z. c.if-x-ne0.true (there ∙ z))),
+    let l = c.loop-p in
+    let column : ℕ → ℕ = λ i. entry a.m.now i a.n in
+    let there = ap (λ (k : ℕ). get_or a.m.now k 0) c.place.ensures.0 in
+    let other : column (l.p - 1) ≡ 0 → ⊥ = λ z. c.if-m-place-ne0.true (there ∙ z) in (
+      pivot_found column a.n (l.p - 1) (omega arith) other (λ k h b. l.invariant k (omega arith) b),
       omega arith,
+      other,
     )
 
-pub overflow_sub-p : goal.overflow_sub-p
-overflow_sub-p c = omega arith
-
-pub loop-p-smaller : goal.loop-p-smaller
-loop-p-smaller c = omega arith
+-- one more row that is zero
+next_zero : (column : ℕ → ℕ) (p n : ℕ) → 0 < p → column (p - 1) ≡ 0 → ((k : ℕ) → p ≤ k → k ≤ n → column k ≡ 0)
+    → (k : ℕ) → p - 1 ≤ k → k ≤ n → column k ≡ 0
+next_zero column p n pos z zeros k h b = at (ℕ_discrete k (p - 1))
+  where
+    at : Dec (k ≡ p - 1) → column k ≡ 0
+    at (yes e) = ap column e ∙ z
+    at (no d) = zeros k (omega arith) b
 
 pub loop-p-preserved : goal.loop-p-preserved
 unfolding entry
 loop-p-preserved c =
-    let l = c.loop-p in
     let a = c.args in
-    let there = ap (λ (k : ℕ). get_or a.m.now k 0) c.place.ensures.0 in (
-      omega arith,
-      l.invariant.1 ∙ pivot_back (λ i. entry a.m.now i a.n) l.p (omega arith) (sym there ∙ c.if-x-ne0.false),
-    )
+    let l = c.loop-p in
+    let column : ℕ → ℕ = λ i. entry a.m.now i a.n in
+    let there = ap (λ (k : ℕ). get_or a.m.now k 0) c.place.ensures.0 in
+    next_zero column l.p a.n (omega arith) (sym there ∙ c.if-m-place-ne0.false) l.invariant
 
-pub returns : goal.returns
-unfolding pivot
-returns c =
-    let l = c.loop-p in
+pub returns-clause-none : goal.returns-clause-none
+returns-clause-none c =
     let a = c.args in
-    let z : l.p ≡ 0 = omega arith in
-    (z ∙ sym (l.invariant.1 ∙ ap (pivot (λ i. entry a.m.now i a.n)) z), omega arith)
+    pivot_zero (λ i. entry a.m.now i a.n) a.n (λ k b. c.loop-p.invariant k (omega arith) b)

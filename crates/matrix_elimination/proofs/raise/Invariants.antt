@@ -1,6 +1,5 @@
 -- `matrix_elimination::raise` meets its contract. The loop's invariant: in the columns before j the rows are exchanged
 -- and the logarithms stored.
-use Prim.Native.Nat.{◌+◌, ◌-◌, ◌≤◌}
 use mathlib.Core.Path.{◌≡◌}
 use lib.ListN.{length}
 use Rattle.field_logarithms.specs.steps.Logarithms.{LogarithmsOf}
@@ -9,8 +8,5 @@ use Rattle.matrix.specs.steps.Sweeping.{Raised}
 use Rattle.matrix_elimination.proofs.raise.Given as goal
 
 abbrev pub invariant-loop-j : goal.invariant-loop-j
-invariant-loop-j l = (l.j ≤ l.n + 1) × Raised l.n l.p l.j l.initial.m l.m × (length l.logs ≡ 8)
+invariant-loop-j l = Raised l.n l.p l.j l.initial.m l.m × (length l.logs ≡ 8)
     × LogarithmsOf l.table (entry l.initial.m l.p) l.j l.logs
-
-abbrev pub decreases-loop-j : goal.decreases-loop-j
-decreases-loop-j l = l.n + 1 - l.j

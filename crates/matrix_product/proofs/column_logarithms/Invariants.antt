@@ -1,5 +1,4 @@
 -- `matrix_product::column_logarithms` meets its contract. The loop's invariant: the first k logarithms are stored.
-use Prim.Native.Nat.{◌-◌, ◌≤◌}
 use mathlib.Core.Path.{◌≡◌}
 use lib.ListN.{length}
 use Rattle.field_logarithms.specs.steps.Logarithms.{LogarithmsOf}
@@ -7,7 +6,4 @@ use Rattle.matrix.specs.Layout.{entry}
 use Rattle.matrix_product.proofs.column_logarithms.Given as goal
 
 abbrev pub invariant-loop-k : goal.invariant-loop-k
-invariant-loop-k l = (l.k ≤ 8) × (length l.logs ≡ 8) × LogarithmsOf l.table (λ j. entry l.m j l.column) l.k l.logs
-
-abbrev pub decreases-loop-k : goal.decreases-loop-k
-decreases-loop-k l = 8 - l.k
+invariant-loop-k l = (length l.logs ≡ 8) × LogarithmsOf l.table (λ j. entry l.m j l.column) l.k l.logs

@@ -1,12 +1,8 @@
 -- `matrix_product::logarithms_of` meets its contract. The loop's invariant: the first i logarithms are stored.
-use Prim.Native.Nat.{◌-◌, ◌≤◌}
 use mathlib.Core.Path.{◌≡◌}
 use lib.ListN.{length, get_or}
 use Rattle.field_logarithms.specs.steps.Logarithms.{LogarithmsOf}
 use Rattle.matrix_product.proofs.logarithms_of.Given as goal
 
 abbrev pub invariant-loop-i : goal.invariant-loop-i
-invariant-loop-i l = (l.i ≤ 64) × (length l.logs ≡ 64) × LogarithmsOf l.table (λ k. get_or l.m k 0) l.i l.logs
-
-abbrev pub decreases-loop-i : goal.decreases-loop-i
-decreases-loop-i l = 64 - l.i
+invariant-loop-i l = (length l.logs ≡ 64) × LogarithmsOf l.table (λ k. get_or l.m k 0) l.i l.logs

@@ -1,8 +1,6 @@
 -- `matrix_product::multiplied` meets its contract. The loop's invariant: the columns before c hold the product.
-use Prim.Native.Nat.{◌-◌}
 use mathlib.Core.Path.{refl}
 use native.Mathlib.Omega.{arith}
-use borrow.Author.Rules.{rules}
 use lib.ListN.{get_or}
 use Rattle.field.specs.Fields.{operations}
 use Rattle.matrix.specs.Layout.{entry}
@@ -11,18 +9,15 @@ use Rattle.matrix.proofs.LayoutLaws.{by_entries}
 use Rattle.matrix_product.proofs.MultiplyLaws.{all_near, columns_next}
 use Rattle.matrix_product.proofs.multiplied.Goals as goal
 
-pub logarithms_of-rows-requires : goal.logarithms_of-rows-requires
-logarithms_of-rows-requires c = search rules
-
 pub loop-c-init : goal.loop-c-init
-loop-c-init c = (omega arith, refl, λ r k hr hk. absurd (omega arith))
+loop-c-init c = (refl, λ r k hr hk. absurd (omega arith))
 
 pub column_logarithms-column-requires : goal.column_logarithms-column-requires
 column_logarithms-column-requires c = (c.requires, omega arith)
 
 pub fill_column-requires : goal.fill_column-requires
 fill_column-requires c = (
-  c.loop-c.invariant.1,
+  c.loop-c.invariant.0,
   c.requires,
   all_near c.requires (λ k. get_or c.args.a.now k 0) 64 c.logarithms_of-rows.result
       c.logarithms_of-rows.ensures.1,
@@ -31,20 +26,13 @@ fill_column-requires c = (
   omega arith,
 )
 
-pub overflow_add-c : goal.overflow_add-c
-overflow_add-c c = omega arith
-
-pub loop-c-smaller : goal.loop-c-smaller
-loop-c-smaller c = omega arith
-
 pub loop-c-preserved : goal.loop-c-preserved
 loop-c-preserved c = (
-  omega arith,
   c.fill_column.ensures.size,
   columns_next c.requires c.args.a.now c.logarithms_of-rows.result c.args.b.now
       c.logarithms_of-rows.ensures.1 c.loop-c.c c.loop-c.m _
       c.column_logarithms-column.result (omega arith) c.column_logarithms-column.ensures.1 c.fill_column.ensures
-      c.loop-c.invariant.2,
+      c.loop-c.invariant.1,
 )
 
 pub returns : goal.returns
@@ -52,5 +40,5 @@ unfolding matrix_product
 returns c =
     let a = c.args.a.now in
     by_entries c.loop-c.m (λ r. row_by (operations c.args.f) 8 (entry a r) (entry c.args.b.now))
-    c.loop-c.invariant.1
-    (λ r k hr hk. c.loop-c.invariant.2 r k hr (omega arith))
+    c.loop-c.invariant.0
+    (λ r k hr hk. c.loop-c.invariant.1 r k hr (omega arith))

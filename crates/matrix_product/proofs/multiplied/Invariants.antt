@@ -1,5 +1,5 @@
 -- `matrix_product::multiplied` meets its contract. The loop's invariant: the columns before c hold the product.
-use Prim.Native.Nat.{ℕ, ◌-◌, ◌≤◌, ◌<◌}
+use Prim.Native.Nat.{ℕ, ◌<◌}
 use mathlib.Core.Path.{◌≡◌}
 use lib.ListN.{length}
 use Rattle.field.specs.Fields.{operations}
@@ -8,10 +8,5 @@ use Rattle.matrix.specs.Product.{row_by}
 use Rattle.matrix_product.proofs.multiplied.Given as goal
 
 abbrev pub invariant-loop-c : goal.invariant-loop-c
-invariant-loop-c l =
-    (l.c ≤ 8)
-    × (length l.m ≡ 64)
+invariant-loop-c l = (length l.m ≡ 64)
     × ((r k : ℕ) → r < 8 → k < l.c → entry l.m r k ≡ row_by (operations l.f) 8 (entry l.a r) (entry l.b) k)
-
-abbrev pub decreases-loop-c : goal.decreases-loop-c
-decreases-loop-c l = 8 - l.c

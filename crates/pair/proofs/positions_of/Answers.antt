@@ -1,5 +1,5 @@
 -- `pair::positions_of` meets its contract. The loop's invariant: each label has its last position among the first i.
-use Prim.Native.Nat.{ℕ, ◌+◌, ◌-◌, ◌≤◌, ◌<◌}
+use Prim.Native.Nat.{ℕ, ◌+◌, ◌≤◌, ◌<◌}
 use mathlib.Core.Path.{◌≡◌, refl, sym, ap, ◌∙◌}
 use mathlib.Core.List.{List}
 use native.Mathlib.Decide.{ℕ_discrete}
@@ -50,7 +50,7 @@ passed labels positions i b before a h = before a h ∙ sym (elsewhere labels a 
 
 pub loop-i-init : goal.loop-i-init
 unfolding last_position every
-loop-i-init c = (omega arith, refl, λ a h. let zero = all_below 1 (replicate 8 0) (omega arith) refl a in omega arith)
+loop-i-init c = (refl, λ a h. let zero = all_below 1 (replicate 8 0) (omega arith) refl a in omega arith)
 
 pub loop-i-preserved : goal.loop-i-preserved
 loop-i-preserved c =
@@ -58,16 +58,16 @@ loop-i-preserved c =
     let a = c.args in
     elim c.if-label-lt8.branch [
       | then-label-lt8 w ↦ (
-        omega arith,
-        ap length w.positions-is ∙ length-set l.positions _ _ ∙ l.invariant.1,
+        ap length w.positions-is ∙ length-set l.positions _ _ ∙ l.invariant.0,
         λ k h. ap (λ (p : List ℕ). get_or p k 0) w.positions-is
-            ∙ stored a.labels.now l.positions l.i l.invariant.1 w.if-label-lt8.true l.invariant.2 k h,
+            ∙ rw (w.from-then-label-lt8.ensures, c.from.ensures)
+            (stored a.labels.now l.positions l.i l.invariant.0 (rw c.from.ensures at w.if-label-lt8.true)
+            l.invariant.1 k h),
       )
       | else-label-lt8 w ↦ (
-        omega arith,
-        ap length w.positions-is ∙ l.invariant.1,
+        ap length w.positions-is ∙ l.invariant.0,
         λ k h. ap (λ (p : List ℕ). get_or p k 0) w.positions-is
-            ∙ passed a.labels.now l.positions l.i w.if-label-lt8.false l.invariant.2 k h,
+            ∙ passed a.labels.now l.positions l.i (rw c.from.ensures at w.if-label-lt8.false) l.invariant.1 k h,
       )
     ]
 
@@ -76,5 +76,5 @@ unfolding inverse_list
 returns c =
     let l = c.loop-i in
     let labels = c.args.labels.now in
-    values_of (λ a. last_position labels a 8) 8 l.positions l.invariant.1
-    (λ a h. l.invariant.2 a h ∙ ap (last_position labels a) (omega arith))
+    values_of (λ a. last_position labels a 8) 8 l.positions l.invariant.0
+    (λ a h. l.invariant.1 a h ∙ ap (last_position labels a) (omega arith))

@@ -14,8 +14,7 @@ use Rattle.pair.proofs.WordLaws.{letter_reads}
 use Rattle.pair_multiplier.proofs.after_letter.Goals as goal
 
 pub taken-number-requires : goal.taken-number-requires
-taken-number-requires c =
-    (search rules, column_below c.args.letter c.requires.1)
+taken-number-requires c = rw c.from-g.ensures (column_below c.args.letter c.requires.1)
 
 pub multiples_of-constants-requires : goal.multiples_of-constants-requires
 multiples_of-constants-requires c =
@@ -35,20 +34,19 @@ multiply_columns-requires c =
       c.multiples_of-constants.ensures.0,
       small,
       search rules,
-      column_below c.args.letter c.requires.1,
+      rw c.from-g.ensures (column_below c.args.letter c.requires.1),
     )
 
 pub returns : goal.returns
 returns c =
     let a = c.args in
-    let made = rw c.bits_of-bits.ensures at c.multiply_columns.ensures in
+    let made = rw (c.from-g.ensures, c.bits_of-bits.ensures) at c.multiply_columns.ensures in
     let positions = c.follow.ensures ∙ ap inverse_list (sym made.exchanged) in
     let constants =
-    rw c.taken-number.ensures at
-    (rw c.modulus_of.ensures at
-    (rw c.bits_of-bits.ensures at c.multiples_of-constants.ensures.1)) in
+    rw (c.taken-number.ensures, c.from-g.ensures, c.modulus_of.ensures, c.bits_of-bits.ensures) at
+    c.multiples_of-constants.ensures.1 in
     (λ j. record {
-      matrix = c.matrix_of-after.ensures j;
+      matrix = c.matrix_of-pair.ensures j;
       labels = c.multiply_columns.new.labels;
       positions = positions j;
     })

@@ -11,8 +11,8 @@ unfolding taken_by t_value
 returns-then-negative c =
     let a = c.args in
     rw c.if-negative.true
-    (c.inverse_of.ensures ∙ ap (λ (x : ℕ). (operations a.f).inv x) c.value_of-value.ensures)
+    (c.inverse_of.ensures ∙ ap (λ (x : ℕ). (operations a.f).inv x) c.value_of.ensures)
 
 pub returns-else-negative : goal.returns-else-negative
 unfolding taken_by t_value
-returns-else-negative c = rw c.if-negative.false c.value_of.ensures
+returns-else-negative c = rw c.if-negative.false c.value_of-else-negative.ensures

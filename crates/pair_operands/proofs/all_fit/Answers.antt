@@ -6,8 +6,12 @@ use native.Mathlib.Nat.{one-mul, mod-eq_of_lt}
 use native.Mathlib.Omega.{arith}
 use lib.Dec.{ltb}
 use lib.Pow.{pow_mono, pow-lt}
+use Rattle.std.proofs.Common.{rules, tests}
+use Rattle.std.proofs.lemmas.Iterator.{YieldsList-from_slice}
+use Rattle.std.proofs.lemmas.Iterator.Search.{all_from_yields_List}
 use Rattle.base.specs.Lists.{every}
 use Rattle.base.proofs.DigitLaws.{below_all}
+use Rattle.pair_operands.proofs.EveryLaws.{every_all}
 use Rattle.pair_operands.proofs.all_fit.Goals as goal
 
 -- the shift gives the limit 2^b
@@ -23,4 +27,6 @@ returns-then-bits-ge8 c =
 pub returns : goal.returns
 returns c =
     let a = c.args in
-    c.all_below.ensures ∙ ap (λ (n : ℕ). every (λ x. ltb x n) a.xs.now) (limit_is a.bits c.if-bits-ge8.false)
+    all_from_yields_List (λ x. ltb x (1 * 2 ^ a.bits % 2 ^ 8)) _ _ _ c.all.ensures.ran
+    (YieldsList-from_slice a.xs.now cc) (λ x b q k. search (rules, tests))
+    ∙ every_all _ _ ∙ ap (λ (n : ℕ). every (λ x. ltb x n) a.xs.now) (limit_is a.bits c.if-bits-ge8.false)

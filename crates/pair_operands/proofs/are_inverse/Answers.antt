@@ -1,6 +1,6 @@
 -- `pair_operands::are_inverse` meets its contract. The loop's invariant: the labels before place i are below 8, and
 -- their positions are where they stand.
-use Prim.Native.Nat.{ℕ, ◌+◌, ◌-◌, ◌<◌}
+use Prim.Native.Nat.{ℕ, ◌+◌, ◌<◌}
 use mathlib.Core.Path.{◌≡◌, sym}
 use mathlib.Core.Bool.{false}
 use mathlib.Core.List.{List}
@@ -13,7 +13,7 @@ use Rattle.word.proofs.PositionLaws.{inverse_order, order_below, position_there,
 use Rattle.pair_operands.proofs.are_inverse.Goals as goal
 
 pub loop-i-init : goal.loop-i-init
-loop-i-init c = (omega arith, λ k h. absurd (omega arith))
+loop-i-init c = λ k h. absurd (omega arith)
 
 -- a place where the label or its position is wrong refutes the claim
 refuted : (labels positions : List ℕ) → length labels ≡ 8 → (i : ℕ) → i < 8
@@ -33,11 +33,11 @@ returns-then-label-ge8 c =
     sym (refuted c.args.labels.now c.args.positions.now c.requires.0 l.i (omega arith)
     (λ p. let below = p.0 in omega (arith, below, c.if-label-ge8.true)))
 
-pub returns-then-position-i : goal.returns-then-position-i
-returns-then-position-i c =
+pub returns-then-from-i : goal.returns-then-from-i
+returns-then-from-i c =
     let l = c.loop-i in
     sym (refuted c.args.labels.now c.args.positions.now c.requires.0 l.i (omega arith)
-    (λ p. c.if-position-i.true p.1))
+    (λ p. let e = p.1 in c.if-from-i.true cc))
 
 -- the places before i have the property, and then also place i
 more : (labels positions : List ℕ) (i : ℕ)
@@ -54,10 +54,10 @@ pub loop-i-preserved : goal.loop-i-preserved
 loop-i-preserved c =
     let l = c.loop-i in
     let a = c.args in
-    (omega arith, more a.labels.now a.positions.now l.i l.invariant.1 (omega arith) c.if-position-i.false)
+    more a.labels.now a.positions.now l.i l.invariant (omega arith) cc
 
 pub returns : goal.returns
 returns c =
     let l = c.loop-i in
     sym (inverse_by_places c.args.labels.now c.args.positions.now c.requires.0 c.requires.1
-    (λ i h. l.invariant.1 i (omega arith)))
+    (λ i h. l.invariant i (omega arith)))

@@ -1,5 +1,4 @@
 -- `pair_powers::powers_of` meets its contract. The loop's invariant: the constants of the first j levels are stored.
-use Prim.Native.Nat.{◌-◌}
 use mathlib.Core.Path.{◌≡◌, refl}
 use native.Mathlib.Omega.{arith}
 use lib.ListN.{replicate}
@@ -10,24 +9,16 @@ use Rattle.pair_powers.proofs.powers_of.Goals as goal
 
 pub loop-j-init : goal.loop-j-init
 loop-j-init c =
-    let a = c.args in (
-      omega arith,
-      none_table (polynomials a.bits a.modulus) a.bits a.constants.now (replicate 384 0) refl
-          (zero_bytes 384),
-    )
-
-pub level_powers-requires : goal.level_powers-requires
-level_powers-requires c =
-    let l = c.loop-j in
-    (l.invariant.1.size, l.invariant.1.bytes, c.requires.0, c.requires.1, c.requires.2, omega arith)
+    let a = c.args in
+    none_table (polynomials a.bits a.modulus) a.bits a.constants.now (replicate 384 0) refl (zero_bytes 384)
 
 pub loop-j-preserved : goal.loop-j-preserved
 loop-j-preserved c =
     let l = c.loop-j in
-    (omega arith, more_table l.j c.requires.1 l.invariant.1 c.level_powers.ensures)
+    more_table l.j c.requires.1 l.invariant c.level_powers.ensures
 
 pub returns : goal.returns
 returns c =
     let l = c.loop-j in
     let e : l.j ≡ 4 = omega arith in
-    rw e at l.invariant.1
+    rw e at l.invariant

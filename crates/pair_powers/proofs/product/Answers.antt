@@ -6,4 +6,5 @@ use Rattle.pair_powers.proofs.product.Goals as goal
 pub returns : goal.returns
 returns c =
     let a = c.args in
-    product_is a.bits a.constants.now a.at a.number c.times-product.result (omega arith) c.times-product.ensures
+    product_is a.bits a.constants.now a.at a.number c.times-product.result (omega arith)
+    (rw c.from.ensures at c.times-product.ensures)

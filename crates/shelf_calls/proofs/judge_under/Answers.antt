@@ -73,18 +73,18 @@ returns-then-not-is_digest c =
     by_digest a.publisher a.key a.digest.now a.word.now a.shelf.now
     (eqb-false (length a.digest.now) _ (sym c.is_digest.ensures ∙ c.if-not-is_digest.true))
 
-pub returns-then-word_answer-ne0 : goal.returns-then-word_answer-ne0
-returns-then-word_answer-ne0 c =
+pub returns-then-read-ne0 : goal.returns-then-read-ne0
+returns-then-read-ne0 c =
     let goes : let a = c.args in Goes a.key a.digest.now =
     eqb-true (length c.args.digest.now) _ (sym c.is_digest.ensures ∙ c.if-not-is_digest.false) in
     let a = c.args in
     by_word a.publisher a.key a.digest.now a.word.now a.shelf.now goes
-    c.read_word-read.ensures.answer_is c.if-word_answer-ne0.true
+    c.read_word-read.ensures.answer_is c.if-read-ne0.true
 
 pub is_admitted-requires : goal.is_admitted-requires
 is_admitted-requires c =
     let passed : word_answer c.args.word.now ≡ 0 =
-    sym c.read_word-read.ensures.answer_is ∙ c.if-word_answer-ne0.false in
+    sym c.read_word-read.ensures.answer_is ∙ c.if-read-ne0.false in
     let letters_few : c.read_word-read.result.letters ≤ 10000 =
     omega (arith, c.read_word-read.ensures.count_is, few c.args.word.now passed) in
     (search rules, search rules, letters_few)
@@ -94,7 +94,7 @@ returns-then-not-is_admitted c =
     let goes : let a = c.args in Goes a.key a.digest.now =
     eqb-true (length c.args.digest.now) _ (sym c.is_digest.ensures ∙ c.if-not-is_digest.false) in
     let passed : word_answer c.args.word.now ≡ 0 =
-    sym c.read_word-read.ensures.answer_is ∙ c.if-word_answer-ne0.false in
+    sym c.read_word-read.ensures.answer_is ∙ c.if-read-ne0.false in
     let a = c.args in
     by_sum a.publisher a.key a.digest.now a.word.now a.shelf.now goes passed
     c.read_word-read.ensures.count_is (sym c.is_admitted.ensures ∙ c.if-not-is_admitted.true)
@@ -102,7 +102,7 @@ returns-then-not-is_admitted c =
 pub charge-requires : goal.charge-requires
 charge-requires c =
     let passed : word_answer c.args.word.now ≡ 0 =
-    sym c.read_word-read.ensures.answer_is ∙ c.if-word_answer-ne0.false in
+    sym c.read_word-read.ensures.answer_is ∙ c.if-read-ne0.false in
     let letters_few : c.read_word-read.result.letters ≤ 10000 =
     omega (arith, c.read_word-read.ensures.count_is, few c.args.word.now passed) in
     (search rules, search rules, letters_few)
@@ -112,7 +112,7 @@ returns c =
     let goes : let a = c.args in Goes a.key a.digest.now =
     eqb-true (length c.args.digest.now) _ (sym c.is_digest.ensures ∙ c.if-not-is_digest.false) in
     let passed : word_answer c.args.word.now ≡ 0 =
-    sym c.read_word-read.ensures.answer_is ∙ c.if-word_answer-ne0.false in
+    sym c.read_word-read.ensures.answer_is ∙ c.if-read-ne0.false in
     let a = c.args in
     by_verdict a.publisher a.key a.digest.now a.word.now a.shelf.now goes
     passed c.read_word-read.ensures.count_is (sym c.is_admitted.ensures ∙ c.if-not-is_admitted.false)

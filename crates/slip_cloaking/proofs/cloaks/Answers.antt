@@ -18,14 +18,14 @@ use Rattle.slip_cloaking.specs.Cloaking.{does_come_back, is_list, cloak_question
 use Rattle.slip_cloaking.proofs.CloakLaws.{key_refused, list_refused, past_list, refused, answered}
 use Rattle.slip_cloaking.proofs.cloaks.Goals as goal
 
-pub returns-then-refusal-ne0 : goal.returns-then-refusal-ne0
-returns-then-refusal-ne0 c =
+pub returns-then-read-ne0 : goal.returns-then-read-ne0
+returns-then-read-ne0 c =
     let key = c.args.key.now in
     let word = c.args.word.now in
     let labels = c.args.labels.now in
     let e = c.read_key-read.ensures.answer_is in
     refused key labels word _ c.refused.ensures
-    (key_refused key labels word (λ z. c.if-refusal-ne0.true (e ∙ z)) ∙ sym e) c.if-refusal-ne0.true
+    (key_refused key labels word (λ z. c.if-read-ne0.true (e ∙ z)) ∙ sym e) c.if-read-ne0.true
 
 pub returns-then-not-is_list : goal.returns-then-not-is_list
 returns-then-not-is_list c =
@@ -33,25 +33,25 @@ returns-then-not-is_list c =
     let word = c.args.word.now in
     let labels = c.args.labels.now in
     let key_passed : key_answer key ≡ 0 =
-    sym c.read_key-read.ensures.answer_is ∙ c.if-refusal-ne0.false in
+    sym c.read_key-read.ensures.answer_is ∙ c.if-read-ne0.false in
     refused key labels word 25 c.refused-then-not-is_list.ensures
     (list_refused key labels word key_passed
     (sym c.is_list.ensures ∙ c.if-not-is_list.true))
     (omega arith)
 
-pub returns-then-refused-ne0 : goal.returns-then-refused-ne0
-returns-then-refused-ne0 c =
+pub returns-then-found-ne0 : goal.returns-then-found-ne0
+returns-then-found-ne0 c =
     let key = c.args.key.now in
     let word = c.args.word.now in
     let labels = c.args.labels.now in
     let key_passed : key_answer key ≡ 0 =
-    sym c.read_key-read.ensures.answer_is ∙ c.if-refusal-ne0.false in
+    sym c.read_key-read.ensures.answer_is ∙ c.if-read-ne0.false in
     let list_passed : is_list labels ≡ true =
     sym c.is_list.ensures ∙ c.if-not-is_list.false in
     let past_2 : first_no (cloak_questions key labels word) ≡ word_answer word =
     past_list key labels word key_passed list_passed in
-    refused key labels word _ c.refused-then-refused-ne0.ensures
-    (past_2 ∙ sym c.read_word-word_read.ensures.answer_is) c.if-refused-ne0.true
+    refused key labels word _ c.refused-then-found-ne0.ensures
+    (past_2 ∙ sym c.read_word-found.ensures.answer_is) c.if-found-ne0.true
 
 pub comes_back-requires : goal.comes_back-requires
 comes_back-requires c =
@@ -60,7 +60,7 @@ comes_back-requires c =
     let list_passed : is_list labels ≡ true =
     sym c.is_list.ensures ∙ c.if-not-is_list.false in
     let word_passed : word_answer word ≡ 0 =
-    sym c.read_word-word_read.ensures.answer_is ∙ c.if-refused-ne0.false in
+    sym c.read_word-found.ensures.answer_is ∙ c.if-found-ne0.false in
     (eqb-true (length labels) 8 (and_left _ _ list_passed), word_passed)
 
 pub returns : goal.returns
@@ -69,11 +69,11 @@ returns c =
     let word = c.args.word.now in
     let labels = c.args.labels.now in
     let key_passed : key_answer key ≡ 0 =
-    sym c.read_key-read.ensures.answer_is ∙ c.if-refusal-ne0.false in
+    sym c.read_key-read.ensures.answer_is ∙ c.if-read-ne0.false in
     let list_passed : is_list labels ≡ true =
     sym c.is_list.ensures ∙ c.if-not-is_list.false in
     let word_passed : word_answer word ≡ 0 =
-    sym c.read_word-word_read.ensures.answer_is ∙ c.if-refused-ne0.false in
+    sym c.read_word-found.ensures.answer_is ∙ c.if-found-ne0.false in
     let past_2 : first_no (cloak_questions key labels word) ≡ word_answer word =
     past_list key labels word key_passed list_passed in
     let key_is = c.read_key-read.ensures.key_is ∙ granted_zero _ _ key_passed in

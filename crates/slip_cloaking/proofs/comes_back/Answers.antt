@@ -3,12 +3,15 @@ use Prim.Native.Nat.{ℕ}
 use mathlib.Core.Path.{◌≡◌, sym, ap, ◌∙◌}
 use mathlib.Core.Bool.{Bool, ◌&&◌}
 use mathlib.Core.List.{List}
+use lib.Dec.{eqb}
+use lib.Pointwise.{pointwise}
 use Rattle.base.specs.Lists.{equal}
 use Rattle.field.specs.Fields.{operations}
 use Rattle.field.specs.declared.Field.{Field}
 use Rattle.word.specs.Words.{codes}
 use Rattle.pair.specs.declared.Pair.{Pair}
 use Rattle.pair.specs.Action.{pair_of, word_on, start}
+use Rattle.key.proofs.Compared.{pointwise_equal}
 use Rattle.slip_cloaking.specs.Cloaking.{does_come_back}
 use Rattle.slip_cloaking.proofs.CloakLaws.{back}
 use Rattle.slip_cloaking.proofs.comes_back.Goals as goal
@@ -18,21 +21,26 @@ module _ (f : Field) (ts labels word : List ℕ) where
   abbrev onto : Pair → Pair
   onto p = word_on (operations f) ts (codes word) (pair_of p.matrix p.labels)
 
-  comes : {copied : List ℕ} {begin before after : Pair} {same : Bool} → begin ≡ start → copied ≡ labels
-      → before ≡ pair_of begin.matrix copied → after ≡ onto before → same ≡ equal after.matrix begin.matrix
-      → does_come_back (operations f) ts labels (codes word) ≡ (same && equal after.labels labels)
-  comes {copied} {begin} {before} {after} s e w a h =
-      back (operations f) ts labels (codes word) copied begin after s e (a ∙ ap onto w) h
+  comes : {list : List ℕ} {begin before after : Pair} {same : Bool} → begin ≡ start → list ≡ labels
+      → before ≡ pair_of begin.matrix list → after ≡ onto before → same ≡ pointwise eqb after.matrix before.matrix
+      → does_come_back (operations f) ts labels (codes word) ≡ (same && pointwise eqb after.labels before.labels)
+  comes {list} {begin} {before} {after} {same} s e w a h =
+      back (operations f) ts labels (codes word) list begin after s e (a ∙ ap onto w)
+      (h ∙ pointwise_equal after.matrix before.matrix ∙ ap (λ (p : Pair). equal after.matrix p.matrix) w)
+      ∙ ap (λ (b : Bool). same && b)
+      (sym (pointwise_equal after.labels before.labels
+      ∙ ap (equal after.labels) (ap (λ (p : Pair). p.labels) w ∙ e)))
 
-pub returns-then-not-equal : goal.returns-then-not-equal
-returns-then-not-equal c =
+pub returns-then-eq : goal.returns-then-eq
+returns-then-eq c =
     let a = c.args in
-    sym (comes a.f a.t_values.now a.labels.now a.word.now c.start-start.ensures c.eight-copied.ensures
-    c.with-before.ensures c.carry_file-after.ensures (sym c.if-not-equal.true ∙ c.equal.ensures))
+    c.eq-then-eq.ensures
+    ∙ sym (comes a.f a.t_values.now a.labels.now a.word.now c.start.ensures c.copy_from_slice.ensures.after
+    c.with-before.ensures c.carry_file-after.ensures (sym c.if-eq.true ∙ c.eq.ensures))
 
-pub returns : goal.returns
-returns c =
+pub returns-else-eq : goal.returns-else-eq
+returns-else-eq c =
     let a = c.args in
-    c.equal-2.ensures
-    ∙ sym (comes a.f a.t_values.now a.labels.now a.word.now c.start-start.ensures c.eight-copied.ensures
-    c.with-before.ensures c.carry_file-after.ensures (sym c.if-not-equal.false ∙ c.equal.ensures))
+    c.if-eq.false
+    ∙ sym (comes a.f a.t_values.now a.labels.now a.word.now c.start.ensures c.copy_from_slice.ensures.after
+    c.with-before.ensures c.carry_file-after.ensures (sym c.if-eq.false ∙ c.eq.ensures))

@@ -1,6 +1,6 @@
 -- `slip_digest::encode_into` meets its contract. The loop's invariant: the first n codes are the braid of the first k
 -- half bytes.
-use Prim.Native.Nat.{ℕ, ◌+◌, ◌-◌, ◌<◌}
+use Prim.Native.Nat.{ℕ, ◌<◌}
 use mathlib.Core.Path.{refl, sym, ap, ◌∙◌}
 use mathlib.Core.List.{List, ◌++◌}
 use native.Mathlib.Omega.{arith}
@@ -14,7 +14,7 @@ use Rattle.slip_digest.proofs.encode_into.Goals as goal
 
 pub loop-k-init : goal.loop-k-init
 unfolding braid_of
-loop-k-init c = (omega arith, omega arith, refl, refl)
+loop-k-init c = (omega arith, refl, refl)
 
 pub append-n-requires : goal.append-n-requires
 append-n-requires c =
@@ -29,22 +29,15 @@ loop-k-preserved c =
     let e = c.append-n.ensures in
     let k : l.k < length (halves digest) = omega (arith, length_halves digest) in (
       omega arith,
-      omega arith,
-      c.append-n.auto.codes ∙ l.invariant.2,
-      e.2 ∙ ap (λ (w : List ℕ). w ++ half_byte_braid c.half.result) l.invariant.3
+      c.append-n.auto.codes ∙ l.invariant.1,
+      e.2 ∙ ap (λ (w : List ℕ). w ++ half_byte_braid c.half.result) l.invariant.2
           ∙ ap (λ (h : ℕ). braid_of (take l.k (halves digest)) ++ half_byte_braid h) c.half.ensures
           ∙ sym (braid_of_more (halves digest) l.k k),
     )
-
-pub shape_of-codes : goal.shape_of-codes
-shape_of-codes c = c.loop-k.invariant.2
 
 pub returns : goal.returns
 unfolding encoded
 returns c =
     let l = c.loop-k in
     let digest = c.args.digest.now in
-    (omega arith, l.invariant.3 ∙ ap braid_of (take_all l.k (halves digest) (omega (arith, length_halves digest))))
-
-pub half-requires : goal.half-requires
-half-requires c = tt
+    (omega arith, l.invariant.2 ∙ ap braid_of (take_all l.k (halves digest) (omega (arith, length_halves digest))))

@@ -1,6 +1,6 @@
 -- `slip_digest::encode_into` meets its contract. The loop's invariant: the first n codes are the braid of the first k
 -- half bytes.
-use Prim.Native.Nat.{◌*◌, ◌-◌, ◌≤◌}
+use Prim.Native.Nat.{◌*◌, ◌≤◌}
 use mathlib.Core.Path.{◌≡◌}
 use lib.ListN.{length, take}
 use Rattle.base.specs.Digits.{halves}
@@ -9,8 +9,5 @@ use Rattle.slip_digest.proofs.encode_into.Given as goal
 
 abbrev pub invariant-loop-k : goal.invariant-loop-k
 invariant-loop-k l =
-    (l.k ≤ 2 * length l.digest) × (l.n ≤ 20 * l.k) × (length l.codes ≡ length l.initial.codes)
+    (l.n ≤ 20 * l.k) × (length l.codes ≡ length l.initial.codes)
     × (take l.n l.codes ≡ braid_of (take l.k (halves l.digest)))
-
-abbrev pub decreases-loop-k : goal.decreases-loop-k
-decreases-loop-k l = 2 * length l.digest - l.k

@@ -1,5 +1,5 @@
 -- A run of codes, as the encoder fills it in.
-use Rattle.std.specs.Prelude.{ℕ, ◌+◌, ◌*◌, ◌-◌, ◌%◌, List}
+use Rattle.std.specs.Prelude.{ℕ, ◌+◌, ◌*◌, ◌%◌, List}
 use Rattle.base.specs.Lists.{values}
 
 -- n codes, of which each is `step` more than the last, modulo 16. Only a private contract cites this definition.

@@ -1,9 +1,7 @@
 -- `slip_digest_braid::by_letters` meets its contract: the codes are the digest's braid, and letters.
 use Prim.Native.Nat.{ℕ}
-use mathlib.Core.Path.{sym, ap, ap₂, ◌∙◌}
+use mathlib.Core.Path.{ap, ap₂, ◌∙◌}
 use mathlib.Core.List.{List}
-use native.Mathlib.Omega.{arith}
-use lib.Seq.{length-take-le}
 use Rattle.base.specs.Lists.{every}
 use Rattle.field.specs.Fields.{operations}
 use Rattle.word.specs.Letters.{is_letter}
@@ -11,15 +9,6 @@ use Rattle.pair.specs.declared.Pair.{Pair}
 use Rattle.pair.specs.Action.{pair_of, word_on, start}
 use Rattle.slip_digest.proofs.Encoded.{encoded_letters}
 use Rattle.slip_digest_braid.proofs.by_letters.Goals as goal
-
-pub slice_bounds-carry_letters-end : goal.slice_bounds-carry_letters-end
-slice_bounds-carry_letters-end c =
-    let e = c.encode_into-n in
-    sym (length-take-le e.result e.new.codes (omega (arith, e.ensures.0, e.auto)))
-
-pub carry_letters-reached-requires : goal.carry_letters-reached-requires
-carry_letters-reached-requires c =
-    ap (every is_letter) c.encode_into-n.ensures.1 ∙ encoded_letters c.args.digest.now
 
 pub returns : goal.returns
 unfolding start
@@ -29,3 +18,7 @@ returns c =
     (c.carry_letters-reached.ensures
     ∙ ap₂ (λ (w : List ℕ) (p : Pair). word_on (operations a.f) a.t_values.now w (pair_of p.matrix p.labels))
     c.encode_into-n.ensures.1 c.start.ensures)
+
+pub carry_letters-reached-requires : goal.carry_letters-reached-requires
+carry_letters-reached-requires c =
+    ap (every is_letter) c.encode_into-n.ensures.1 ∙ encoded_letters c.args.digest.now

@@ -6,10 +6,10 @@ use Rattle.field.proofs.Fields.{binary}
 use Rattle.pair.proofs.GoodLaws.{tested_values}
 use Rattle.slip_digest_braid.proofs.digest_matrix.Goals as goal
 
-pub returns : goal.returns
-returns c =
+pub returns-then-all_nonzero : goal.returns-then-all_nonzero
+returns-then-all_nonzero c =
     let a = c.args in
     c.short_matrix.ensures (binary a.f)
     (tested_values a.f a.t_values.now (omega arith)
-    (sym c.are_elements.ensures ∙ c.if-not-are_elements.false)
-    (sym c.all_nonzero.ensures ∙ c.if-not-all_nonzero.false))
+    (sym (rw c.bits_of.ensures at c.all_fit.ensures) ∙ c.if-all_fit.true)
+    (sym c.all_nonzero.ensures ∙ c.if-all_nonzero.true))

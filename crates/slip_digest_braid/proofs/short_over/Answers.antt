@@ -1,21 +1,8 @@
 -- `slip_digest_braid::short_over` meets its contract: the loop begins with the starting pair's columns and with every
 -- label at its own place.
 use Rattle.base.specs.Lists.{values_from}
-use Rattle.pair.proofs.NamedLabels.{begun}
 use Rattle.slip_digest_braid.proofs.ShortBraid.{short_is}
 use Rattle.slip_digest_braid.proofs.short_over.Goals as goal
-
-pub powers_of-powers-requires : goal.powers_of-powers-requires
-powers_of-powers-requires c =
-    (c.constants_by_place-constants.ensures.bytes, c.requires.narrow, c.requires.degree)
-
-pub half_bytes-requires : goal.half_bytes-requires
-unfolding values_from
-half_bytes-requires c = (
-  begun c.requires.narrow c.constants_by_place-constants.result c.columns_of-columns.result
-      c.constants_by_place-constants.ensures.bytes c.columns_of-columns.ensures.0,
-  c.powers_of-powers.ensures.bytes,
-)
 
 pub returns : goal.returns
 unfolding values_from

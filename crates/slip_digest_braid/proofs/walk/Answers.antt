@@ -23,12 +23,12 @@ run-requires-else-from-to c =
           ∙ way_letters a.from a.to c.requires.1 c.requires.2,
     )
 
-pub returns-then-from-to : goal.returns-then-from-to
-returns-then-from-to c =
-    let a = c.args in
-    rw (row_up a.from a.to c.requires.1 c.requires.2 (omega arith)) at c.run.ensures
-
 pub returns-else-from-to : goal.returns-else-from-to
 returns-else-from-to c =
     let a = c.args in
     rw (row_down a.from a.to c.requires.1 c.requires.2 (omega arith)) at c.run-else-from-to.ensures
+
+pub returns-then-from-to : goal.returns-then-from-to
+returns-then-from-to c =
+    let a = c.args in
+    rw (row_up a.from a.to c.requires.1 c.requires.2 (omega arith)) at c.run.ensures

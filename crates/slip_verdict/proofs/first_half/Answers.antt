@@ -26,27 +26,27 @@ module _ (key digest : List ℕ) {answer : ℕ} {held : Key} (read : ReadsKey ke
   tested : {b : Bool} → b ≡ is_digest held.field digest → is_digest (key_of key).field digest ≡ b
   tested e = sym (e ∙ ap (λ (k : Key). is_digest k.field digest) key_is)
 
-pub returns-then-refusal-ne0 : goal.returns-then-refusal-ne0
-returns-then-refusal-ne0 c =
+pub returns-then-read-ne0 : goal.returns-then-read-ne0
+returns-then-read-ne0 c =
     let key = c.args.key.now in
     let digest = c.args.digest.now in
     let e = c.read_key-read.ensures.answer_is in
     refused key digest _ c.refused.ensures
-    (key_refused key digest (λ z. c.if-refusal-ne0.true (e ∙ z)) ∙ sym e) c.if-refusal-ne0.true
+    (key_refused key digest (λ z. c.if-read-ne0.true (e ∙ z)) ∙ sym e) c.if-read-ne0.true
 
 pub returns-then-not-is_digest : goal.returns-then-not-is_digest
 returns-then-not-is_digest c =
     let key = c.args.key.now in
     let digest = c.args.digest.now in
     let read = c.read_key-read.ensures in
-    let z = c.if-refusal-ne0.false in
+    let z = c.if-read-ne0.false in
     refused key digest 8 c.refused-then-not-is_digest.ensures
     (digest_refused key digest (key_passed key digest read z)
     (tested key digest read z c.is_digest.ensures ∙ c.if-not-is_digest.true))
     (omega arith)
 
-pub half_of-half-requires : goal.half_of-half-requires
-half_of-half-requires c =
+pub half_of-requires : goal.half_of-requires
+half_of-requires c =
     let digest = c.args.digest.now in
     digest_fits c.read_key-read.result.key.field digest
     (eqb-true (length digest) _ (sym c.is_digest.ensures ∙ c.if-not-is_digest.false))
@@ -56,8 +56,8 @@ returns c =
     let key = c.args.key.now in
     let digest = c.args.digest.now in
     let read = c.read_key-read.ensures in
-    let z = c.if-refusal-ne0.false in
+    let z = c.if-read-ne0.false in
     made key digest
     (none_refused key digest (key_passed key digest read z)
     (tested key digest read z c.is_digest.ensures ∙ c.if-not-is_digest.false))
-    (c.half_of-half.ensures ∙ ap (λ (k : Key). half_of k digest) (key_is key digest read z))
+    (c.half_of.ensures ∙ ap (λ (k : Key). half_of k digest) (key_is key digest read z))

@@ -7,6 +7,6 @@ returns c =
     let a = c.args in
     let key = a.held in
     let t =
-    target_is key a.digest.now c.digest_matrix-first.result c.matrix_product-target.result c.digest_matrix-first.ensures
-    c.matrix_product-target.ensures in
+    target_is key a.digest.now c.digest_matrix-first.result c.matrix_product.result c.digest_matrix-first.ensures
+    c.matrix_product.ensures in
     λ j. record { field = key.field; t_values = key.t_values; pair = key.pair; target = t j }

@@ -21,8 +21,8 @@ returns-then-not-is_digest c =
     sym (digest_8 key digest word
     (eqb-false (length digest) _ (sym c.is_digest.ensures ∙ c.if-not-is_digest.true)))
 
-pub returns-then-refusal-ne0 : goal.returns-then-refusal-ne0
-returns-then-refusal-ne0 c =
+pub returns-then-read-ne0 : goal.returns-then-read-ne0
+returns-then-read-ne0 c =
     let key = c.args.held in
     let digest = c.args.digest.now in
     let word = c.args.word.now in
@@ -31,10 +31,10 @@ returns-then-refusal-ne0 c =
     let e = c.read_word-read.ensures.answer_is in
     e
     ∙ sym (past_digest key digest word digest_passed
-    ∙ word_number (half_of key digest) word (λ z. c.if-refusal-ne0.true (e ∙ z)))
+    ∙ word_number (half_of key digest) word (λ z. c.if-read-ne0.true (e ∙ z)))
 
-pub half_of-half-requires : goal.half_of-half-requires
-half_of-half-requires c =
+pub half_of-requires : goal.half_of-requires
+half_of-requires c =
     let key = c.args.held in
     let digest = c.args.digest.now in
     let digest_passed : Goes key digest =
@@ -49,9 +49,9 @@ returns c =
     let digest_passed : Goes key digest =
     eqb-true (length digest) _ (sym c.is_digest.ensures ∙ c.if-not-is_digest.false) in
     let word_passed : word_answer word ≡ 0 =
-    sym c.read_word-read.ensures.answer_is ∙ c.if-refusal-ne0.false in
+    sym c.read_word-read.ensures.answer_is ∙ c.if-read-ne0.false in
     c.copy_answer.ensures
-    ∙ ap (λ (h : Half). first_no (matrix_questions (signed_by h (codes word)) h.target)) c.half_of-half.ensures
+    ∙ ap (λ (h : Half). first_no (matrix_questions (signed_by h (codes word)) h.target)) c.half_of.ensures
     ∙ sym (past_digest key digest word digest_passed
     ∙ past_word (half_of key digest) word word_passed)
 
@@ -59,5 +59,5 @@ pub copy_answer-requires : goal.copy_answer-requires
 copy_answer-requires c =
     let word = c.args.word.now in
     let word_passed : word_answer word ≡ 0 =
-    sym c.read_word-read.ensures.answer_is ∙ c.if-refusal-ne0.false in
+    sym c.read_word-read.ensures.answer_is ∙ c.if-read-ne0.false in
     word_passed

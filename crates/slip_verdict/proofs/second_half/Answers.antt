@@ -40,8 +40,8 @@ returns-then-not-both_invertible c =
     sym (past_6
     ∙ fails 26 (copy_questions half word) (sym c.both_invertible.ensures ∙ c.if-not-both_invertible.true))
 
-pub returns-then-refused-ne0 : goal.returns-then-refused-ne0
-returns-then-refused-ne0 c =
+pub returns-then-read-ne0 : goal.returns-then-read-ne0
+returns-then-read-ne0 c =
     let half = c.args.half in
     let word = c.args.word.now in
     let past_6 : first_no (second_half_questions half word) ≡ first_no (rest half word) =
@@ -50,7 +50,7 @@ returns-then-refused-ne0 c =
     past_6 ∙ passes 26 (copy_questions half word)
     (sym c.both_invertible.ensures ∙ c.if-not-both_invertible.false) in
     let e = c.read_word-read.ensures.answer_is in
-    e ∙ sym (past_26 ∙ word_number half word (λ z. c.if-refused-ne0.true (e ∙ z)))
+    e ∙ sym (past_26 ∙ word_number half word (λ z. c.if-read-ne0.true (e ∙ z)))
 
 pub returns : goal.returns
 returns c =
@@ -62,12 +62,12 @@ returns c =
     past_6 ∙ passes 26 (copy_questions half word)
     (sym c.both_invertible.ensures ∙ c.if-not-both_invertible.false) in
     let word_passed : word_answer word ≡ 0 =
-    sym c.read_word-read.ensures.answer_is ∙ c.if-refused-ne0.false in
+    sym c.read_word-read.ensures.answer_is ∙ c.if-read-ne0.false in
     c.copy_answer.ensures ∙ sym (past_26 ∙ past_word half word word_passed)
 
 pub copy_answer-requires : goal.copy_answer-requires
 copy_answer-requires c =
     let word = c.args.word.now in
     let word_passed : word_answer word ≡ 0 =
-    sym c.read_word-read.ensures.answer_is ∙ c.if-refused-ne0.false in
+    sym c.read_word-read.ensures.answer_is ∙ c.if-read-ne0.false in
     word_passed

@@ -8,20 +8,20 @@ use Rattle.slip_verdict.specs.Verdict.{slip_questions}
 use Rattle.slip_verdict.proofs.VerdictIff.{key_refused, past_key}
 use Rattle.slip_verdict.proofs.verify.Goals as goal
 
-pub returns-then-refusal-ne0 : goal.returns-then-refusal-ne0
-returns-then-refusal-ne0 c =
+pub returns-then-read-ne0 : goal.returns-then-read-ne0
+returns-then-read-ne0 c =
     let key = c.args.key.now in
     let digest = c.args.digest.now in
     let word = c.args.word.now in
     let e = c.read_key-read.ensures.answer_is in
-    e ∙ sym (key_refused key digest word (λ z. c.if-refusal-ne0.true (e ∙ z)))
+    e ∙ sym (key_refused key digest word (λ z. c.if-read-ne0.true (e ∙ z)))
 
 pub returns : goal.returns
 returns c =
     let key = c.args.key.now in
     let digest = c.args.digest.now in
     let word = c.args.word.now in
-    let k : key_answer key ≡ 0 = sym c.read_key-read.ensures.answer_is ∙ c.if-refusal-ne0.false in
+    let k : key_answer key ≡ 0 = sym c.read_key-read.ensures.answer_is ∙ c.if-read-ne0.false in
     c.judge.ensures
     ∙ ap (λ (q : Key). first_no (slip_questions q digest word))
     (c.read_key-read.ensures.key_is ∙ granted_zero _ _ k)

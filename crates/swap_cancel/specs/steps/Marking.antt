@@ -1,6 +1,6 @@
 -- A word in which letters that cancel are marked. Only private contracts cite these definitions.
 use Rattle.std.specs.Prelude.{ℕ, ◌+◌, ◌-◌, ◌≤◌, ◌<◌, ◌≡◌, true, cond, List, [], ◌∷◌, ◌++◌, ◌⊎◌, length, take, drop}
-use Rattle.std.specs.Prelude.{get_or}
+use Rattle.std.specs.Prelude.{get_or, Option, Some, None}
 use Rattle.word.specs.Letters.{is_letter, generator, inverse}
 use Rattle.word.specs.Words.{max_letters}
 use Rattle.swap_cancel.specs.SwapCancel.{letter_behind}
@@ -45,13 +45,12 @@ abbrev pub Packed : ℕ → ℕ → List ℕ → List ℕ → ℕ → Type 0
 Packed n c before after r =
     (r ≤ n + 1) × (take r after ≡ take n before ++ kept (c ∷ [])) × (drop (n + 1) after ≡ drop (n + 1) before)
 
--- place p - 1 holds the letter that cancels with c
-pub record Partner (codes last : List ℕ) (c p : ℕ) : Type 0 where
-  pub some : 0 < p
-  pub own : get_or last (generator c + 1) 0 ≡ p
-  pub below : get_or last (generator c) 0 < p
-  pub above : get_or last (generator c + 2) 0 < p
-  pub cancels : get_or codes (p - 1) 0 ≡ inverse c
+-- place `at` holds the letter that cancels with c
+pub record Partner (codes last : List ℕ) (c at : ℕ) : Type 0 where
+  pub own : get_or last (generator c + 1) 0 ≡ at + 1
+  pub below : get_or last (generator c) 0 ≤ at
+  pub above : get_or last (generator c + 2) 0 ≤ at
+  pub cancels : get_or codes at 0 ≡ inverse c
 
 -- No letter cancels with c: the latest letter of c's generator has one of a neighbouring generator after it, or is not
 -- the inverse of c.
@@ -61,6 +60,7 @@ Alone codes last c =
     ⊎ ((get_or last (generator c + 1) 0 ≤ get_or last (generator c + 2) 0)
     ⊎ (get_or codes (get_or last (generator c + 1) 0 - 1) 0 ≡ inverse c → ⊥))
 
--- place p - 1 holds the letter that cancels with c, or p is 0 and no letter does
-abbrev pub PartnerOrNone : List ℕ → List ℕ → ℕ → ℕ → Type 0
-PartnerOrNone codes last c p = ((p ≡ 0) × Alone codes last c) ⊎ Partner codes last c p
+-- a place that holds the letter that cancels with c, or none and no letter does
+abbrev pub PartnerOrNone : List ℕ → List ℕ → ℕ → Option ℕ → Type 0
+PartnerOrNone codes last c None = Alone codes last c
+PartnerOrNone codes last c (Some at) = Partner codes last c at

@@ -20,5 +20,5 @@ returns c =
     let a = c.args in
     let h = c.first_half-made.result.half in
     subst (λ (q : Half). MakesHalf a.key.now a.digest.now c.first_half-made.result.answer q)
-    (sym (same_half h c.is_large-larger.result (ap field_of c.is_large-larger.ensures ∙ named h.field)))
+    (sym (same_half h c.is_large.result (ap field_of c.is_large.ensures ∙ named h.field)))
     c.first_half-made.ensures

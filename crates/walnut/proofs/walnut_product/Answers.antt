@@ -3,4 +3,4 @@ use mathlib.Core.Path.{sym}
 use Rattle.walnut.proofs.walnut_product.Goals as goal
 
 pub returns : goal.returns
-returns c = rw (sym c.field_of-f.ensures) c.product.ensures
+returns c = rw (sym c.field_of.ensures) c.product.ensures

@@ -18,5 +18,5 @@ pub returns : goal.returns
 returns c =
     let k = c.read_key-read.result.key in
     subst (λ (q : Key). ReadsKey c.args.file.now c.read_key-read.result.answer q)
-    (sym (same_key k c.is_large-large.result (ap field_of c.is_large-large.ensures ∙ named k.field)))
+    (sym (same_key k c.is_large.result (ap field_of c.is_large.ensures ∙ named k.field)))
     c.read_key-read.ensures

@@ -3,4 +3,4 @@ use mathlib.Core.Path.{sym}
 use Rattle.walnut.proofs.walnut_reciprocal.Goals as goal
 
 pub returns : goal.returns
-returns c = rw (sym c.field_of-f.ensures) c.reciprocal.ensures
+returns c = rw (sym c.field_of.ensures) c.reciprocal.ensures

@@ -11,4 +11,4 @@ returns c =
     c.second_half.ensures
     ∙ ap (λ (f : Field). first_no (second_half_questions
     (record { field = f; t_values = a.half.t_values; pair = a.half.pair; target = a.half.target })
-    a.word.now)) c.field_of-f.ensures
+    a.word.now)) c.field_of.ensures

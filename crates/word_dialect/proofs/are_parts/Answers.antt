@@ -1,5 +1,5 @@
--- `word_dialect::are_parts` meets its contract. The loop's invariant: the sum and the flag are those of the first i
--- parts.
+-- `word_dialect::are_parts` meets its contract. The loop's invariant: the sum and the flag are those of the parts
+-- so far.
 use Prim.Native.Nat.{ℕ, ◌+◌, ◌<◌}
 use mathlib.Core.Path.{◌≡◌, refl, sym, ap, ap₂, ◌∙◌}
 use mathlib.Core.Bool.{Bool, ◌&&◌}
@@ -16,41 +16,31 @@ use Rattle.word_dialect.proofs.are_parts.Goals as goal
 pub returns-then-parts-gt7 : goal.returns-then-parts-gt7
 returns-then-parts-gt7 c = sym (too_many c.args.parts.now (omega arith))
 
-pub loop-i-init : goal.loop-i-init
+pub loop-p-init : goal.loop-p-init
 unfolding part_sum every
-loop-i-init c = (omega arith, omega arith, refl, refl)
-
-pub bounds-parts-i : goal.bounds-parts-i
-bounds-parts-i c = omega arith
-
-pub overflow_cast-sum : goal.overflow_cast-sum
-overflow_cast-sum c = omega (arith, c.type_inv.parts c.loop-i.i)
+loop-p-init c = (omega arith, refl, refl)
 
 pub overflow_add-sum : goal.overflow_add-sum
-overflow_add-sum c = omega (arith, c.type_inv.parts c.loop-i.i)
+overflow_add-sum c = omega (arith, c.from-sum.ensures, c.type_inv.parts c.loop-p.p-index)
 
-pub overflow_add-i : goal.overflow_add-i
-overflow_add-i c = omega arith
-
-pub loop-i-smaller : goal.loop-i-smaller
-loop-i-smaller c = omega arith
-
-pub loop-i-preserved : goal.loop-i-preserved
-loop-i-preserved c =
+pub loop-p-preserved : goal.loop-p-preserved
+loop-p-preserved c =
     let parts = c.args.parts.now in
-    let k : c.loop-i.i < length parts = omega arith in (
+    let l = c.loop-p in
+    let k : l.p-index < length parts = omega arith in
+    let byte = c.type_inv.parts l.p-index in
+    rw c.from-sum.ensures (
       omega arith,
-      omega (arith, c.type_inv.parts c.loop-i.i),
-      ap (λ (s : ℕ). s + get_or parts c.loop-i.i 0) c.loop-i.invariant.2 ∙ sym (sum_more parts c.loop-i.i k),
-      ap (λ (b : Bool). b && ltb 0 (get_or parts c.loop-i.i 0)) c.loop-i.invariant.3
-          ∙ sym (every_more (λ p. ltb 0 p) parts c.loop-i.i k),
+      ap (λ (s : ℕ). s + get_or parts l.p-index 0) l.invariant.1 ∙ sym (sum_more parts l.p-index k),
+      ap (λ (b : Bool). b && ltb 0 (get_or parts l.p-index 0)) l.invariant.2
+          ∙ sym (every_more (λ p. ltb 0 p) parts l.p-index k),
     )
 
 pub returns : goal.returns
 returns c =
-    let l = c.loop-i in
+    let l = c.loop-p in
     let parts = c.args.parts.now in
-    let all : take l.i parts ≡ parts = take_all l.i parts (omega arith) in
-    ap₂ (λ (b : Bool) (s : ℕ). b && eqb s 7) (l.invariant.3 ∙ ap (every (λ p. ltb 0 p)) all)
-    (l.invariant.2 ∙ ap part_sum all)
+    let all : take l.p-index parts ≡ parts = take_all l.p-index parts (omega arith) in
+    ap₂ (λ (b : Bool) (s : ℕ). b && eqb s 7) (l.invariant.2 ∙ ap (every (λ p. ltb 0 p)) all)
+    (l.invariant.1 ∙ ap part_sum all)
     ∙ parts_are parts

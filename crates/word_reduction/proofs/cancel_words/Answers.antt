@@ -1,5 +1,5 @@
 -- `word_reduction::cancel_words` meets its contract. The loop's invariant: the stack holds the freely reduced word of
--- the codes of the first k bytes.
+-- the codes of the first k words of eight bytes.
 use Prim.Native.Nat.{ℕ, ◌*◌, ◌/◌}
 use mathlib.Core.Path.{◌≡◌, refl, sym, ap, ap₂, ◌∙◌}
 use mathlib.Core.List.{List, ◌++◌}
@@ -17,50 +17,40 @@ use Rattle.word_reduction.proofs.cancel_words.Goals as goal
 
 pub loop-k-init : goal.loop-k-init
 unfolding reduced halves
-loop-k-init c = (omega arith, refl, omega arith, refl, refl)
-
-pub slice_bounds-pushes-end : goal.slice_bounds-pushes-end
-slice_bounds-pushes-end c =
-    let l = c.loop-k in
-    sym (ap length c.sixteen_at-codes.ensures ∙ length_sixteen c.args.part.now l.k (omega arith))
+loop-k-init c = (omega arith, refl)
 
 pub pushes-count-requires : goal.pushes-count-requires
 pushes-count-requires c =
     let l = c.loop-k in
     let bytes = c.args.part.now in
     let n = c.args.n in
-    let front = halves (take l.k bytes) in
-    let sixteen = ap length c.sixteen_at-codes.ensures ∙ length_sixteen bytes l.k (omega arith) in (
+    let front = halves (take (8 * l.k) bytes) in
+    let sixteen = ap length c.sixteen_at.ensures ∙ length_sixteen bytes (8 * l.k) (omega arith) in (
       omega arith,
-      rw l.invariant.4 (reduced_irreducible front),
-      rw l.invariant.4 (reduced_lettered front (front_lettered bytes n c.requires.0 c.requires.2 l.k l.invariant.0)),
-      ap (every is_letter) c.sixteen_at-codes.ensures
-          ∙ word_lettered bytes n c.requires.0 c.requires.2 l.k (omega arith),
+      rw l.invariant.1 (reduced_irreducible front),
+      rw l.invariant.1
+          (reduced_lettered front (front_lettered bytes n c.requires.0 c.requires.2 (8 * l.k) (omega arith))),
+      ap (every is_letter) c.sixteen_at.ensures
+          ∙ word_lettered bytes n c.requires.0 c.requires.2 (8 * l.k) (omega arith),
     )
 
 pub loop-k-preserved : goal.loop-k-preserved
 loop-k-preserved c =
     let l = c.loop-k in
     let bytes = c.args.part.now in
-    let front = halves (take l.k bytes) in
-    let sixteen = ap length c.sixteen_at-codes.ensures ∙ length_sixteen bytes l.k (omega arith) in (
-      omega arith,
-      omega arith,
+    let front = halves (take (8 * l.k) bytes) in
+    let sixteen = ap length c.sixteen_at.ensures ∙ length_sixteen bytes (8 * l.k) (omega arith) in (
       omega (arith, c.pushes-count.ensures.0),
-      c.pushes-count.auto.stack ∙ l.invariant.3,
       c.pushes-count.ensures.1
-          ∙ ap₂ (λ (u v : List ℕ). reduced (u ++ v)) l.invariant.4 c.sixteen_at-codes.ensures
-          ∙ reduced_front front (halves (part l.k 8 bytes))
-          (front_lettered bytes c.args.n c.requires.0 c.requires.2 l.k l.invariant.0)
-          ∙ ap reduced (sym (halves_more l.k 8 bytes)),
+          ∙ ap₂ (λ (u v : List ℕ). reduced (u ++ v)) l.invariant.1 c.sixteen_at.ensures
+          ∙ reduced_front front (halves (part (8 * l.k) 8 bytes))
+          (front_lettered bytes c.args.n c.requires.0 c.requires.2 (8 * l.k) (omega arith))
+          ∙ ap reduced (sym (halves_more (8 * l.k) 8 bytes) ∙ ap (λ (m : ℕ). halves (take m bytes)) (omega arith)),
     )
-
-pub shape_of-stack : goal.shape_of-stack
-shape_of-stack c = c.loop-k.invariant.3
 
 pub returns : goal.returns
 returns c =
     let l = c.loop-k in
     let a = c.args in
-    let done : l.k ≡ a.n / 16 * 8 = omega arith in
-    (omega arith, l.invariant.4 ∙ ap (λ (k : ℕ). reduced (halves (take k a.part.now))) done)
+    let done : 8 * l.k ≡ a.n / 16 * 8 = omega arith in
+    (omega arith, l.invariant.1 ∙ ap (λ (k : ℕ). reduced (halves (take k a.part.now))) done)

@@ -1,14 +1,10 @@
 -- `word_replacement::letters_from` meets its contract. The loop's invariant: no filler stands from `from` up to place
 -- k.
-use Prim.Native.Nat.{◌+◌, ◌-◌, ◌≤◌}
+use Prim.Native.Nat.{◌+◌}
 use mathlib.Core.Path.{◌≡◌}
-use lib.ListN.{length, drop}
+use lib.ListN.{drop}
 use Rattle.word_replacement.specs.steps.Rows.{filled}
 use Rattle.word_replacement.proofs.letters_from.Given as goal
 
 abbrev pub invariant-loop-k : goal.invariant-loop-k
-invariant-loop-k l = (l.from ≤ l.k) × (l.k ≤ length l.rows)
-    × (l.k + filled (drop l.k l.rows) ≡ l.from + filled (drop l.from l.rows))
-
-abbrev pub decreases-loop-k : goal.decreases-loop-k
-decreases-loop-k l = length l.rows - l.k
+invariant-loop-k l = l.k + filled (drop l.k l.rows) ≡ l.from + filled (drop l.from l.rows)

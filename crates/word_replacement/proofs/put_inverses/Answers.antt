@@ -19,7 +19,6 @@ loop-i-init c =
     let p = part a.from a.n a.rows.now in
     let none : drop (a.n - 0) p ≡ [] =
     drop_of_length-le p {i = a.n - 0} (omega (arith, length_part a.from a.n a.rows.now c.requires.1)) in (
-      omega arith,
       refl,
       ap (λ (k : ℕ). take k a.codes.now) (add-zero a.at)
           ∙ sym (ap (λ (w : List ℕ). take a.at a.codes.now ++ inverted w) none
@@ -30,16 +29,15 @@ pub loop-i-preserved : goal.loop-i-preserved
 loop-i-preserved c =
     let a = c.args in
     let at : ℕ = a.at + c.loop-i.i in (
-      omega arith,
-      length-set c.loop-i.codes at c.inverse.result ∙ c.loop-i.invariant.1,
+      length-set c.loop-i.codes at c.inverse.result ∙ c.loop-i.invariant.0,
       ap (λ (x : ℕ). take (a.at + (c.loop-i.i + 1)) (set c.loop-i.codes at x)) c.inverse.ensures
           ∙ inverse_more c.loop-i.codes a.codes.now a.rows.now a.at a.from a.n c.loop-i.i
           (omega arith)
-          (omega (arith, c.loop-i.invariant.1, c.requires.0)) c.requires.1 c.loop-i.invariant.2,
+          (omega (arith, c.loop-i.invariant.0, c.requires.0)) c.requires.1 c.loop-i.invariant.1,
     )
 
 pub shape_of-codes : goal.shape_of-codes
-shape_of-codes c = c.loop-i.invariant.1
+shape_of-codes c = c.loop-i.invariant.0
 
 pub returns : goal.returns
 returns c =
@@ -47,5 +45,5 @@ returns c =
     let a = c.args in
     let e : l.i ≡ a.n = omega arith in
     let z : a.n - l.i ≡ 0 = omega arith in
-    ap (λ (k : ℕ). take (a.at + k) l.codes) (sym e) ∙ l.invariant.2
+    ap (λ (k : ℕ). take (a.at + k) l.codes) (sym e) ∙ l.invariant.1
     ∙ ap (λ (k : ℕ). take a.at a.codes.now ++ inverted (drop k (part a.from a.n a.rows.now))) z

@@ -1,6 +1,6 @@
 -- `word_replacement::put_inverses` meets its contract. The loop's invariant: the inverses of the last i entries are
 -- written.
-use Prim.Native.Nat.{◌+◌, ◌-◌, ◌≤◌}
+use Prim.Native.Nat.{◌+◌, ◌-◌}
 use mathlib.Core.Path.{◌≡◌}
 use mathlib.Core.List.{◌++◌}
 use lib.ListN.{length, take, drop}
@@ -10,8 +10,5 @@ use Rattle.word_replacement.proofs.put_inverses.Given as goal
 
 abbrev pub invariant-loop-i : goal.invariant-loop-i
 invariant-loop-i l =
-    (l.i ≤ l.n) × (length l.codes ≡ length l.initial.codes)
+    (length l.codes ≡ length l.initial.codes)
     × (take (l.at + l.i) l.codes ≡ take l.at l.initial.codes ++ inverted (drop (l.n - l.i) (part l.from l.n l.rows)))
-
-abbrev pub decreases-loop-i : goal.decreases-loop-i
-decreases-loop-i l = l.n - l.i

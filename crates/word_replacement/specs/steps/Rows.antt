@@ -1,7 +1,7 @@
 -- The rows of Appendix A as the code holds them: ten entries to a row, filled with 15, which is no letter. Only private
 -- contracts cite these definitions.
 use Rattle.std.specs.Prelude.{ℕ, suc, ◌+◌, ◌-◌, ◌%◌, ◌≤◌, ◌≡◌, true, cond, ◌&&◌, List, [], ◌∷◌, ◌++◌, ltb, eqb}
-use Rattle.std.specs.Prelude.{length, drop, replicate}
+use Rattle.std.specs.Prelude.{◌<◌, Option, Some, None, length, drop, replicate}
 use Rattle.base.specs.Lists.{every}
 use Rattle.base.specs.Digits.{part}
 use Rattle.word.specs.Letters.{is_letter}
@@ -19,6 +19,12 @@ unfoldable pub before : ℕ → ℕ → List ℕ → ℕ
 before c d [] = 0
 before c d (x ∷ []) = 0
 before c d (x ∷ y ∷ l) = cond (eqb x c && eqb y d) 0 (suc (before c d (y ∷ l)))
+
+-- what the search for c and d finds: the first place that holds them, or none if none of the places before the last
+-- holds them
+abbrev pub PairFound : ℕ → ℕ → List ℕ → Option ℕ → Type 0
+PairFound c d l (Some k) = (k ≡ before c d l) × (k + 1 < length l)
+PairFound c d l None = length l ≤ before c d l + 1
 
 -- how many entries stand before the first filler
 unfoldable pub filled : List ℕ → ℕ

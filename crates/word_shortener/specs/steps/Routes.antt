@@ -1,6 +1,6 @@
 -- What the two ways to a shorter word leave of a word. The new word is the first r codes of a row. Only private
 -- contracts cite these definitions.
-use Rattle.std.specs.Prelude.{ℕ, ◌≤◌, ◌≡◌, List, ◌⊎◌, length, take}
+use Rattle.std.specs.Prelude.{ℕ, ◌≤◌, ◌≡◌, List, Option, length, take, MatchOption}
 use Rattle.base.specs.Questions.{first_no}
 use Rattle.word.specs.Reduction.{Irreducible}
 use Rattle.braid_same.specs.SameBraid.{SameBraid}
@@ -14,11 +14,11 @@ pub record ShortWord (m : ℕ) (old after : List ℕ) (r : ℕ) : Type 0 where
   pub same : SameBraid old (take r after)
   pub irreducible : Irreducible (take r after)
 
--- Handles are taken out first. If that is refused, the number returned is `few`.
-abbrev pub SecondWay : ℕ → List ℕ → List ℕ → ℕ → Type 0
-SecondWay few old after r =
-    ((first_no (step_questions most_steps old) ≡ 0 → ⊥) × (r ≡ few))
-    ⊎ ShortWord (length (swap_cancelled (after_steps most_steps old))) old after r
+-- Handles are taken out first. If that is refused, there is no number of letters.
+abbrev pub SecondWay : List ℕ → List ℕ → Option ℕ → Type 0
+SecondWay old after r =
+    MatchOption r (first_no (step_questions most_steps old) ≡ 0 → ⊥)
+    (ShortWord (length (swap_cancelled (after_steps most_steps old))) old after)
 
 -- the shorter of both ways is taken
 pub record BothWays (effort : ℕ) (old after : List ℕ) (r : ℕ) : Type 0 where

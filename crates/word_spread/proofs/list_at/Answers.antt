@@ -1,8 +1,7 @@
--- `word_spread::list_at` meets its contract: antt computes its four rows.
-use Rattle.base.specs.Lists.{values_from}
-use Rattle.word_spread.proofs.ListsOfFour.{label_row, labels_at}
+-- `word_spread::list_at` meets its contract: its table has the 24 lists in order.
+use mathlib.Core.Path.{sym}
+use Rattle.word_spread.proofs.ListsOfFour.{at_listed}
 use Rattle.word_spread.proofs.list_at.Goals as goal
 
 pub returns : goal.returns
-unfolding label_row values_from
-returns c = labels_at c.args.k c.requires
+returns c = sym (at_listed c.args.k)

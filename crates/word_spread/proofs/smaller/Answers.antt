@@ -1,14 +1,15 @@
--- `word_spread::smaller` meets its contract.
-use mathlib.Core.Path.{sym, ap}
-use mathlib.Core.Bool.{Bool, cond}
-use borrow.Author.Tests.{lt-ltb, le-ltb}
+-- `word_spread::smaller` meets its contract: the test as a number.
+use mathlib.Core.Path.{◌≡◌, refl, ◌∙◌}
+use mathlib.Core.Bool.{Bool, true, false, cond}
+use lib.Dec.{ltb}
+use mir.Val.{bool_byte}
 use Rattle.word_spread.specs.steps.Counting.{smaller}
 use Rattle.word_spread.proofs.smaller.Goals as goal
 
-pub returns-then-a-b : goal.returns-then-a-b
-unfolding smaller
-returns-then-a-b c = sym (ap (λ (b : Bool). cond b 1 0) (lt-ltb _ _ c.if-a-b.true))
+as_number : (b : Bool) → bool_byte b ≡ cond b 1 0
+as_number true = refl
+as_number false = refl
 
-pub returns-else-a-b : goal.returns-else-a-b
+pub returns : goal.returns
 unfolding smaller
-returns-else-a-b c = sym (ap (λ (b : Bool). cond b 1 0) (le-ltb _ _ c.if-a-b.false))
+returns c = c.from.ensures ∙ as_number (ltb c.args.a c.args.b)

@@ -1,5 +1,5 @@
 -- How the words are counted, for private contracts: one number for each of the 24 lists, and a letter more at a step.
-use Rattle.std.specs.Prelude.{ℕ, ◌+◌, ◌-◌, ◌*◌, ◌%◌, ◌^◌, ◌≤◌, ◌<◌, ◌≡◌, Bool, cond, not, ◌&&◌, List, ltb, eqb}
+use Rattle.std.specs.Prelude.{ℕ, ◌+◌, ◌-◌, ◌*◌, ◌^◌, ◌≤◌, ◌<◌, ◌≡◌, Bool, cond, not, ◌&&◌, List, ltb, eqb}
 use Rattle.std.specs.Prelude.{length, get_or}
 use Rattle.word.specs.Strands.{swapped}
 use Rattle.word_spread.specs.Spread.{list_at, ending}
@@ -26,22 +26,6 @@ pub record SwapPlace (g k place : ℕ) : Type 0 where
   pub within : place < 24
   pub stands : list_at place ≡ swapped g (list_at k)
 
--- 24 places of lists, each in the low five bits of a byte
-pub record Places (row : List ℕ) : Type 0 where
-  pub size : length row ≡ 24
-  pub within : (k : ℕ) → k < 24 → get_or row k 0 % 32 < 24
-
--- for each of the 24 lists the place of the one that has the labels at places g and g + 1 exchanged
-pub record SwapPlaces (g : ℕ) (row : List ℕ) : Type 0 where
-  pub places : Places row
-  pub swaps : (k : ℕ) → k < 24 → SwapPlace g k (get_or row k 0 % 32)
-
--- the rows of b1, b2 and b3
-pub record Rows (b1 b2 b3 : List ℕ) : Type 0 where
-  pub first : SwapPlaces 0 b1
-  pub second : SwapPlaces 1 b2
-  pub third : SwapPlaces 2 b3
-
 -- for each of the 24 lists the number of words of n letters that end in it
 pub record Counted (n : ℕ) (counts : List ℕ) : Type 0 where
   pub size : length counts ≡ 24
@@ -55,9 +39,8 @@ MoreAt counts k number = (n : ℕ) → Counted n counts → number ≡ ending (n
 abbrev pub OneMore : List ℕ → List ℕ → Type 0
 OneMore counts more = (n : ℕ) → Counted n counts → Counted (n + 1) more
 
--- 24 numbers, each at most 6 to the power of 11. Past the end of the list `get_or` gives 0. Then no sum for words of
--- one
--- letter more is over 6 to the power of 12, which is 2,176,782,336 and fits 32 bits.
+-- 24 numbers, each at most 6 to the power of 11. Past the end of the list `get_or` gives 0. Then no sum for words
+-- of one letter more is over 6 to the power of 12, which is 2,176,782,336 and fits 32 bits.
 pub record Few (counts : List ℕ) : Type 0 where
   pub size : length counts ≡ 24
   pub few : (k : ℕ) → get_or counts k 0 ≤ 6 ^ 11

@@ -1,22 +1,14 @@
 -- `word_store::write_sizes` meets its contract: two bytes for each size, the high byte first.
-use native.Mathlib.Omega.{arith}
-use lib.ListN.{length-set}
+use Prim.Native.Nat.{ℕ}
+use mathlib.Core.Path.{ap, ◌∙◌}
+use mathlib.Core.List.{List, ◌++◌}
+use lib.ListN.{drop}
 use Rattle.word_store.proofs.StoreLaws.{sizes_written}
 use Rattle.word_store.proofs.write_sizes.Goals as goal
 
-pub bounds-out-1 : goal.bounds-out-1
-bounds-out-1 c = simp length-set (omega arith)
-
-pub bounds-out-2 : goal.bounds-out-2
-bounds-out-2 c = simp length-set (omega arith)
-
-pub bounds-out-3 : goal.bounds-out-3
-bounds-out-3 c = simp length-set (omega arith)
-
-pub bounds-out-4 : goal.bounds-out-4
-bounds-out-4 c = simp length-set (omega arith)
-
 pub returns : goal.returns
 returns c =
-    sizes_written c.args.letters c.args.signs c.args.generators c.args.out.now c.requires.1 c.requires.2
-    c.requires.3 c.requires.0
+    let a = c.args in
+    ap (λ (l : List ℕ). l ++ drop 6 a.out.now) c.copy_from_slice.ensures.after
+    ∙ sizes_written a.letters a.signs a.generators c.to_be_bytes.result c.to_be_bytes-2.result c.to_be_bytes-3.result
+    a.out.now c.to_be_bytes.ensures c.to_be_bytes-2.ensures c.to_be_bytes-3.ensures

@@ -1,4 +1,4 @@
--- `word_writer::all_codes` meets its contract. The loop's invariant: the flag says whether each of the first k codes is
+-- `word_writer::all_codes` meets its contract. The loop's invariant: the flag says whether each of the codes so far is
 -- a letter.
 use mathlib.Core.Path.{refl, sym, ap, ap₂, ◌∙◌}
 use mathlib.Core.Bool.{Bool, ◌&&◌}
@@ -9,19 +9,14 @@ use Rattle.base.proofs.ListLaws.{every_more}
 use Rattle.word.specs.Letters.{is_letter}
 use Rattle.word_writer.proofs.all_codes.Goals as goal
 
-pub loop-k-init : goal.loop-k-init
+pub loop-c-init : goal.loop-c-init
 unfolding every
-loop-k-init c = (omega arith, refl)
+loop-c-init c = refl
 
-pub loop-k-preserved : goal.loop-k-preserved
-loop-k-preserved c =
-    let more = every_more is_letter c.args.codes.now c.loop-k.k (omega arith) in
-    (omega arith, ap₂ (λ (x y : Bool). x && y) c.loop-k.invariant.1 c.is_letter-lettered.ensures ∙ sym more)
+pub loop-c-preserved : goal.loop-c-preserved
+loop-c-preserved c =
+    let more = every_more is_letter c.args.codes.now c.loop-c.c-index (omega arith) in
+    ap₂ (λ (x y : Bool). x && y) c.loop-c.invariant c.is_letter-lettered.ensures ∙ sym more
 
 pub returns : goal.returns
-returns c =
-    let codes = c.args.codes.now in
-    c.loop-k.invariant.1 ∙ ap (every is_letter) (take_all c.loop-k.k codes (omega arith))
-
-pub is_letter-lettered-requires : goal.is_letter-lettered-requires
-is_letter-lettered-requires c = tt
+returns c = c.loop-c.invariant ∙ ap (every is_letter) (take_all _ c.args.codes.now (omega arith))

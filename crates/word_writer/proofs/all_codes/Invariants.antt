@@ -1,14 +1,10 @@
--- `word_writer::all_codes` meets its contract. The loop's invariant: the flag says whether each of the first k codes is
+-- `word_writer::all_codes` meets its contract. The loop's invariant: the flag says whether each of the codes so far is
 -- a letter.
-use Prim.Native.Nat.{◌-◌, ◌≤◌}
 use mathlib.Core.Path.{◌≡◌}
-use lib.ListN.{length, take}
+use lib.ListN.{take}
 use Rattle.base.specs.Lists.{every}
 use Rattle.word.specs.Letters.{is_letter}
 use Rattle.word_writer.proofs.all_codes.Given as goal
 
-abbrev pub invariant-loop-k : goal.invariant-loop-k
-invariant-loop-k l = (l.k ≤ length l.codes) × (l.lettered ≡ every is_letter (take l.k l.codes))
-
-abbrev pub decreases-loop-k : goal.decreases-loop-k
-decreases-loop-k l = length l.codes - l.k
+abbrev pub invariant-loop-c : goal.invariant-loop-c
+invariant-loop-c l = l.lettered ≡ every is_letter (take l.c-index l.codes)

@@ -1,18 +1,10 @@
 -- `word_writer::pack` meets its contract. The loop's invariant: the first k bytes of the output are those of the packed
 -- codes, and the other bytes are unchanged.
-use Prim.Native.Nat.{◌-◌, ◌/◌, ◌≤◌}
 use mathlib.Core.Path.{◌≡◌}
 use mathlib.Core.List.{◌++◌}
-use lib.ListN.{length, take, drop}
+use lib.ListN.{take, drop}
 use Rattle.word.specs.Words.{packed}
 use Rattle.word_writer.proofs.pack.Given as goal
 
 abbrev pub invariant-loop-k : goal.invariant-loop-k
-invariant-loop-k l =
-    (l.n ≡ length l.codes / 2)
-    × (l.k ≤ l.n)
-    × (length l.out ≡ length l.initial.out)
-    × (l.out ≡ take l.k (packed l.codes) ++ drop l.k l.initial.out)
-
-abbrev pub decreases-loop-k : goal.decreases-loop-k
-decreases-loop-k l = l.n - l.k
+invariant-loop-k l = l.out ≡ take l.k (packed l.codes) ++ drop l.k l.initial.out

@@ -14,4 +14,5 @@ second_place a b h l =
 pub returns : goal.returns
 returns c =
     let codes = c.args.codes.now in
-    second_place (get_or codes c.args.at 0) (get_or codes (c.args.at + 1) 0) c.requires.1 c.requires.2
+    rw (c.from.ensures, c.from-2.ensures)
+    (second_place (get_or codes c.args.at 0) (get_or codes (c.args.at + 1) 0) c.requires.1 c.requires.2)

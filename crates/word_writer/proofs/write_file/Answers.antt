@@ -1,33 +1,22 @@
 -- `word_writer::write_file` meets its contract: it writes the number of letters, the codes two to a byte, and the last
 -- code of an odd word in a byte of its own.
 use Prim.Native.Nat.{◌-◌}
-use mathlib.Core.Path.{◌≡◌, refl, ap, ◌∙◌}
+use mathlib.Core.Path.{◌≡◌, refl, ◌∙◌}
 use native.Mathlib.Omega.{arith}
-use lib.ListN.{length, drop, length-take, length-drop, length-set}
+use lib.ListN.{length, drop, length-take, length-drop}
 use Rattle.base.specs.Lists.{overlaid}
-use Rattle.base.proofs.ListLaws.{length_overlaid}
 use Rattle.word.specs.Words.{word_file}
-use Rattle.word.proofs.WordLaws.{letters_below, length_word_file}
+use Rattle.word.proofs.WordLaws.{letters_below}
 use Rattle.word.proofs.WriteLaws.{numbered, length_numbered, length_paired, even_written, odd_written}
 use Rattle.word_writer.proofs.write_file.Goals as goal
 use Rattle.word_writer.proofs.write_file.Goals.{then-n-eq1, else-n-eq1}
 
-pub bounds-out-1 : goal.bounds-out-1
-bounds-out-1 c =
-    simp length-set (omega arith)
-
-pub slice_bounds-pack-count : goal.slice_bounds-pack-count
-slice_bounds-pack-count c =
-    simp length-set (omega arith)
-
-pub slice_bounds-pack-start : goal.slice_bounds-pack-start
-slice_bounds-pack-start c =
-    simp length-set (omega arith)
-
 pub pack-requires : goal.pack-requires
 pack-requires c =
-    let file = numbered c.args.codes.now c.args.out.now in
-    let l = length_numbered c.args.codes.now c.args.out.now in
+    let two = c.copy_from_slice.new.self in
+    let is = c.copy_from_slice.ensures.after ∙ c.to_be_bytes.ensures in
+    let file = numbered c.args.codes.now c.args.out.now two is in
+    let l = length_numbered c.args.codes.now c.args.out.now two is (omega arith) in
     (c.requires.1, omega (arith, l, length-take (length file - 2) (drop 2 file), length-drop 2 file))
 
 pub overflow_mul-out : goal.overflow_mul-out
@@ -39,31 +28,22 @@ bounds-out-n c =
     let p = c.pack in
     omega (
       arith,
-      length_paired c.args.codes.now c.args.out.now c.requires.0 c.requires.2 p.new.out p.ensures,
+      length_paired c.args.codes.now c.args.out.now c.copy_from_slice.new.self
+          (c.copy_from_slice.ensures.after ∙ c.to_be_bytes.ensures) c.requires.0 c.requires.2 p.new.out p.ensures,
     )
-
-pub shape_of-out : goal.shape_of-out
-shape_of-out c =
-    let codes = c.args.codes.now in
-    let out = c.args.out.now in
-    let p = c.pack in
-    let written : c.if-n-eq1.out ≡ overlaid (word_file codes) out =
-    elim c.if-n-eq1.branch [
-      | then-n-eq1 w ↦ w.out-is ∙ odd_written codes out c.requires.0 c.requires.2 p.new.out p.ensures w.if-n-eq1.true
-      | else-n-eq1 w ↦ w.out-is ∙ even_written codes out c.requires.0 c.requires.2 p.new.out p.ensures w.if-n-eq1.false
-    ]
-    in
-    ap length written ∙ length_overlaid (word_file codes) out (omega (arith, length_word_file codes))
 
 pub returns : goal.returns
 returns c =
     let codes = c.args.codes.now in
     let out = c.args.out.now in
     let p = c.pack in
+    let two = c.copy_from_slice.new.self in
+    let is = c.copy_from_slice.ensures.after ∙ c.to_be_bytes.ensures in
+    let h = c.requires in
     let written : c.if-n-eq1.out ≡ overlaid (word_file codes) out =
     elim c.if-n-eq1.branch [
-      | then-n-eq1 w ↦ w.out-is ∙ odd_written codes out c.requires.0 c.requires.2 p.new.out p.ensures w.if-n-eq1.true
-      | else-n-eq1 w ↦ w.out-is ∙ even_written codes out c.requires.0 c.requires.2 p.new.out p.ensures w.if-n-eq1.false
+      | then-n-eq1 w ↦ w.out-is ∙ odd_written codes out two is h.0 h.2 p.new.out p.ensures w.if-n-eq1.true
+      | else-n-eq1 w ↦ w.out-is ∙ even_written codes out two is h.0 h.2 p.new.out p.ensures w.if-n-eq1.false
     ]
     in
     (refl, written)

@@ -1,10 +1,9 @@
 -- `base::digits::spell` meets its contract. The loop's invariant: the last digits of the number stand from place i on,
 -- and v is the rest of the number.
 use Prim.Native.Nat.{ℕ, suc, ◌-◌}
-use mathlib.Core.Path.{◌≡◌, refl, ap, ◌∙◌, subst}
+use mathlib.Core.Path.{◌≡◌, refl, subst}
 use native.Mathlib.Omega.{arith}
-use native.Mathlib.Nat.{mod-lt}
-use lib.ListN.{length, drop, length-set}
+use lib.ListN.{drop, length-set}
 use lib.Seq.{drop-length}
 use Rattle.base.specs.Digits.{digits}
 use Rattle.base.proofs.PackLaws.{spelled_more, spelled_rest, spelled_none}
@@ -15,9 +14,6 @@ unfolding digits
 loop-i-init c =
     let a = c.args in
     (0, omega arith, refl, drop-length a.dst.now, spelled_none a.base a.number)
-
-pub overflow_cast-dst : goal.overflow_cast-dst
-overflow_cast-dst c = omega (arith, mod-lt c.loop-i.v c.requires.0, c.requires.1)
 
 pub loop-i-preserved : goal.loop-i-preserved
 loop-i-preserved c =
@@ -33,11 +29,3 @@ loop-i-preserved c =
           (subst (λ (j : ℕ). drop j l.dst ≡ digits a.base n a.number) e l.invariant.3) l.invariant.4,
       spelled_rest a.base a.number l.v n l.invariant.4,
     )
-
-pub returns : goal.returns
-returns c =
-    let a = c.args in
-    let l = c.loop-i in
-    let z : 0 ≡ l.i = omega arith in
-    let e : l.invariant.0 ≡ length a.dst.now = omega arith in
-    ap (λ (j : ℕ). drop j l.dst) z ∙ l.invariant.3 ∙ ap (λ (n : ℕ). digits a.base n a.number) e

@@ -1,6 +1,6 @@
 -- `base::digits::spell` meets its contract. The loop's invariant: the last digits of the number stand from place i on,
 -- and v is the rest of the number.
-use Prim.Native.Nat.{ℕ, ◌+◌, ◌-◌, ◌/◌, ◌^◌}
+use Prim.Native.Nat.{ℕ, ◌+◌, ◌/◌, ◌^◌}
 use mathlib.Core.Path.{◌≡◌}
 use lib.ListN.{length, drop}
 use Rattle.base.specs.Digits.{digits}
@@ -11,6 +11,3 @@ invariant-loop-i l =
     (n : ℕ) × (n + l.i ≡ length l.initial.dst) × (length l.dst ≡ length l.initial.dst)
     × (drop l.i l.dst ≡ digits l.base n l.number)
     × (l.v ≡ l.number / l.base ^ n)
-
-abbrev pub decreases-loop-i : goal.decreases-loop-i
-decreases-loop-i l = l.i

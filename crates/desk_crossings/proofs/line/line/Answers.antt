@@ -34,31 +34,31 @@ label_end a h l = omega (arith, l.ends, length-append (decimal a) (32 ∷ []))
 
 pub decimal-second-requires : goal.decimal-second-requires
 decimal-second-requires c =
-    omega (arith, smaller_fits c.requires.1 c.pair_at-two.ensures c.wide.ensures)
+    omega (arith, smaller_fits c.requires.1 c.pair_at-two.ensures c.from.ensures)
 
 pub decimal-third-requires : goal.decimal-third-requires
 decimal-third-requires c =
-    let a = smaller_fits c.requires.1 c.pair_at-two.ensures c.wide.ensures in
+    let a = smaller_fits c.requires.1 c.pair_at-two.ensures c.from.ensures in
     omega (
       arith,
       label_end _ a c.decimal-second.ensures,
-      larger_fits c.requires.1 c.pair_at-two.ensures c.wide-2.ensures,
+      larger_fits c.requires.1 c.pair_at-two.ensures c.from-2.ensures,
     )
 
 pub signed-requires : goal.signed-requires
 signed-requires c =
-    let a = smaller_fits c.requires.1 c.pair_at-two.ensures c.wide.ensures in
-    let b = larger_fits c.requires.1 c.pair_at-two.ensures c.wide-2.ensures in
+    let a = smaller_fits c.requires.1 c.pair_at-two.ensures c.from.ensures in
+    let b = larger_fits c.requires.1 c.pair_at-two.ensures c.from-2.ensures in
     let n : length (signed_text (to_z w32 (of_z w32 c.args.number))) ≤ 6 =
     rw (read_back c.args.number c.requires.2) (number_short c.args.number c.requires.2) in
     omega (arith, label_end _ a c.decimal-second.ensures, label_end _ b c.decimal-third.ensures)
 
 pub returns : goal.returns
 returns c =
-    let a = smaller_fits c.requires.1 c.pair_at-two.ensures c.wide.ensures in
+    let a = smaller_fits c.requires.1 c.pair_at-two.ensures c.from.ensures in
     line_added c.args.k c.requires.1
-    (smaller_is c.requires.1 c.pair_at-two.ensures c.wide.ensures)
-    (larger_is c.requires.1 c.pair_at-two.ensures c.wide-2.ensures)
+    (smaller_is c.requires.1 c.pair_at-two.ensures c.from.ensures)
+    (larger_is c.requires.1 c.pair_at-two.ensures c.from-2.ensures)
     (read_back c.args.number c.requires.2) (omega arith)
     (omega (arith, label_end _ a c.decimal-second.ensures)) c.decimal-second.ensures c.decimal-third.ensures
     c.signed.ensures

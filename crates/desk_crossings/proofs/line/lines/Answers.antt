@@ -14,13 +14,13 @@ use Rattle.desk_crossings.proofs.line.lines.Goals as goal
 pub loop-k-init : goal.loop-k-init
 unfolding lines_of overlaid
 loop-k-init c =
-    (omega arith, omega arith, refl, record { bytes_are = refl; text_is = refl })
+    (omega arith, refl, record { bytes_are = refl; text_is = refl })
 
 pub line-at-requires : goal.line-at-requires
 line-at-requires c =
     let l = c.loop-k in
     let small = c.requires.small l.k in
-    (omega (arith, l.invariant.2), omega arith, rw (read_back _ small) small)
+    (omega (arith, l.invariant.1), omega arith, rw (read_back _ small) small)
 
 pub loop-k-preserved : goal.loop-k-preserved
 loop-k-preserved c =
@@ -30,16 +30,15 @@ loop-k-preserved c =
     let small = c.requires.small l.k in
     let here : l.k < 28 = omega arith in
     let line = rw (read_back number small) at c.line-at.ensures in (
-      omega arith,
       omega (arith, line.ends, line_short l.k here number small),
-      c.line-at.auto.text ∙ l.invariant.2,
-      rw (lines_more numbers l.k here (omega (arith, c.requires.size))) (told_more l.invariant.3 line),
+      c.line-at.auto.text ∙ l.invariant.1,
+      rw (lines_more numbers l.k here (omega (arith, c.requires.size))) (told_more l.invariant.2 line),
     )
 
 pub returns : goal.returns
 returns c =
     let l = c.loop-k in
-    rw (lines_all c.args.numbers.now l.k (omega arith) (omega (arith, c.requires.size))) at l.invariant.3
+    rw (lines_all c.args.numbers.now l.k (omega arith) (omega (arith, c.requires.size))) at l.invariant.2
 
 pub slice_bounds-line-end : goal.slice_bounds-line-end
-slice_bounds-line-end c = omega (arith, c.loop-k.invariant.2)
+slice_bounds-line-end c = omega (arith, c.loop-k.invariant.1)

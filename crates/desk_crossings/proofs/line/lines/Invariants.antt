@@ -1,6 +1,6 @@
 -- `desk_crossings::line::lines` meets its contract. The loop's invariant: the lines of the first k pairs are written,
 -- of at most 11 bytes each.
-use Prim.Native.Nat.{◌-◌, ◌*◌, ◌≤◌}
+use Prim.Native.Nat.{◌*◌, ◌≤◌}
 use mathlib.Core.Path.{◌≡◌}
 use lib.ListN.{length, take}
 use Rattle.text.specs.Texts.{TellsIn}
@@ -11,8 +11,5 @@ use Rattle.desk_crossings.proofs.line.lines.Given as goal
 
 abbrev pub invariant-loop-k : goal.invariant-loop-k
 invariant-loop-k l =
-    (l.k ≤ 28) × (l.at ≤ 11 * l.k) × (length l.text ≡ text_size)
+    (l.at ≤ 11 * l.k) × (length l.text ≡ text_size)
     × TellsIn text_size (lines_of (take l.k all_pairs) (take l.k l.numbers)) l.at l.text
-
-abbrev pub decreases-loop-k : goal.decreases-loop-k
-decreases-loop-k l = 28 - l.k

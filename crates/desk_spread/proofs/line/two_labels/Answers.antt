@@ -15,20 +15,20 @@ wide_short : (x : ℕ) {a : ℕ} → x ≡ a → a < 10 → length (decimal x) �
 wide_short x e h = rw e (label_short _ h)
 
 pub decimal-second-requires : goal.decimal-second-requires
-decimal-second-requires c = omega (arith, wide_short _ c.wide.ensures c.requires.1)
+decimal-second-requires c = omega (arith, wide_short _ c.from.ensures c.requires.1)
 
 pub decimal-requires : goal.decimal-requires
 decimal-requires c =
     omega (
       arith,
       c.decimal-second.ensures.ends,
-      length-append (decimal c.wide.result) (32 ∷ []),
-      wide_short _ c.wide.ensures c.requires.1,
-      wide_short _ c.wide-2.ensures c.requires.2,
+      length-append (decimal c.from.result) (32 ∷ []),
+      wide_short _ c.from.ensures c.requires.1,
+      wide_short _ c.from-2.ensures c.requires.2,
     )
 
 pub returns : goal.returns
 returns c =
     subst (λ (t : List ℕ). Laid c.args.at t c.args.text.now c.decimal.new.text c.decimal.result)
-    (ap₂ spaced c.wide.ensures c.wide-2.ensures)
+    (ap₂ spaced c.from.ensures c.from-2.ensures)
     (added_then (omega (arith, c.requires.0)) c.decimal-second.ensures c.decimal.ensures)

@@ -1,10 +1,6 @@
--- `examples::input::decimal` is safe and ends: the place grows while it is within the text.
-use Prim.Native.Nat.{◌<◌, ◌-◌}
-use lib.ListN.{length}
+-- `examples::input::decimal` is safe: the number has at most four digits.
+use Prim.Native.Nat.{◌<◌}
 use Rattle.examples.proofs.input.decimal.Given as goal
 
-abbrev pub invariant-loop-i : goal.invariant-loop-i
-invariant-loop-i l = l.value < 10000
-
-abbrev pub decreases-loop-i : goal.decreases-loop-i
-decreases-loop-i l = length l.text - l.i
+abbrev pub invariant-loop-c : goal.invariant-loop-c
+invariant-loop-c l = l.value < 10000

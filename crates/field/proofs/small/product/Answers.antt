@@ -10,6 +10,7 @@ use Rattle.field.proofs.small.product.Goals as goal
 pub returns : goal.returns
 returns c =
     let a = c.args in
-    ap (λ (t : List ℕ). get_or t (32 * (a.a % 32) + a.b % 32) 0) c.table-products.ensures
+    rw (c.from-i.ensures, c.from-j.ensures)
+    (ap (λ (t : List ℕ). get_or t (32 * (a.a % 32) + a.b % 32) 0) c.table-products.ensures
     ∙ product_at (a.a % 32) (a.b % 32) (omega arith) (omega arith)
-    ∙ sym (mul_low a.a a.b)
+    ∙ sym (mul_low a.a a.b))

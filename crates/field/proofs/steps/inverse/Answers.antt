@@ -10,12 +10,13 @@ use Rattle.field.proofs.steps.inverse.Goals as goal
 pub bounds-table-at : goal.bounds-table-at
 bounds-table-at c =
     let a = c.args in
-    omega (arith, mod-lt a.a {m = length a.table.now + 1} (omega arith))
+    omega (arith, mod-lt c.from.result {m = length a.table.now + 1} (omega arith))
 
 pub returns-then-at-eq0 : goal.returns-then-at-eq0
-returns-then-at-eq0 c = none_before c.args.table.now c.args.a c.if-at-eq0.true
+returns-then-at-eq0 c =
+    none_before c.args.table.now c.args.a (rw c.from.ensures at c.if-at-eq0.true)
 
 pub returns-else-at-eq0 : goal.returns-else-at-eq0
 returns-else-at-eq0 c =
     let a = c.args in
-    one_before a.table.now a.a c.if-at-eq0.false
+    rw c.from.ensures (one_before a.table.now a.a (rw c.from.ensures at c.if-at-eq0.false))

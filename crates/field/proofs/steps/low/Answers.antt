@@ -1,9 +1,9 @@
 -- `field::steps::low` meets its contract: the mask keeps the low bits.
-use Prim.Native.Nat.{ℕ, ◌-◌, ◌*◌, ◌%◌, ◌^◌, ◌≤◌}
+use Prim.Native.Nat.{ℕ, ◌*◌, ◌%◌, ◌^◌, ◌≤◌}
 use mathlib.Core.Path.{◌≡◌, ap, ◌∙◌}
 use native.Mathlib.Nat.{one-mul, mod-eq_of_lt}
 use native.Mathlib.Omega.{arith}
-use lib.Bits.{bit_and, and_mask}
+use lib.Bits.{and_mask}
 use lib.Pow.{pow_pos, pow_mono}
 use Rattle.field.proofs.steps.low.Goals as goal
 
@@ -18,5 +18,4 @@ overflow_sub-result c = rw (shifted c.args.bits c.requires) (pow_pos c.args.bits
 
 pub returns : goal.returns
 returns c =
-    ap (λ (x : ℕ). bit_and c.args.a (x - 1)) (shifted c.args.bits c.requires)
-    ∙ and_mask c.args.a c.args.bits
+    rw (c.from.ensures, shifted c.args.bits c.requires) (and_mask c.args.a c.args.bits)

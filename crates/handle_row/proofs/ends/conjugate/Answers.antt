@@ -10,11 +10,6 @@ pub loop-k-init : goal.loop-k-init
 loop-k-init c =
     none_written c.args.part.now c.args.n c.args.a c.requires.1 c.requires.2
 
-pub bounds-part-k : goal.bounds-part-k
-bounds-part-k c =
-    let l = c.loop-k in
-    omega (arith, l.invariant.few, l.invariant.size, c.requires.1)
-
 pub replace-at-requires : goal.replace-at-requires
 replace-at-requires c =
     let l = c.loop-k in
@@ -37,6 +32,3 @@ returns c =
     let e : l.k ≡ 0 = omega arith in
     all_written a.part.now a.n a.a c.requires.1 c.requires.2
     (subst (λ (k : ℕ). Written a.part.now l.part a.n a.a k l.at) e l.invariant)
-
-pub shape_of-part : goal.shape_of-part
-shape_of-part c = c.loop-k.invariant.size

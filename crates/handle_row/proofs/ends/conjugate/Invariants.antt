@@ -5,6 +5,3 @@ use Rattle.handle_row.proofs.ends.conjugate.Given as goal
 
 abbrev pub invariant-loop-k : goal.invariant-loop-k
 invariant-loop-k l = Written l.initial.part l.part l.n l.a l.k l.at
-
-abbrev pub decreases-loop-k : goal.decreases-loop-k
-decreases-loop-k l = l.k

@@ -7,6 +7,8 @@ use lib.ListN.{get_or}
 use Rattle.word.specs.Letters.{generator, inverse}
 use Rattle.handle_row.specs.steps.Gaps.{letter_slot, latest_of, beginning, Reads}
 use Rattle.handle_row.proofs.Beginnings.{own_inside, later_less, other_letter, handle_begins}
+use Rattle.handle_row.proofs.places.begins.Goals.{then-own-less-via-then-own-less}
+use Rattle.handle_row.proofs.places.begins.Goals.{then-own-less-via-else-own-less+then-row-own}
 use Rattle.handle_row.proofs.places.begins.Goals as goal
 
 -- the two latest places, as the table has them, where k is the slot of the code after the gap
@@ -21,33 +23,35 @@ module _ {row latest : List ℕ} {left right k own less : ℕ} (o : Reads row la
       let s : k - 1 ≡ generator (get_or row right 0) = omega (arith, slot.0) in
       less_at ∙ o.newest.latest_is (k - 1) (omega (arith, slot.1)) ∙ ap (λ (s : ℕ). latest_of s row left) s
 
-  later : own ≤ less → 0 ≡ beginning row left right
+  later : own ≤ less → beginning row left right ≡ 0
   later = later_less row left right o.gap o.within o.lettered own less own_is less_is
 
   inside : own ≤ left
   inside = own_inside row left right o.gap o.within o.lettered own less own_is less_is
 
-  differs : less < own → (get_or row (own - 1) 0 ≡ inverse (get_or row right 0) → ⊥) → 0 ≡ beginning row left right
+  differs : less < own → (get_or row (own - 1) 0 ≡ inverse (get_or row right 0) → ⊥) → beginning row left right ≡ 0
   differs = other_letter row left right o.gap o.within o.lettered own less own_is less_is
 
-  begun : less < own → get_or row (own - 1) 0 ≡ inverse (get_or row right 0) → own ≡ beginning row left right
+  begun : less < own → get_or row (own - 1) 0 ≡ inverse (get_or row right 0) → beginning row left right ≡ own
   begun = handle_begins row left right o.gap o.within o.lettered own less own_is less_is
 
 pub returns-then-own-less : goal.returns-then-own-less
 returns-then-own-less c =
-    later c.requires c.slot_of-s.ensures c.wide-own.ensures c.wide-less.ensures c.if-own-less.true
+    elim c.then-own-less.branch [
+      | then-own-less-via-then-own-less w ↦
+          later c.requires c.slot_of-s.ensures c.from-own.ensures c.from-less.ensures w.if-own-less.true
+      | then-own-less-via-else-own-less+then-row-own w ↦
+          differs c.requires c.slot_of-s.ensures c.from-own.ensures c.from-less.ensures w.if-own-less.false
+          (λ d. w.if-row-own.true (d ∙ sym w.inverse.ensures))
+    ]
 
 pub bounds-row-own : goal.bounds-row-own
 bounds-row-own c =
     let o = c.requires in
-    omega (arith, o.gap, o.within, inside o c.slot_of-s.ensures c.wide-own.ensures c.wide-less.ensures)
-
-pub returns-then-row-own : goal.returns-then-row-own
-returns-then-row-own c =
-    differs c.requires c.slot_of-s.ensures c.wide-own.ensures c.wide-less.ensures c.if-own-less.false
-    (λ d. c.if-row-own.true (d ∙ sym c.inverse-other.ensures))
+    omega (arith, o.gap, o.within, inside o c.slot_of-s.ensures c.from-own.ensures c.from-less.ensures)
 
 pub returns : goal.returns
 returns c =
-    begun c.requires c.slot_of-s.ensures c.wide-own.ensures c.wide-less.ensures c.if-own-less.false
-    (c.if-row-own.false ∙ c.inverse-other.ensures)
+    begun c.requires c.slot_of-s.ensures c.from-own.ensures c.from-less.ensures c.if-own-less.false
+    (c.if-row-own.false ∙ c.inverse.ensures)
+    ∙ omega arith

@@ -1,6 +1,6 @@
 -- `handle_row::places::cut` meets its contract. The loop's invariant: the tables are those of the first k places.
 use Prim.Native.Nat.{ℕ, ◌+◌, ◌-◌}
-use mathlib.Core.Path.{◌≡◌, sym, ◌∙◌, subst}
+use mathlib.Core.Path.{◌≡◌, subst}
 use native.Mathlib.Omega.{arith}
 use Rattle.handle_row.specs.steps.Gaps.{Tables}
 use Rattle.handle_row.proofs.PlaceLaws.{tables_less}
@@ -28,18 +28,3 @@ returns c =
     let a = c.args in
     let e : c.loop-k.k ≡ a.from = omega arith in
     subst (λ (m : ℕ). Tables a.row.now c.loop-k.latest a.before.now m) e c.loop-k.invariant.2
-
-pub bounds-row-k : goal.bounds-row-k
-bounds-row-k c = omega (arith, c.requires.1)
-
-pub bounds-before-k : goal.bounds-before-k
-bounds-before-k c = omega (arith, c.requires.1, c.requires.2)
-
-pub offset_bounds-latest-s : goal.offset_bounds-latest-s
-offset_bounds-latest-s c = omega (arith, c.slot_of-s.ensures.1)
-
-pub bounds-latest-s : goal.bounds-latest-s
-bounds-latest-s c = omega (arith, c.slot_of-s.ensures.1, c.loop-k.invariant.2.newest.slots)
-
-pub shape_of-latest : goal.shape_of-latest
-shape_of-latest c = c.loop-k.invariant.2.newest.slots ∙ sym c.requires.3.newest.slots

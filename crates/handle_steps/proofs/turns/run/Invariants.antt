@@ -5,9 +5,9 @@ use Rattle.handle_row.specs.steps.Gaps.{gapped}
 use Rattle.handle_steps.specs.steps.Runs.{Gap, SameRun, work}
 use Rattle.handle_steps.proofs.turns.run.Given as goal
 
-abbrev pub invariant-loop-right : goal.invariant-loop-right
-invariant-loop-right l = Gap l.row l.latest l.before l.left l.right
-    × SameRun l.steps (gapped l.row l.left l.right) l.limit (gapped l.initial.row 0 l.start)
+abbrev pub invariant-loop-s : goal.invariant-loop-s
+invariant-loop-s l = Gap l.row l.latest l.before l.s.left l.s.right
+    × SameRun l.s.steps (gapped l.row l.s.left l.s.right) l.limit (gapped l.initial.row 0 l.start)
 
-abbrev pub decreases-loop-right : goal.decreases-loop-right
-decreases-loop-right l = work l.steps l.right
+abbrev pub decreases-loop-s : goal.decreases-loop-s
+decreases-loop-s l = work l.s.steps l.s.right

@@ -25,13 +25,13 @@ module _ {row latest before : List ℕ} {own left right steps : ℕ} (g : Gap ro
   part_length : length (take (right + 1 - own) (drop own row)) ≡ right + 1 - own
   part_length = length-take-le (right + 1 - own) (drop own row) (omega (arith, length-drop own row, low, inside))
 
-pub returns-then-right-own : goal.returns-then-right-own
-returns-then-right-own c =
+pub returns-then-s-own : goal.returns-then-s-own
+returns-then-s-own c =
     let g = c.grown-long in
     let a = c.args in
-    too_long a.row.now a.latest.now a.before.now a.left a.right a.steps c.requires.0
+    too_long a.row.now a.latest.now a.before.now a.s.left a.s.right a.s.steps c.requires.0
     c.requires.1.unread a.own c.requires.1.own_is c.requires.1.found c.requires.1.some
-    (omega (arith, c.if-right-own.true, g.ensures.0))
+    (omega (arith, c.if-s-own.true, g.ensures.0))
 
 pub cut-requires : goal.cut-requires
 cut-requires c =
@@ -48,23 +48,23 @@ conjugate-at-requires c =
     let a = c.args in
     let row = a.row.now in
     let same : length
-    (conjugated (get_or row (a.own - 1) 0) (take (a.left - a.own) (take (a.right + 1 - a.own) (drop a.own row))))
+    (conjugated (get_or row (a.own - 1) 0) (take (a.s.left - a.own) (take (a.s.right + 1 - a.own) (drop a.own row))))
     ≡ c.grown-long.result =
     ap (λ l. length (conjugated (get_or row (a.own - 1) 0) l))
-    (take-take (a.left - a.own) (a.right + 1 - a.own) (drop a.own row) (omega (arith, c.requires.0.gap)))
+    (take-take (a.s.left - a.own) (a.s.right + 1 - a.own) (drop a.own row) (omega (arith, c.requires.0.gap)))
     ∙ sym c.grown-long.ensures.0 in (
-      first_letter row a.left a.right c.requires.0.gap (inside c.requires.0 c.requires.1) a.own c.requires.1.own_is
+      first_letter row a.s.left a.s.right c.requires.0.gap (inside c.requires.0 c.requires.1) a.own c.requires.1.own_is
           c.requires.1.found c.requires.0.lettered,
       omega (arith, part_length c.requires.0 c.requires.1, c.requires.0.gap),
-      omega (arith, part_length c.requires.0 c.requires.1, same, c.if-right-own.false),
+      omega (arith, part_length c.requires.0 c.requires.1, same, c.if-s-own.false),
     )
 
 pub returns : goal.returns
 returns c =
     let a = c.args in
-    step_made a.row.now a.latest.now a.before.now a.left a.right a.steps c.requires.0
+    step_made a.row.now a.latest.now a.before.now a.s.left a.s.right a.s.steps c.requires.0
     c.requires.1.unread a.own c.requires.1.own_is c.requires.1.found c.requires.1.some
-    (omega (arith, c.if-right-own.false, c.grown-long.ensures.0))
+    (omega (arith, c.if-s-own.false, c.grown-long.ensures.0))
     c.cut.new.latest c.conjugate-at.new.part c.conjugate-at.result
     c.conjugate-at.auto.part c.conjugate-at.ensures c.cut.ensures
 
@@ -77,5 +77,5 @@ slice_bounds-grown-count c = low c.requires.0 c.requires.1
 pub slice_bounds-grown-start : goal.slice_bounds-grown-start
 slice_bounds-grown-start c = low c.requires.0 c.requires.1
 
-pub overflow_sub-left : goal.overflow_sub-left
-overflow_sub-left c = low c.requires.0 c.requires.1
+pub overflow_sub-s : goal.overflow_sub-s
+overflow_sub-s c = low c.requires.0 c.requires.1

@@ -29,4 +29,4 @@ returns c =
     rw (first_is ∙ c.if-not-filler_is_zero.false)
     (c.filler_is_zero-2.ensures
     ∙ ap (λ (xs : List ℕ). eqb (matrix_filler b xs) 0)
-    (part_taken b 5 c.args.file.now c.second_place-after.ensures c.requires.1))
+    (part_taken b 5 c.args.file.now c.second_place-second.ensures c.requires.1))

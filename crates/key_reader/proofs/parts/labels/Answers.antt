@@ -12,5 +12,5 @@ pub returns : goal.returns
 unfolding key_labels
 returns c =
     let a = c.args in
-    let at : c.second_place-end.result - 3 ≡ key_place a.bits 4 = omega (arith, c.second_place-end.ensures) in
+    let at : c.second_place.result - 3 ≡ key_place a.bits 4 = omega (arith, c.second_place.ensures) in
     c.eight.ensures ∙ ap (λ (k : ℕ). unpacked_row 3 8 (part k 3 a.file.now)) at

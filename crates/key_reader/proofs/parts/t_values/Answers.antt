@@ -12,5 +12,5 @@ unfolding t_values_of
 returns c =
     let a = c.args in
     let size : a.bits ≡ row_bytes a.bits 8 = omega arith in
-    let at : c.first_place-end.result - a.bits ≡ 3 = omega (arith, c.first_place-end.ensures) in
+    let at : c.first_place.result - a.bits ≡ 3 = omega (arith, c.first_place.ensures) in
     c.eight.ensures ∙ ap₂ (λ (k n : ℕ). unpacked_row a.bits 8 (part k n a.file.now)) at size

@@ -28,9 +28,3 @@ returns c =
     ∙ c.if-not-is_braid.false)
     (simp length-set) c.requires.0.short
     (braiding_word a.codes.now a.n a.place c.if-n-place.false (omega (arith, c.requires.0.short, c.requires.0.room)))
-
-pub bounds-codes-place-5 : goal.bounds-codes-place-5
-bounds-codes-place-5 c = simp length-set (omega arith)
-
-pub bounds-codes-place-6 : goal.bounds-codes-place-6
-bounds-codes-place-6 c = simp length-set (omega arith)

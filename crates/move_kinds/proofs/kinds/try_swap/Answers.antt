@@ -28,6 +28,3 @@ returns c =
     ∙ c.if-not-are_far.false)
     (simp length-set) c.requires.0.short
     (exchange_word a.codes.now a.n a.place c.if-n-place.false (omega (arith, c.requires.0.short, c.requires.0.room)))
-
-pub bounds-codes-place-4 : goal.bounds-codes-place-4
-bounds-codes-place-4 c = simp length-set (omega arith)

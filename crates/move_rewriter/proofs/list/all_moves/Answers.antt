@@ -1,9 +1,9 @@
 -- `move_rewriter::list::all_moves` meets its contract. The loop's invariant: the moves from k on give, on the word at
 -- this point, what all moves give on the word handed in.
 use Prim.Native.Nat.{ℕ, ◌-◌}
-use mathlib.Core.Path.{◌≡◌, refl, ap, ◌∙◌}
+use mathlib.Core.Path.{◌≡◌, ap, ◌∙◌}
 use native.Mathlib.Omega.{arith}
-use lib.ListN.{length, take}
+use lib.ListN.{take}
 use Rattle.move_kinds.specs.Rewriting.{move_count}
 use Rattle.move_kinds.specs.steps.Leaving.{moved}
 use Rattle.move_kinds.proofs.CodeList.{steps_from, goes_on, stops, ends}
@@ -16,45 +16,33 @@ loop-k-init c =
       ap (λ (i : ℕ). moved (steps_from a.moves.now 0 i) (take a.n a.codes.now)) e,
       c.two_bytes-count.ensures.0,
       omega arith,
-      omega arith,
-      refl,
     )
 
 pub move_at-m-requires : goal.move_at-m-requires
 move_at-m-requires c =
     let l = c.loop-k in
-    (record { short = omega arith; room = l.invariant.4 ∙ c.requires.0.room }, c.requires.1, omega arith)
-
-pub shape_of-codes-then-m-ne0 : goal.shape_of-codes-then-m-ne0
-shape_of-codes-then-m-ne0 c =
-    c.move_at-m.auto.codes ∙ c.loop-k.invariant.4
+    (record { short = omega arith; room = l.auto.codes ∙ c.requires.0.room }, c.requires.1, omega arith)
 
 pub returns-then-m-ne0 : goal.returns-then-m-ne0
 returns-then-m-ne0 c =
     let l = c.loop-k in
     let refused : (c.move_at-m.result.answer ≡ 0 → ⊥) = omega arith in
     stops c.args.moves.now l.codes c.two_bytes-count.result l.k l.letters l.invariant.0
-    c.loop-k-test.true refused c.move_at-m.ensures
+    (omega arith) refused c.move_at-m.ensures
 
 pub loop-k-preserved : goal.loop-k-preserved
 loop-k-preserved c =
     let l = c.loop-k in
-    let made : c.move_at-m.result.answer ≡ 0 = omega arith in
-    let equal : length c.move_at-m.new.codes ≡ length c.args.codes.now = c.move_at-m.auto.codes ∙ l.invariant.4 in (
+    let made : c.move_at-m.result.answer ≡ 0 = omega arith in (
       goes_on c.args.moves.now l.codes c.two_bytes-count.result l.k l.letters l.invariant.0
-          c.loop-k-test.true made
+          (omega arith) made
           c.move_at-m.ensures,
       l.invariant.1,
-      omega arith,
-      omega (arith, c.move_at-m.ensures.letters_in, c.requires.0.room),
-      equal,
+      omega (arith, c.move_at-m.ensures.letters_in, c.requires.0.room, l.auto.codes, c.move_at-m.auto.codes),
     )
 
 pub returns : goal.returns
 returns c =
     let l = c.loop-k in
     ends c.args.moves.now l.codes c.two_bytes-count.result l.k l.letters l.invariant.0 (omega arith)
-    (omega (arith, l.invariant.4, c.requires.0.room))
-
-pub shape_of-codes : goal.shape_of-codes
-shape_of-codes c = c.loop-k.invariant.4
+    (omega (arith, l.auto.codes, c.requires.0.room))

@@ -2,7 +2,7 @@
 -- this point, what all moves give on the word handed in.
 use Prim.Native.Nat.{◌-◌, ◌≤◌}
 use mathlib.Core.Path.{◌≡◌}
-use lib.ListN.{length, take}
+use lib.ListN.{take}
 use Rattle.move_kinds.specs.Rewriting.{move_count, steps}
 use Rattle.move_kinds.specs.steps.Leaving.{moved}
 use Rattle.move_kinds.proofs.CodeList.{steps_from}
@@ -13,9 +13,4 @@ invariant-loop-k l =
     (moved (steps_from l.moves l.k (l.count - l.k)) (take l.letters l.codes)
     ≡ moved (steps l.moves) (take l.n l.initial.codes))
     × (l.count ≡ move_count l.moves)
-    × (l.k ≤ l.count)
     × (l.letters ≤ 10000)
-    × (length l.codes ≡ length l.initial.codes)
-
-abbrev pub decreases-loop-k : goal.decreases-loop-k
-decreases-loop-k l = l.count - l.k

@@ -6,14 +6,8 @@ use Rattle.pair.proofs.CarryLaws.{column_below}
 use Rattle.pair.proofs.ColumnLaws.{letter_carried}
 use Rattle.pair.proofs.letter.one_letter.Goals as goal
 
-pub overflow_cast-own : goal.overflow_cast-own
-overflow_cast-own c = omega (arith, c.requires.0.below (c.args.code % 8))
-
 pub bounds-labels-g-2 : goal.bounds-labels-g-2
 bounds-labels-g-2 c = omega (arith, column_below c.args.code c.requires.1)
-
-pub overflow_cast-next : goal.overflow_cast-next
-overflow_cast-next c = omega (arith, c.requires.0.below (c.args.code % 8 + 1))
 
 pub constants_at-at-requires : goal.constants_at-at-requires
 constants_at-at-requires c =
@@ -29,7 +23,7 @@ multiply_columns-requires c =
       held.bytes,
       held.small,
       omega (arith, held.small, at.ensures.1),
-      column_below c.args.code c.requires.1,
+      rw c.from-g.ensures (column_below c.args.code c.requires.1),
     )
 
 pub returns : goal.returns
@@ -37,5 +31,5 @@ returns c =
     let at = c.constants_at-at in
     let a = c.args in
     letter_carried a.bits a.constants.now a.columns.now a.labels.now c.multiply_columns.new.columns
-    c.multiply_columns.new.labels a.code at.result
-    c.requires.0 c.requires.1 at.ensures.0 c.multiply_columns.ensures
+    c.multiply_columns.new.labels a.code at.result c.requires.0 c.requires.1 (cc)
+    (rw c.from-g.ensures at c.multiply_columns.ensures)

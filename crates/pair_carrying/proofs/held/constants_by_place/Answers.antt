@@ -9,13 +9,13 @@ use Rattle.field.proofs.TableLaws.{inverse_at, lent_short}
 use Rattle.pair_carrying.proofs.held.constants_by_place.Goals as goal
 
 pub reciprocals_of-reciprocals-requires : goal.reciprocals_of-reciprocals-requires
-reciprocals_of-reciprocals-requires c = lent_short c.requires.1
+reciprocals_of-reciprocals-requires c = lent_short c.requires
 
 pub constants_of-requires : goal.constants_of-requires
 constants_of-requires c =
     let numbers = c.values_at-numbers.result in
     let table = c.args.table.now in
-    let lent = c.requires.1 in (
+    let lent = c.requires in (
       lent.narrow,
       lent.degree,
       λ a h. ap (λ (l : List ℕ). get_or l a 0) c.reciprocals_of-reciprocals.ensures

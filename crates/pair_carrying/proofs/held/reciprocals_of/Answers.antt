@@ -1,28 +1,8 @@
--- `pair_carrying::held::reciprocals_of` meets its contract. The loop's invariant: the first i reciprocals are in their
--- places.
-use Prim.Native.Nat.{◌-◌}
-use mathlib.Core.Path.{refl, ◌∙◌}
-use native.Mathlib.Omega.{arith}
-use lib.ListN.{length-set}
-use Rattle.base.proofs.ListLaws.{values_of, one_more}
+-- `pair_carrying::held::reciprocals_of` meets its contract.
+use Rattle.std.proofs.Common.{rules, tests}
+use Rattle.field.specs.steps.Reciprocals.{looked_up}
+use Rattle.pair_carrying.proofs.MapLaws.{mapped}
 use Rattle.pair_carrying.proofs.held.reciprocals_of.Goals as goal
-use Rattle.pair_carrying.proofs.held.reciprocals_of.Invariants.{reciprocal}
-
-pub loop-i-init : goal.loop-i-init
-loop-i-init c = (omega arith, refl, λ k h. absurd (omega arith))
-
-pub loop-i-preserved : goal.loop-i-preserved
-loop-i-preserved c =
-    let l = c.loop-i in
-    let a = c.args in (
-      omega arith,
-      length-set l.list l.i _ ∙ l.invariant.1,
-      one_more (reciprocal a.table.now a.numbers.now) l.list l.i _ (omega arith) l.invariant.2
-          c.inverse.ensures,
-    )
 
 pub returns : goal.returns
-returns c =
-    let l = c.loop-i in
-    let a = c.args in
-    values_of (reciprocal a.table.now a.numbers.now) 8 l.list l.invariant.1 (λ k h. l.invariant.2 k (omega arith))
+returns c = mapped (looked_up c.args.table.now) (λ x b q k. search (rules, tests)) _ _ 8 c.map.ensures.items

@@ -9,5 +9,5 @@ pub returns : goal.returns
 unfolding zero_half
 returns c = (
   refl,
-  λ j. record { field = Gf32; t_values = replicate 8 0; pair = c.zeros-pair.ensures j; target = replicate 64 0 },
+  λ j. record { field = Gf32; t_values = replicate 8 0; pair = c.zeros.ensures j; target = replicate 64 0 },
 )

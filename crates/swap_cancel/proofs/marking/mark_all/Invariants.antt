@@ -1,7 +1,6 @@
 -- `swap_cancel::marking::mark_all` meets its contract. The loop's invariant: the letters that are not marked are what
 -- swapping and cancelling leaves of the codes read, the other codes are unchanged, and the rows have the latest
 -- letters.
-use Prim.Native.Nat.{◌-◌, ◌≤◌}
 use mathlib.Core.Path.{◌≡◌}
 use lib.ListN.{length, take, drop}
 use Rattle.swap_cancel.specs.SwapCancel.{swap_cancelled}
@@ -10,12 +9,7 @@ use Rattle.swap_cancel.proofs.marking.mark_all.Given as goal
 
 abbrev pub invariant-loop-k : goal.invariant-loop-k
 invariant-loop-k l =
-    (l.k ≤ l.n)
-    × Marked l.n l.codes l.before l.last l.k
-    × (length l.codes ≡ length l.initial.codes)
+    Marked l.n l.codes l.before l.last l.k
     × (length l.before ≡ 10000)
     × (kept (take l.k l.codes) ≡ swap_cancelled (take l.k l.initial.codes))
     × (drop l.k l.codes ≡ drop l.k l.initial.codes)
-
-abbrev pub decreases-loop-k : goal.decreases-loop-k
-decreases-loop-k l = l.n - l.k

@@ -1,17 +1,11 @@
--- `text::number::spell` meets its contract. The loop's invariant: the bytes from place i on show the last digits of the
--- number, and `rest` is the number without these digits.
-use Prim.Native.Nat.{ℕ, ◌+◌, ◌-◌, ◌/◌, ◌^◌}
+-- `text::number::spell` meets its contract. The loop's invariant: the digits so far are shown as bytes, and the others
+-- are unchanged.
 use mathlib.Core.Path.{◌≡◌}
-use lib.ListN.{length, drop}
-use Rattle.base.specs.Digits.{digits}
+use mathlib.Core.List.{◌++◌}
+use lib.ListN.{take, drop}
 use Rattle.text.specs.Decimal.{shown}
 use Rattle.text.proofs.number.spell.Given as goal
 
-abbrev pub invariant-loop-i : goal.invariant-loop-i
-invariant-loop-i l =
-    (n : ℕ) × (n + l.i ≡ length l.initial.part) × (length l.part ≡ length l.initial.part)
-    × (drop l.i l.part ≡ shown (digits 10 n l.n))
-    × (l.rest ≡ l.n / 10 ^ n)
-
-abbrev pub decreases-loop-i : goal.decreases-loop-i
-decreases-loop-i l = l.i
+abbrev pub invariant-loop-digit : goal.invariant-loop-digit
+invariant-loop-digit l =
+    l.digit-items ≡ take l.digit-index (shown l.initial.digit-items) ++ drop l.digit-index l.initial.digit-items

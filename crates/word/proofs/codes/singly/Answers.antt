@@ -1,10 +1,10 @@
 -- `word::codes::singly` meets its contract. The loop's invariant: the first 2 * k codes are half bytes of the bytes,
 -- and the other codes are unchanged.
 use Prim.Native.Nat.{ℕ, ◌+◌, ◌*◌, ◌/◌, ◌%◌, ◌<◌}
-use mathlib.Core.Path.{◌≡◌, refl, sym, ap, ap₂, ◌∙◌}
+use mathlib.Core.Path.{◌≡◌, sym, ap, ap₂, ◌∙◌}
 use mathlib.Core.List.{List, ◌++◌}
 use native.Mathlib.Omega.{arith}
-use lib.ListN.{length, take, drop, get_or, set, length-set}
+use lib.ListN.{length, take, drop, get_or, set}
 use Rattle.base.specs.Digits.{halves}
 use Rattle.base.proofs.ListLaws.{overlay_step, overlay_whole}
 use Rattle.base.proofs.DigitLaws.{length_halves, half_even, half_odd}
@@ -35,24 +35,12 @@ two_more bytes row codes k h l e =
 pub loop-k-preserved : goal.loop-k-preserved
 loop-k-preserved c =
     let l = c.loop-k in
-    let a = c.args in (
-      omega arith,
-      simp length-set l.invariant.1,
-      two_more a.bytes.now a.codes.now l.codes l.k (omega arith) (omega arith) l.invariant.2,
-    )
+    let a = c.args in
+    two_more a.bytes.now a.codes.now l.codes l.k (omega arith) (omega arith) l.invariant
 
 pub returns : goal.returns
 returns c =
     let l = c.loop-k in
     let a = c.args in
-    l.invariant.2
+    l.invariant
     ∙ overlay_whole (halves a.bytes.now) a.codes.now (2 * l.k) (omega (arith, length_halves a.bytes.now))
-
-pub loop-k-init : goal.loop-k-init
-loop-k-init c = (omega arith, refl, refl)
-
-pub bounds-codes-k-in-loop-k : goal.bounds-codes-k-in-loop-k
-bounds-codes-k-in-loop-k c = simp length-set (omega arith)
-
-pub shape_of-codes : goal.shape_of-codes
-shape_of-codes c = c.loop-k.invariant.1

@@ -1,15 +1,11 @@
 -- `word::codes::singly` meets its contract. The loop's invariant: the first 2 * k codes are half bytes of the bytes,
 -- and the other codes are unchanged.
-use Prim.Native.Nat.{◌-◌, ◌*◌, ◌≤◌}
+use Prim.Native.Nat.{◌*◌}
 use mathlib.Core.Path.{◌≡◌}
 use mathlib.Core.List.{◌++◌}
-use lib.ListN.{length, take, drop}
+use lib.ListN.{take, drop}
 use Rattle.base.specs.Digits.{halves}
 use Rattle.word.proofs.codes.singly.Given as goal
 
 abbrev pub invariant-loop-k : goal.invariant-loop-k
-invariant-loop-k l = (l.k ≤ length l.bytes) × (length l.codes ≡ length l.initial.codes)
-    × (l.codes ≡ take (2 * l.k) (halves l.bytes) ++ drop (2 * l.k) l.initial.codes)
-
-abbrev pub decreases-loop-k : goal.decreases-loop-k
-decreases-loop-k l = length l.bytes - l.k
+invariant-loop-k l = l.codes ≡ take (2 * l.k) (halves l.bytes) ++ drop (2 * l.k) l.initial.codes

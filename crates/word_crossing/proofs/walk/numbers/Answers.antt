@@ -49,11 +49,5 @@ returns c =
     all_numbers (codes c.args.word.now) l.numbers l.invariant.0
     (λ k h. l.invariant.1 k (omega arith))
 
-pub counted-walked-requires : goal.counted-walked-requires
-counted-walked-requires c = c.requires
-
 pub loop-k-init : goal.loop-k-init
 loop-k-init c = (refl, λ j h. absurd (omega arith))
-
-pub pair_at-two-requires : goal.pair_at-two-requires
-pair_at-two-requires c = tt

@@ -1,6 +1,6 @@
 -- `word_crossing::walk::numbers` meets its contract. The loop's invariant: the numbers of the first k pairs are in
 -- their places.
-use Prim.Native.Nat.{ℕ, ◌-◌, ◌<◌}
+use Prim.Native.Nat.{ℕ, ◌<◌}
 use mathlib.Core.Path.{◌≡◌}
 use lib.IntN.{pos}
 use lib.ListN.{length, get_or}
@@ -13,6 +13,3 @@ abbrev pub invariant-loop-k : goal.invariant-loop-k
 invariant-loop-k l =
     (length l.numbers ≡ 28)
     × ((j : ℕ) → j < l.k → get_or l.numbers j (pos 0) ≡ crossings (pair_at j).smaller (pair_at j).larger (codes l.word))
-
-abbrev pub decreases-loop-k : goal.decreases-loop-k
-decreases-loop-k l = 28 - l.k

@@ -1,5 +1,5 @@
--- `word_dialect::lay::lay_all` meets its contract. The loop's invariant: the row starts with the runs of the first k
--- codes.
+-- `word_dialect::lay::lay_all` meets its contract. The loop's invariant: the row starts with the runs of the codes
+-- so far.
 use Prim.Native.Nat.{ℕ, ◌≤◌, ◌<◌}
 use mathlib.Core.Path.{◌≡◌, refl, sym, ap, ◌∙◌}
 use mathlib.Core.List.{List, ◌++◌}
@@ -12,58 +12,42 @@ use Rattle.word_dialect.proofs.EachLaws.{each_front}
 use Rattle.word_dialect.proofs.TableLaws.{laid_more, laid_length, run_length}
 use Rattle.word_dialect.proofs.lay.lay_all.Goals as goal
 
-pub loop-k-init : goal.loop-k-init
+pub loop-c-init : goal.loop-c-init
 unfolding laid each_by
-loop-k-init c = (omega arith, refl, refl, refl)
-
-pub bounds-codes-k : goal.bounds-codes-k
-bounds-codes-k c = omega arith
-
-pub overflow_cast-codes : goal.overflow_cast-codes
-overflow_cast-codes c =
-    omega (arith, c.requires.1 c.loop-k.k)
+loop-c-init c = (refl, refl)
 
 pub lay-at-requires : goal.lay-at-requires
 unfolding laid
 lay-at-requires c =
     let a = c.args in
-    let front : length (laid a.table.now (take c.loop-k.k a.codes.now))
-    ≤ length (laid a.table.now a.codes.now) =
-    each_front (table_run a.table.now) a.codes.now c.loop-k.k in (
+    let l = c.loop-c in
+    let front : length (laid a.table.now (take l.c-index a.codes.now)) ≤ length (laid a.table.now a.codes.now) =
+    each_front (table_run a.table.now) a.codes.now l.c-index in
+    rw c.from.ensures (
       c.requires.0,
-      c.requires.1 c.loop-k.k,
-      omega
-          (arith, front, c.requires.2, c.loop-k.invariant.1, c.loop-k.invariant.2),
+      c.requires.1 l.c-index,
+      omega (arith, front, c.requires.2, l.invariant.0),
     )
 
-pub overflow_add-k : goal.overflow_add-k
-overflow_add-k c = omega arith
-
-pub loop-k-smaller : goal.loop-k-smaller
-loop-k-smaller c = omega arith
-
-pub loop-k-preserved : goal.loop-k-preserved
-loop-k-preserved c =
+pub loop-c-preserved : goal.loop-c-preserved
+loop-c-preserved c =
     let a = c.args in
-    let k : c.loop-k.k < length a.codes.now = omega arith in
-    let more = laid_more a.table.now a.codes.now c.requires.0 c.requires.1 c.loop-k.k k in
-    let long = laid_length a.table.now a.codes.now c.requires.0 c.requires.1 c.loop-k.k k in
-    let run = run_length a.table.now a.codes.now c.requires.0 c.requires.1 c.loop-k.k k in (
-      omega arith,
-      c.lay-at.auto.row ∙ c.loop-k.invariant.1,
-      omega (arith, c.lay-at.ensures.0, c.loop-k.invariant.2, long, run),
-      c.lay-at.ensures.2
-          ∙ ap (λ (w : List ℕ). w ++ table_run a.table.now (get_or a.codes.now c.loop-k.k 0)) c.loop-k.invariant.3
+    let l = c.loop-c in
+    let k : l.c-index < length a.codes.now = omega arith in
+    let more = laid_more a.table.now a.codes.now c.requires.0 c.requires.1 l.c-index k in
+    let long = laid_length a.table.now a.codes.now c.requires.0 c.requires.1 l.c-index k in
+    let run = run_length a.table.now a.codes.now c.requires.0 c.requires.1 l.c-index k in
+    let step = rw c.from.ensures at c.lay-at.ensures in (
+      omega (arith, step.0, l.invariant.0, long, run),
+      step.2
+          ∙ ap (λ (w : List ℕ). w ++ table_run a.table.now (get_or a.codes.now l.c-index 0)) l.invariant.1
           ∙ sym more,
     )
 
-pub shape_of-row : goal.shape_of-row
-shape_of-row c = c.loop-k.invariant.1
-
 pub returns : goal.returns
 returns c =
-    let l = c.loop-k in
+    let l = c.loop-c in
     let a = c.args in
-    let all : take l.k a.codes.now ≡ a.codes.now = take_all l.k a.codes.now (omega arith) in
+    let all : take l.c-index a.codes.now ≡ a.codes.now = take_all l.c-index a.codes.now (omega arith) in
     ap (λ (w : List ℕ). take (length (laid a.table.now w)) l.row) (sym all)
-    ∙ ap (λ (n : ℕ). take n l.row) (sym l.invariant.2) ∙ l.invariant.3 ∙ ap (laid a.table.now) all
+    ∙ ap (λ (n : ℕ). take n l.row) (sym l.invariant.0) ∙ l.invariant.1 ∙ ap (laid a.table.now) all

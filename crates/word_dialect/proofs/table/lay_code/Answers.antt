@@ -5,23 +5,13 @@ use Rattle.word_dialect.specs.Dialect.{run}
 use Rattle.word_dialect.specs.steps.Table.{Steps}
 use Rattle.word_dialect.proofs.PartLaws.{room_for_run}
 use Rattle.word_dialect.proofs.TableLaws.{holds_more}
-use borrow.Author.Rules.{rules}
 use Rattle.word_dialect.proofs.table.lay_code.Goals as goal
-
-pub following-n-requires : goal.following-n-requires
-following-n-requires c = search rules
 
 pub run_of-r-requires : goal.run_of-r-requires
 run_of-r-requires c =
     let a = c.args in
     let r = room_for_run a.parts.now c.requires.2 (generator a.c) (omega arith) in
     (c.requires.0, omega (arith, r.0, c.following-n.ensures), omega (arith, r.1, c.following-n.ensures))
-
-pub lay_run-requires : goal.lay_run-requires
-lay_run-requires c = search rules
-
-pub shape_of-table : goal.shape_of-table
-shape_of-table c = search rules
 
 pub returns : goal.returns
 unfolding run

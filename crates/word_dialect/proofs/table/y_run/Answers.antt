@@ -2,22 +2,12 @@
 use Rattle.word_dialect.proofs.TableLaws.{y_inverse_last, y_inverse, y_last, y_other}
 use mathlib.Core.Path.{sym, ◌∙◌}
 use borrow.Author.Tests.{eq-eqb, ne_eqb}
-use borrow.Author.Rules.{rules}
 use Rattle.word_dialect.proofs.table.y_run.Goals as goal
-
-pub is_inverse-requires : goal.is_inverse-requires
-is_inverse-requires c = search rules
-
-pub overflow_add-result : goal.overflow_add-result
-overflow_add-result c = search rules
 
 pub returns-then-n-eq0 : goal.returns-then-n-eq0
 returns-then-n-eq0 c =
     y_inverse_last _ _ c.requires (sym c.is_inverse.ensures ∙ c.if-is_inverse.true)
     (eq-eqb _ 0 c.if-n-eq0.true)
-
-pub overflow_add-result-then-is_inverse : goal.overflow_add-result-then-is_inverse
-overflow_add-result-then-is_inverse c = search rules
 
 pub returns-then-is_inverse : goal.returns-then-is_inverse
 returns-then-is_inverse c =

@@ -1,9 +1,8 @@
 -- `word_shortener::routes::by_handles` meets its contract.
 use Prim.Native.Nat.{ℕ}
-use mathlib.Core.Path.{◌≡◌, refl, ◌∙◌}
+use mathlib.Core.Path.{◌≡◌, ◌∙◌}
 use mathlib.Core.Bool.{Bool}
 use mathlib.Core.List.{List}
-use mathlib.Core.Logic.{inl}
 use native.Mathlib.Omega.{arith}
 use lib.ListN.{take}
 use Rattle.base.proofs.QuestionLaws.{granted_zero}
@@ -17,7 +16,7 @@ use Rattle.word_shortener.proofs.RouteLaws.{cancelled_lettered, second_way}
 use Rattle.word_shortener.proofs.routes.by_handles.Goals as goal
 
 pub returns-then-h-ne0 : goal.returns-then-h-ne0
-returns-then-h-ne0 c = inl (λ z. c.if-h-ne0.true (c.reduce-h.ensures.answer_is ∙ z), refl)
+returns-then-h-ne0 c = λ z. c.if-h-ne0.true (c.reduce-h.ensures.answer_is ∙ z)
 
 -- the word that handle reduction leaves
 word_is : {n answer m : ℕ} {row new : List ℕ} {left : Bool} → StepsOnRow most_steps n row new answer m left → answer ≡ 0

@@ -1,6 +1,6 @@
 -- `word_spread::step::step` meets its contract. The loop's invariant: the numbers of the first k lists are in their
 -- places.
-use Prim.Native.Nat.{ℕ, ◌+◌, ◌-◌, ◌<◌}
+use Prim.Native.Nat.{ℕ, ◌+◌, ◌<◌}
 use mathlib.Core.Path.{◌≡◌}
 use lib.ListN.{length, get_or}
 use Rattle.word_spread.specs.Spread.{ending, list_at}
@@ -8,8 +8,6 @@ use Rattle.word_spread.specs.steps.Counting.{Counted}
 use Rattle.word_spread.proofs.step.step.Given as goal
 
 abbrev pub invariant-loop-k : goal.invariant-loop-k
-invariant-loop-k l = (length l.more ≡ 24)
+invariant-loop-k l =
+    (length l.more ≡ 24)
     × ((n : ℕ) → Counted n l.counts → (j : ℕ) → j < l.k → get_or l.more j 0 ≡ ending (n + 1) (list_at j))
-
-abbrev pub decreases-loop-k : goal.decreases-loop-k
-decreases-loop-k l = 24 - l.k
