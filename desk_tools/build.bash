@@ -114,15 +114,25 @@ startable() {
     done
 }
 
+# line_within SECONDS: sets $line to the next line of $ends, if one begins in this time. The time may run out within a
+# line; what is left of it is then read too.
+line_within() {
+    local rest
+    read -r -t "$1" line <&7 && return
+    [ -n "$line" ] || return 1
+    read -r rest <&7
+    line+=$rest
+}
+
 # next_end: waits until a crate of $begun ends, and sets $each and $status. A process that is killed writes no line to
 # $ends. It is found when no line comes for a second, and counts as one that ended with 137.
 next_end() {
     local line
-    until read -r -t 1 line <&7; do
+    until line_within 1; do
         for each in "${!begun[@]}"; do
             [ -n "${proved[$each]-}" ] || kill -0 "${begun[$each]}" 2>/dev/null && continue
             # a process that ended just before has left its line
-            read -r -t 0.1 line <&7 || line="$each 137"
+            line_within 0.1 || line="$each 137"
             break 2
         done
     done
