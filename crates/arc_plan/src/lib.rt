@@ -73,6 +73,7 @@ fn side(c: u8, x: u8, coin: bool, steps: &mut [u8; 9]) -> u8
 // One loop over any zip of the letters and the plan makes shortening 5 % slower.
 fn sides(part: &[u8], plan: &mut [u8], far: u8, last_first: bool, coin: bool)
     requires { (length part.now ≤ length plan.old) × (far ≤ 7) }
+    ensures { Planned (length part.now) plan.old plan.new }
 {
     let mut steps = distances(far);
     let mut x = far;

@@ -56,7 +56,7 @@ fn main(rt: HostRuntime) {
         0 | 1 => judge_input(rt),
         2 | 3 => desk_io::misused(
             rt,
-            b"desk takes names of files, key, digest and one or more signatures, or none",
+            b"desk takes names of files, key, digest and one or more signatures, or none\n",
         ),
         4 => judge_files(rt),
         n => judge_copies(rt, n),

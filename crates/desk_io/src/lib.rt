@@ -117,7 +117,7 @@ pub fn read_full(from: &mut impl Read, buf: &mut [u8]) -> usize
 // Says on standard error which arguments a program takes.
 pub fn misused(rt: &impl Eprint, takes: &[u8]) {
     let takes = Shown(takes);
-    let _ = eprintln!(rt; "{takes}");
+    let _ = eprint!(rt; "{takes}");
 }
 
 // How many arguments the program has, its own name among them.

@@ -2,6 +2,8 @@
 // it is complete.
 #![tactic(auto)]
 
+ghost use Rattle.std.specs.Prelude.{◌≤◌, length, IfSome};
+
 use desk_io::NAME_ROOM;
 use std::fs;
 use std::fs::{OpenFile, OpenOptions};
@@ -66,7 +68,9 @@ fn put(rt: &(impl Files + Eprint), beside: &[u8], new: &[u8], bytes: &[u8], alon
 
 // The name of a file, argument i, which is written to the front of a buffer. If that fails, a line on standard error
 // says so.
-fn name<'a>(rt: &(impl Env + Eprint), i: usize, buf: &'a mut [u8]) -> Option<&'a [u8]> {
+fn name<'a>(rt: &(impl Env + Eprint), i: usize, buf: &'a mut [u8]) -> Option<&'a [u8]>
+    ensures { IfSome result (λ name. length name.now ≤ length buf.old) }
+{
     match desk_io::argument(rt, i, buf) {
         Ok(n) => Some(&buf[..n]),
         Err(why) => {

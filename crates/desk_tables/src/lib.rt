@@ -38,7 +38,10 @@ pub fn crossings(rt: &(impl Files + Env + Input + Print + Eprint)) {
     match desk_io::arg_count(rt) {
         0 | 1 => crossings_input(rt),
         2 => crossings_file(rt),
-        _ => desk_io::misused(rt, b"crossings takes the name of a file, the word, or none"),
+        _ => desk_io::misused(
+            rt,
+            b"crossings takes the name of a file, the word, or none\n",
+        ),
     }
 }
 
@@ -60,6 +63,6 @@ pub fn spread(rt: &(impl Env + Print + Eprint)) {
     match desk_io::arg_count(rt) {
         0 | 1 => spread_usual(rt),
         2 => spread_length(rt),
-        _ => desk_io::misused(rt, b"spread takes a length, 0 to 12, or none"),
+        _ => desk_io::misused(rt, b"spread takes a length, 0 to 12, or none\n"),
     }
 }

@@ -6,4 +6,3 @@ pub mod ChangeOfLayout
 pub mod RoundTrip
 pub mod WrongPrograms
 pub mod Inverses
-pub mod Compared

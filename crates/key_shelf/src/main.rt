@@ -99,7 +99,7 @@ fn main(rt: HostRuntime) {
             rt,
             b"key_shelf takes load, clear, judge or round, a name beside the new file, the old shelf, the new one and a \
              publisher; all but round take a key number too, then KEY to load, none to clear, DIGEST SIGNATURE to \
-             judge",
+             judge\n",
         ),
     }
 }

@@ -145,13 +145,17 @@ fn both_cleared(first: [u8; 64], second: [u8; 64], table: &[u16], inverses: &[u8
     true
 }
 
-// Has each of two matrices an inverse? For entries that are not field elements, products and reciprocals use only the
-// low bits; sums and the test for zero use the whole byte.
-pub fn both_invertible(first: [u8; 64], second: [u8; 64], f: Field) -> bool
+// Has each of two matrices an inverse? The caller lends the tables of the field.
+fn both_eliminated(
+    first: [u8; 64],
+    second: [u8; 64],
+    table: &[u16],
+    inverses: &[u8],
+    f: Field,
+) -> bool
+    requires { ProductsBy f table.now × (inverses.now ≡ reciprocals (bits f) (modulus f)) }
     ensures { result ≡ (invertible (operations f) 8 (entry first) && invertible (operations f) 8 (entry second)) }
 {
-    let table = logarithms(f);
-    let inverses = reciprocals(f);
     let mut a = first;
     let mut b = second;
     if !clear_last(&mut a, table, inverses, f) {
@@ -161,4 +165,21 @@ pub fn both_invertible(first: [u8; 64], second: [u8; 64], f: Field) -> bool
         return false;
     }
     both_cleared(a, b, table, inverses, f)
+}
+
+// Has each of two matrices an inverse? For entries that are not field elements, products and reciprocals use only the
+// low bits; sums and the test for zero use the whole byte.
+pub fn both_invertible(first: [u8; 64], second: [u8; 64], f: Field) -> bool
+    ensures { result ≡ (invertible (operations f) 8 (entry first) && invertible (operations f) 8 (entry second)) }
+{
+    match f {
+        Field::Gf32 => {
+            let table = logarithms(Field::Gf32);
+            both_eliminated(first, second, table, reciprocals(Field::Gf32), f)
+        }
+        Field::Gf256 => {
+            let table = logarithms(Field::Gf256);
+            both_eliminated(first, second, table, reciprocals(Field::Gf256), f)
+        }
+    }
 }

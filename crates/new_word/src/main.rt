@@ -32,13 +32,14 @@ impl Form {
 
 // Prints how many letters and bytes the old file has and how many the new file has, without a line end.
 fn sizes(rt: &impl Print, old: &[u8], from: Form, new: &[u8], to: Form) {
-    let _ = print!(rt;
-        "letters {} to {}, bytes {} to {}",
-        from.letters(old),
-        to.letters(new),
-        old.len(),
-        new.len()
-    );
+    print::text(rt, b"letters");
+    print::number(rt, from.letters(old));
+    print::text(rt, b" to");
+    print::number(rt, to.letters(new));
+    print::text(rt, b", bytes");
+    print::number(rt, old.len());
+    print::text(rt, b" to");
+    print::number(rt, new.len());
 }
 
 // If the answer is 0, writes what was made to the file that argument `new` names. Then prints the answer, or that there
@@ -149,7 +150,7 @@ fn steps(rt: &(impl Files + Env + Print + Eprint), limit: u16) {
 fn handles(rt: &(impl Files + Env + Print + Eprint)) {
     match number_at(rt, 4) {
         Some(limit) => steps(rt, limit),
-        None => desk_io::misused(rt, b"handles takes at most 65535 steps, in decimal"),
+        None => desk_io::misused(rt, b"handles takes at most 65535 steps, in decimal\n"),
     }
 }
 
@@ -202,7 +203,7 @@ fn main(rt: HostRuntime) {
             rt,
             b"new_word takes a verb and, after a name beside the new file, the verb's files: shorten EFFORT KEY DIGEST \
              SIGNATURE NEW, rewrite WORD MOVES NEW, reduce WORD NEW, handles WORD LIMIT NEW, store WORD NEW, restore \
-             STORED NEW, to-y WORD PARTS NEW or from-y WORD PARTS NEW",
+             STORED NEW, to-y WORD PARTS NEW or from-y WORD PARTS NEW\n",
         ),
     }
 }

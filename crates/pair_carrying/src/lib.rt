@@ -62,10 +62,15 @@ pub fn carry_letters(pair: Pair, t_values: &[u8; 8], codes: &[u8], f: Field) -> 
     ensures { result
         ≡ word_on (operations f) t_values.now codes.now (pair_of pair.matrix pair.labels) }
 {
-    let table = reciprocals(f);
     // Each arm passes constants, which the compiler can spread into the loop over a letter's bits.
     match f {
-        Field::Gf32 => row(pair, t_values, codes, table, SMALL_BITS, SMALL_MODULUS),
-        Field::Gf256 => row(pair, t_values, codes, table, LARGE_BITS, LARGE_MODULUS),
+        Field::Gf32 => {
+            let table = reciprocals(Field::Gf32);
+            row(pair, t_values, codes, table, SMALL_BITS, SMALL_MODULUS)
+        }
+        Field::Gf256 => {
+            let table = reciprocals(Field::Gf256);
+            row(pair, t_values, codes, table, LARGE_BITS, LARGE_MODULUS)
+        }
     }
 }

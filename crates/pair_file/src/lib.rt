@@ -93,10 +93,15 @@ pub fn carry_file(pair: Pair, t_values: &[u8; 8], file: &[u8], f: Field) -> Pair
 {
     let n = word::stated(file);
     let part = &file[2..];
-    let table = reciprocals(f);
     // Each arm passes constants, which the compiler can spread into the loop over a letter's bits.
     match f {
-        Field::Gf32 => packed(pair, t_values, part, n, table, SMALL_BITS, SMALL_MODULUS),
-        Field::Gf256 => packed(pair, t_values, part, n, table, LARGE_BITS, LARGE_MODULUS),
+        Field::Gf32 => {
+            let table = reciprocals(Field::Gf32);
+            packed(pair, t_values, part, n, table, SMALL_BITS, SMALL_MODULUS)
+        }
+        Field::Gf256 => {
+            let table = reciprocals(Field::Gf256);
+            packed(pair, t_values, part, n, table, LARGE_BITS, LARGE_MODULUS)
+        }
     }
 }

@@ -6,7 +6,8 @@ ghost use Rattle.word.specs.Strands.{is_order, are_inverse};
 ghost use Rattle.pair_operands.specs.Operands.{nonzero};
 ghost use Rattle.pair_operands.specs.steps.Fitting.{fit};
 
-// Does every number fit `bits` bits? Every byte fits eight bits or more.
+// Does every number fit `bits` bits? Every byte fits eight bits or more. The loop never ends early, so the compiled
+// code tests many bytes at once; `all` of an iterator does not.
 pub fn all_fit(xs: &[u8], bits: usize) -> bool
     ensures { result ≡ fit bits xs.now }
 {
@@ -14,13 +15,22 @@ pub fn all_fit(xs: &[u8], bits: usize) -> bool
         return true;
     }
     let limit: u8 = 1 << bits;
-    xs.iter().all(|x| *x < limit)
+    let mut fits = true;
+    for x in xs {
+        fits &= *x < limit;
+    }
+    fits
 }
 
+// Is no number zero? This loop never ends early either.
 pub fn all_nonzero(xs: &[u8]) -> bool
     ensures { result ≡ nonzero xs.now }
 {
-    xs.iter().all(|x| *x != 0)
+    let mut other = true;
+    for x in xs {
+        other &= *x != 0;
+    }
+    other
 }
 
 // Byte a of this number counts label a: each of the labels 0 to 7 occurs once.

@@ -42,7 +42,7 @@ fn comes_back(t_values: &[u8; 8], labels: &[u8], word: &[u8], f: Field) -> bool
     list.copy_from_slice(labels);
     let before = Pair::with(Pair::start().matrix, list);
     let after = pair_file::carry_file(before, t_values, word, f);
-    after.matrix == before.matrix && after.labels == before.labels
+    base::equal(&after.matrix, &before.matrix) && base::equal(&after.labels, &before.labels)
 }
 
 // Cloaking: the key's questions, then 25, then the word's questions.

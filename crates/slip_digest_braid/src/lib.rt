@@ -113,11 +113,16 @@ fn short_over(
 fn short_matrix(t_values: &[u8; 8], digest: &[u8], f: Field) -> [u8; 64]
     ensures { ShortMatrix (operations f) t_values.now digest.now result }
 {
-    let table = reciprocals(f);
     // Each arm passes constants, which the compiler can spread into the loop over a letter's bits.
     match f {
-        Field::Gf32 => short_over(t_values, digest, table, SMALL_BITS, SMALL_MODULUS),
-        Field::Gf256 => short_over(t_values, digest, table, LARGE_BITS, LARGE_MODULUS),
+        Field::Gf32 => {
+            let table = reciprocals(Field::Gf32);
+            short_over(t_values, digest, table, SMALL_BITS, SMALL_MODULUS)
+        }
+        Field::Gf256 => {
+            let table = reciprocals(Field::Gf256);
+            short_over(t_values, digest, table, LARGE_BITS, LARGE_MODULUS)
+        }
     }
 }
 

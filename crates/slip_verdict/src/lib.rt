@@ -65,7 +65,7 @@ fn copy_answer(half: Half, word: &[u8]) -> u8
     ensures { result ≡ first_no (matrix_questions (signed_by half (codes word.now)) half.target) }
 {
     let reached = pair_file::carry_file(half.pair, &half.t_values, word, half.field);
-    if reached.matrix != half.target {
+    if !base::equal(&reached.matrix, &half.target) {
         return 14;
     }
     0

@@ -35,7 +35,7 @@ fn main(rt: HostRuntime) {
     } else {
         desk_io::misused(
             rt,
-            b"slips takes names of files: key, digest and signature of each slip",
+            b"slips takes names of files: key, digest and signature of each slip\n",
         );
     }
 }

@@ -1,6 +1,6 @@
 -- Laws of the table of runs: each shape of a run that the code makes is the run of the definition, by tests that antt
 -- computes over all codes; the run that eight entries hold; and the letters that the runs of a word's codes give.
-use Prim.Native.Nat.{ℕ, ◌+◌, ◌*◌, ◌-◌, ◌%◌, ◌≤◌, ◌<◌}
+use Prim.Native.Nat.{ℕ, ◌+◌, ◌*◌, ◌%◌, ◌≤◌, ◌<◌}
 use mathlib.Core.Path.{◌≡◌, refl, sym, ap, ap₂, ◌∙◌}
 use mathlib.Core.Bool.{Bool, true, false, cond, ◌&&◌}
 use mathlib.Core.List.{List, ◌++◌}
@@ -10,7 +10,7 @@ use borrow.Author.Count.{below_more}
 use borrow.Author.Tests.{ltb-true, leb-true, lt-ltb}
 use lib.Dec.{leb, ltb, eqb}
 use lib.ListN.{length, take, drop, get_or, length-append, length-drop}
-use lib.Seq.{length-take-le, take-append-add, take-append-le, take-take}
+use lib.Seq.{length-take-le, take-append-add, take-take}
 use lib.Seq.{get_or-take, get_or-drop, ext_get_or}
 use Rattle.base.specs.Lists.{every, equal, values_from, values}
 use Rattle.base.specs.Digits.{part}
@@ -203,25 +203,17 @@ module _ (table w : List ℕ) (t : IsTable table) (below : Below 16 w) (k : ℕ)
 
 -- ---- writing a run
 
--- eight entries are written from place `at` on: the run stands after what was there
-pub run_written : (table row put : List ℕ) (c at : ℕ) → IsTable table → c < 16 → at + 8 ≤ length row
-    → put ≡ take (8 * c + 8 - 8 * c) (drop (8 * c) table)
-    → take (at + get_or table (8 * c + 7) 0) (take at row ++ (put ++ drop (at + 8 - at) (drop at row)))
-    ≡ take at row ++ table_run table c
+-- at least seven entries are written from place `at` on: the run stands after what was there
+pub run_written : (table row put : List ℕ) (c at i : ℕ) → IsTable table → c < 16 → at ≤ length row → 7 ≤ i
+    → take (at + i) put ≡ take at row ++ part (8 * c) i table
+    → take (at + get_or table (8 * c + 7) 0) put ≡ take at row ++ table_run table c
 unfolding table_run
-run_written table row put c at t b room e =
+run_written table row put c at i t b room seven e =
     let n = get_or table (8 * c + 7) 0 in
-    let eight : 8 * c + 8 - 8 * c ≡ 8 = omega arith in
-    let entries = take 8 (drop (8 * c) table) in
-    let l' : length entries ≡ 8 =
-    length-take-le 8 (drop (8 * c) table) (omega (arith, length-drop (8 * c) table, t.size)) in
-    let put_is : put ≡ entries =
-    e ∙ ap (λ (k : ℕ). take k (drop (8 * c) table)) eight in
-    let few = t.few c b in
-    let front = length-take-le at row (omega arith) in
-    ap (λ (m : ℕ). take (m + n) (take at row ++ (put ++ drop (at + 8 - at) (drop at row)))) (sym front)
-    ∙ take-append-add (take at row) (put ++ drop (at + 8 - at) (drop at row)) n
+    let few : n ≤ 7 = t.few c b in
+    let front = length-take-le at row room in
+    sym (take-take (at + n) (at + i) put (omega arith)) ∙ ap (take (at + n)) e
+    ∙ ap (λ (m : ℕ). take (m + n) (take at row ++ part (8 * c) i table)) (sym front)
+    ∙ take-append-add (take at row) (part (8 * c) i table) n
     ∙ ap (λ (x : List ℕ). take at row ++ x)
-    (ap (λ (x : List ℕ). take n (x ++ drop (at + 8 - at) (drop at row))) put_is
-    ∙ take-append-le n entries (drop (at + 8 - at) (drop at row)) (omega arith)
-    ∙ take-take n 8 (drop (8 * c) table) (omega arith) ∙ sym (take-take n 7 (drop (8 * c) table) (omega arith)))
+    (take-take n i (drop (8 * c) table) (omega arith) ∙ sym (take-take n 7 (drop (8 * c) table) few))

@@ -10,11 +10,11 @@ use Rattle.pair_carrying.proofs.carry_letters.Goals as goal
 
 pub row-requires : goal.row-requires
 row-requires c =
-    (lent Gf32 _ (rw c.in-Gf32.is at c.reciprocals-table.ensures), c.requires)
+    (lent Gf32 _ c.reciprocals-table.ensures, c.requires)
 
 pub row-requires-in-Gf256 : goal.row-requires-in-Gf256
 row-requires-in-Gf256 c =
-    (lent Gf256 _ (rw c.in-Gf256.is at c.reciprocals-table.ensures), c.requires)
+    (lent Gf256 _ c.reciprocals-table-in-Gf256.ensures, c.requires)
 
 pub returns-in-Gf32 : goal.returns-in-Gf32
 returns-in-Gf32 c =

@@ -26,7 +26,7 @@ packed-requires c =
     let file = c.args.file.now in
     let counted = c.stated-n.ensures.0 ∙ sym (count_stated file c.requires refl) in
     let e = c.requires in (
-      lent Gf32 _ (rw c.in-Gf32.is at c.reciprocals-table.ensures),
+      lent Gf32 _ c.reciprocals-table.ensures,
       part_enough file e _ counted,
       ap (every is_letter) (part_codes file e _ counted) ∙ (accepted_word file e).lettered,
     )
@@ -36,7 +36,7 @@ packed-requires-in-Gf256 c =
     let file = c.args.file.now in
     let counted = c.stated-n.ensures.0 ∙ sym (count_stated file c.requires refl) in
     let e = c.requires in (
-      lent Gf256 _ (rw c.in-Gf256.is at c.reciprocals-table.ensures),
+      lent Gf256 _ c.reciprocals-table-in-Gf256.ensures,
       part_enough file e _ counted,
       ap (every is_letter) (part_codes file e _ counted) ∙ (accepted_word file e).lettered,
     )

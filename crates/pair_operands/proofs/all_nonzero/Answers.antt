@@ -1,13 +1,24 @@
--- `pair_operands::all_nonzero` meets its contract.
-use mathlib.Core.Path.{◌∙◌}
-use Rattle.std.proofs.Common.{rules, tests}
-use Rattle.std.proofs.lemmas.Iterator.{YieldsList-from_slice}
-use Rattle.std.proofs.lemmas.Iterator.Search.{all_from_yields_List}
-use Rattle.pair_operands.proofs.EveryLaws.{every_all}
+-- `pair_operands::all_nonzero` meets its contract: the flag takes in one number at each turn.
+use mathlib.Core.Path.{refl, sym, ap, ◌∙◌}
+use mathlib.Core.Bool.{Bool, ◌&&◌, not}
+use native.Mathlib.Omega.{arith}
+use lib.Dec.{eqb}
+use lib.ListN.{get_or}
+use lib.Seq.{take_all}
+use Rattle.base.specs.Lists.{every}
+use Rattle.base.proofs.ListLaws.{every_more}
+use Rattle.pair_operands.specs.Operands.{nonzero}
 use Rattle.pair_operands.proofs.all_nonzero.Goals as goal
 
+pub loop-x-init : goal.loop-x-init
+unfolding every
+loop-x-init c = refl
+
+pub loop-x-preserved : goal.loop-x-preserved
+loop-x-preserved c =
+    let l = c.loop-x in
+    ap (λ (b : Bool). b && not (eqb (get_or c.args.xs.now l.x-index 0) 0)) l.invariant
+    ∙ sym (every_more (λ t. not (eqb t 0)) c.args.xs.now l.x-index (omega arith))
+
 pub returns : goal.returns
-returns c =
-    all_from_yields_List _ _ _ _ c.all.ensures.ran (YieldsList-from_slice c.args.xs.now cc)
-    (λ x b q k. search (rules, tests))
-    ∙ every_all _ c.args.xs.now
+returns c = c.loop-x.invariant ∙ ap nonzero (take_all _ c.args.xs.now (omega arith))

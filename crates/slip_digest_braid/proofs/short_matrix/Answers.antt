@@ -5,8 +5,8 @@ use Rattle.slip_digest_braid.proofs.short_matrix.Goals as goal
 
 pub short_over-requires : goal.short_over-requires
 short_over-requires c =
-    lent Gf32 _ (rw c.in-Gf32.is at c.reciprocals-table.ensures)
+    lent Gf32 _ c.reciprocals-table.ensures
 
 pub short_over-requires-in-Gf256 : goal.short_over-requires-in-Gf256
 short_over-requires-in-Gf256 c =
-    lent Gf256 _ (rw c.in-Gf256.is at c.reciprocals-table.ensures)
+    lent Gf256 _ c.reciprocals-table-in-Gf256.ensures

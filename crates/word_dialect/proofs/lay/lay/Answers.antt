@@ -9,11 +9,11 @@ pub returns : goal.returns
 returns c =
     let a = c.args in
     let t = a.table.now in
+    let l = c.loop-i in
     let few : get_or t (8 * a.c + 7) 0 ≤ 7 = c.requires.0.few a.c c.requires.1 in
     let room : 8 * a.c + 8 ≤ length t = omega (arith, c.requires.0.size) in
     rw c.from.ensures (
       omega (arith, length_run t a.c room few),
       omega (arith, few),
-      run_written t a.row.now c.copy_from_slice.new.self a.c a.at c.requires.0 c.requires.1 c.requires.2
-          c.copy_from_slice.ensures.after,
+      run_written t a.row.now l.row a.c a.at l.i c.requires.0 c.requires.1 (omega arith) (omega arith) l.invariant,
     )

@@ -1,4 +1,4 @@
--- `matrix_elimination::both_invertible` meets its contract: each matrix is invertible exactly if its last column has a
+-- `matrix_elimination::both_eliminated` meets its contract: each matrix is invertible exactly if its last column has a
 -- pivot and the 7 by 7 matrix that is left of it is invertible.
 use mathlib.Core.Path.{sym, ap, ap₂, ◌∙◌}
 use mathlib.Core.Bool.{Bool, ◌&&◌}
@@ -6,7 +6,7 @@ use Rattle.base.proofs.ListLaws.{and_false}
 use Rattle.field.specs.Fields.{operations}
 use Rattle.matrix.specs.Layout.{entry}
 use Rattle.matrix.specs.Elimination.{invertible}
-use Rattle.matrix_elimination.proofs.both_invertible.Goals as goal
+use Rattle.matrix_elimination.proofs.both_eliminated.Goals as goal
 
 pub returns-then-not-clear_last : goal.returns-then-not-clear_last
 returns-then-not-clear_last c =
