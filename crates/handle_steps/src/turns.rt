@@ -44,10 +44,12 @@ fn take_out(
         return Err(TooLong);
     }
     cut(row, latest, before, own - 1, s.left);
-    let at = conjugate(&mut row[own..s.right + 1], s.left - own, a);
+    conjugate(&mut row[own..s.right + 1], s.left - own, a);
+    // The new letters end where the handle ended. It is faster to count from there than from the place that `conjugate`
+    // gives.
     Ok(State {
         left: own - 1,
-        right: own + at,
+        right: s.right + 1 - long,
         steps: s.steps - 1,
     })
 }
